@@ -1,0 +1,224 @@
+//! Holds the proved library against the reference implementation: number, place
+//! and listing, sheet by sheet. A group of sheets stops at its first difference and
+//! prints it; the status is 0 where no group has one.
+
+use std::process::ExitCode;
+
+use reference::census::Census;
+use reference::encode::encode;
+use reference::library::{self, TEXT};
+use reference::random::Random;
+use reference::samples::{self, to_hex};
+use reference::{generate, limits, mutate, pseudocode, sheet};
+
+const RANDOM_MODULES: usize = 10_000;
+const ILL_TYPED: usize = 10_000;
+const DAMAGED: usize = 5_000;
+const DAMAGED_EACH: usize = 4;
+const NOISE: usize = 20_000;
+/// Bytes behind the text that the library must not reach.
+const GUARD: usize = 4096;
+
+fn main() -> ExitCode {
+    let seed =
+        std::env::args().nth(1).map_or(1, |seed| seed.parse().expect("a seed is a number"));
+    let mut comparison = Comparison::new();
+    comparison.random_modules(seed);
+    comparison.bench_sheets();
+    comparison.limits();
+    comparison.ill_typed(seed);
+    comparison.damaged(seed);
+    comparison.noise(seed);
+    comparison.coverage();
+    println!("{} sheets", comparison.met.iter().sum::<u64>());
+    println!("{} passed, {} failed", comparison.passed, comparison.failed);
+    if comparison.failed == 0 { ExitCode::SUCCESS } else { ExitCode::FAILURE }
+}
+
+struct Comparison {
+    passed: u32,
+    failed: u32,
+    /// How often each number was met, 0 for an accepted sheet.
+    met: [u64; 12],
+    census: Census,
+    /// The text and the guard: between calls as in `unwritten`.
+    buffer: Vec<u8>,
+    unwritten: Vec<u8>,
+}
+
+type Outcome = Result<(), String>;
+
+/// What one implementation says of a sheet.
+#[derive(PartialEq)]
+struct Answer {
+    number: u8,
+    place: usize,
+    text: Vec<u8>,
+}
+
+impl Comparison {
+    fn new() -> Comparison {
+        let mut random = Random::new(0);
+        let unwritten: Vec<u8> = (0..TEXT + GUARD).map(|_| random.byte()).collect();
+        let buffer = unwritten.clone();
+        let census = Census::default();
+        Comparison { passed: 0, failed: 0, met: [0; 12], census, buffer, unwritten }
+    }
+
+    // ---- groups
+
+    fn group(&mut self, name: &str, run: impl FnOnce(&mut Comparison) -> Outcome) {
+        let before: u64 = self.met.iter().sum();
+        let outcome = run(self);
+        let sheets = self.met.iter().sum::<u64>() - before;
+        match outcome {
+            Ok(()) => {
+                self.passed += 1;
+                println!("ok    {name} ({sheets} sheets)");
+            }
+            Err(difference) => {
+                self.failed += 1;
+                println!("FAIL  {name}\n{difference}");
+            }
+        }
+    }
+
+    fn random_modules(&mut self, seed: u64) {
+        let mut random = Random::new(seed);
+        self.group("random modules", |comparison| {
+            (0..RANDOM_MODULES).try_for_each(|_| {
+                let module = generate::module(&mut random);
+                comparison.census.add(&module);
+                let sheet = encode(&module);
+                match sheet::read(&sheet) == Ok(module) {
+                    true => comparison.hold(&sheet),
+                    false => Err(format!("the reference misreads {}", to_hex(&sheet))),
+                }
+            })
+        });
+    }
+
+    fn bench_sheets(&mut self) {
+        self.group("bench sheets", |comparison| {
+            samples::ALL.iter().try_for_each(|bench| comparison.hold(&bench.sheet()))
+        });
+        for bench in samples::ALL {
+            self.group(&format!("truncations of {}", bench.name), |comparison| {
+                mutate::truncations(&bench.sheet())
+                    .try_for_each(|sheet| comparison.hold(&sheet))
+            });
+        }
+        for bench in [samples::FLIP_FLOP, samples::COUNTER, samples::WATCHDOG] {
+            self.group(&format!("changes of {}", bench.name), |comparison| {
+                mutate::changes(&bench.sheet()).try_for_each(|sheet| comparison.hold(&sheet))
+            });
+        }
+    }
+
+    fn limits(&mut self) {
+        for (name, samples) in limits::groups() {
+            self.group(name, |comparison| {
+                samples.iter().try_for_each(|sample| comparison.hold(&sample.sheet))
+            });
+        }
+    }
+
+    fn ill_typed(&mut self, seed: u64) {
+        let mut random = Random::new(seed ^ 1 << 32);
+        self.group("ill-typed modules", |comparison| {
+            (0..ILL_TYPED).try_for_each(|_| {
+                comparison.hold(&encode(&generate::ill_typed_module(&mut random)))
+            })
+        });
+    }
+
+    fn damaged(&mut self, seed: u64) {
+        let mut random = Random::new(seed ^ 2 << 32);
+        self.group("damaged sheets", |comparison| {
+            (0..DAMAGED).try_for_each(|_| {
+                let sheet = encode(&generate::module(&mut random));
+                (0..DAMAGED_EACH)
+                    .try_for_each(|_| comparison.hold(&mutate::damage(&sheet, &mut random)))
+            })
+        });
+    }
+
+    fn noise(&mut self, seed: u64) {
+        let mut random = Random::new(seed ^ 3 << 32);
+        self.group("random bytes", |comparison| {
+            (0..NOISE).try_for_each(|_| comparison.hold(&mutate::noise(&mut random)))
+        });
+    }
+
+    /// Every form was generated and every number was met.
+    fn coverage(&mut self) {
+        println!("forms in the random modules\n{}", self.census);
+        self.group("every form", |comparison| match comparison.census.missing() {
+            missing if missing.is_empty() => Ok(()),
+            missing => Err(format!("never generated: {}", missing.join(", "))),
+        });
+        println!("numbers met");
+        for (number, count) in self.met.iter().enumerate() {
+            println!("  {number:<20}{count:>10}");
+        }
+        self.group("every number", |comparison| {
+            match comparison.met.iter().position(|&count| count == 0) {
+                None => Ok(()),
+                Some(number) => Err(format!("never met: {number}")),
+            }
+        });
+    }
+
+    // ---- one sheet
+
+    fn hold(&mut self, sheet: &[u8]) -> Outcome {
+        let expected = by_reference(sheet);
+        self.met[usize::from(expected.number)] += 1;
+        let found =
+            self.by_library(sheet).map_err(|fault| format!("{fault}\n{}", to_hex(sheet)))?;
+        if found == expected { Ok(()) } else { Err(difference(sheet, &expected, &found)) }
+    }
+
+    fn by_library(&mut self, sheet: &[u8]) -> Result<Answer, String> {
+        let (number, place) = library::read(sheet);
+        let text = (&mut self.buffer[..TEXT]).try_into().expect("so many bytes");
+        let length = library::list(sheet, text);
+        let behind = length.min(TEXT)..;
+        if length > TEXT || self.buffer[behind.clone()] != self.unwritten[behind] {
+            self.buffer.copy_from_slice(&self.unwritten);
+            return Err(format!("the library wrote behind its listing of {length} bytes"));
+        }
+        let text = self.buffer[..length].to_vec();
+        self.buffer[..length].copy_from_slice(&self.unwritten[..length]);
+        Ok(Answer { number, place, text })
+    }
+}
+
+fn by_reference(bytes: &[u8]) -> Answer {
+    match sheet::read(bytes) {
+        Ok(module) => {
+            Answer { number: 0, place: 0, text: pseudocode::listing(&module).into_bytes() }
+        }
+        Err(refusal) => {
+            let text = format!("refused {}\n", refusal.number).into_bytes();
+            Answer { number: refusal.number, place: refusal.place, text }
+        }
+    }
+}
+
+/// The sheet, both answers and the first line in which the listings differ.
+fn difference(sheet: &[u8], expected: &Answer, found: &Answer) -> String {
+    let lines = |answer: &Answer| -> Vec<String> {
+        answer.text.split(|&b| b == b'\n').map(|l| String::from_utf8_lossy(l).into()).collect()
+    };
+    let (left, right) = (lines(expected), lines(found));
+    let first = left.iter().zip(&right).take_while(|(a, b)| a == b).count();
+    let mut report = format!("sheet of {} bytes: {}\n", sheet.len(), to_hex(sheet));
+    for (who, answer, lines) in [("reference", expected, left), ("library", found, right)] {
+        let Answer { number, place, text } = answer;
+        let line = lines.get(first).map_or("none", |line| line);
+        report += &format!("{who}: number {number}, place {place}, ");
+        report += &format!("{} bytes of listing, line {first}: {line}\n", text.len());
+    }
+    report
+}
