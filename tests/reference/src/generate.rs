@@ -158,8 +158,8 @@ impl<'a> Generator<'a> {
         if nodes <= 1 || depth == 1 {
             return self.leaf(width);
         }
-        let operator = self.operator(width);
-        let widths = self.operand_widths(operator, width);
+        let operator = operator(width, self.random);
+        let widths = operand_widths(operator, width, self.some_width());
         let shares = self.shares(nodes - 1, widths.len());
         let operands = (widths.into_iter().zip(shares))
             .map(|(width, nodes)| self.expr(width, nodes, depth - 1))
@@ -191,29 +191,6 @@ impl<'a> Generator<'a> {
             0 => most,
             1 => self.random.below(3) as u32 & most,
             _ => self.random.number() as u32 & most,
-        }
-    }
-
-    /// An operator that can give the width.
-    fn operator(&mut self, width: u8) -> Operator {
-        loop {
-            let operator = self.random.pick(&Operator::ALL);
-            let gives_one_bit =
-                matches!(operator, Operator::Not | Operator::Equal | Operator::Less);
-            if width == 1 || !gives_one_bit {
-                return operator;
-            }
-        }
-    }
-
-    fn operand_widths(&mut self, operator: Operator, width: u8) -> Vec<u8> {
-        let other = self.some_width();
-        match operator {
-            Operator::Invert => vec![width],
-            Operator::Not => vec![other],
-            Operator::Equal | Operator::Less => vec![other, other],
-            Operator::Conditional => vec![other, width, width],
-            _ => vec![width, width],
         }
     }
 
@@ -287,5 +264,28 @@ impl<'a> Generator<'a> {
             false => Edge::Any,
         };
         Term { edge, variable }
+    }
+}
+
+/// An operator that can give the width.
+pub fn operator(width: u8, random: &mut Random) -> Operator {
+    loop {
+        let operator = random.pick(&Operator::ALL);
+        let gives_one_bit =
+            matches!(operator, Operator::Not | Operator::Equal | Operator::Less);
+        if width == 1 || !gives_one_bit {
+            return operator;
+        }
+    }
+}
+
+/// The widths of its operands, `other` where the result's width doesn't say.
+pub fn operand_widths(operator: Operator, width: u8, other: u8) -> Vec<u8> {
+    match operator {
+        Operator::Invert => vec![width],
+        Operator::Not => vec![other],
+        Operator::Equal | Operator::Less => vec![other, other],
+        Operator::Conditional => vec![other, width, width],
+        _ => vec![width, width],
     }
 }

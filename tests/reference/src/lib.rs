@@ -5,6 +5,13 @@ pub mod module;
 pub mod sheet;
 pub mod encode;
 pub mod pseudocode;
+pub mod value;
+pub mod state;
+pub mod machine;
+pub mod simulator;
+pub mod cycles;
+pub mod saved;
+pub mod replay;
 
 pub mod samples;
 pub mod limits;
@@ -12,6 +19,12 @@ pub mod random;
 pub mod generate;
 pub mod mutate;
 pub mod census;
+
+pub mod lively;
+pub mod states;
+pub mod script;
+pub mod tally;
+pub mod differ;
 
 #[cfg(feature = "proved")]
 pub mod library;

@@ -6,8 +6,8 @@
 pub const TEXT: usize = 65_536;
 
 unsafe extern "C" {
-    /// Number + 256 * place; 0 where the sheet is accepted.
-    fn walbryts_read(sheet: *const u8, len: usize) -> u32;
+    /// The number of the refusal, whose place is stored; both 0 where the sheet is accepted.
+    fn walbryts_read(sheet: *const u8, len: usize, place: *mut usize) -> u8;
 
     /// Writes what the listing program prints at the front of the 65,536 bytes
     /// of text and returns its length.
@@ -16,9 +16,10 @@ unsafe extern "C" {
 
 /// The number and place that the library gives, both 0 where it accepts.
 pub fn read(sheet: &[u8]) -> (u8, usize) {
-    // Safety: the pointer and the length are those of one slice.
-    let answer = unsafe { walbryts_read(sheet.as_ptr(), sheet.len()) };
-    (answer as u8, (answer >> 8) as usize)
+    let mut place = usize::MAX;
+    // Safety: the pointer and the length are those of one slice, the place is a local's.
+    let number = unsafe { walbryts_read(sheet.as_ptr(), sheet.len(), &mut place) };
+    (number, place)
 }
 
 /// Lists the sheet into the text; the length of what was written.

@@ -1,0 +1,1 @@
+// The converse of reading: definitions and laws only (specs/, proofs/).

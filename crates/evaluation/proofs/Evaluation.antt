@@ -1,0 +1,111 @@
+-- What the code works out on bytes is `eval` of the tree wherever the sheet's reader accepted; `eval` stays within
+-- the widths, and depends on no variable that doesn't stand in the expression. Assumes nothing.
+use mathlib.Core.Path.{_≡_, refl, sym, ap, _∙_}
+use mathlib.Core.Bool.{Bool, true, false, _||_}
+use mathlib.Core.List.{List}
+use Prim.Native.Nat.{ℕ, zero, suc, _+_, _<_}
+use lib.ListN.{length, getD}
+use lib.Dec.{eqb}
+use borrow.Author.Tests.{eq-eqb}
+use Rattle.values.specs.declared.Value.{Value}
+use Rattle.values.specs.declared.Value.the-variants.{Known, Unknown}
+use Rattle.values.specs.Values.{pick, fits}
+use Rattle.values.specs.Operators as operators
+use Rattle.values.proofs.Values.{fits-known, fits-unknown}
+use Rattle.values.proofs.Operators.{unary-fits, binary-fits, choice-fits}
+use Rattle.sheet.specs.Reading.{ok}
+use Rattle.sheet.specs.Expression.{Expr, variable, constant, unknown, unary, binary, conditional, Parsed, readExpr}
+use Rattle.sheet.proofs.Expression.{Reads, a-variable, a-constant, an-unknown, a-unary, a-binary, a-conditional, derive}
+use Rattle.evaluation.specs.declared.Evaluated.{Evaluated}
+use Rattle.evaluation.specs.Evaluation.{eval, reads}
+use Rattle.evaluation.specs.Bytes.{nothing, variableNode, unaryNode, binaryNode, conditionalNode, innerNode, nodeAt, evalAt, afterNode, skipAt}
+
+-- ---- evalAt is eval
+
+-- What the code is to answer where an expression was read.
+abbrev pub worth : (ℕ → Value) → Parsed Expr → Evaluated
+worth env q = record { value = eval env (q .item); width = q .width; next = q .next }
+
+pub evalAt-eval : {ws s : List ℕ} {d p : ℕ} {q : Parsed Expr} (env : ℕ → Value) → Reads ws s d p q → evalAt d s ws env p ≡ worth env q
+unfolding evalAt nodeAt innerNode variableNode unaryNode binaryNode conditionalNode eval
+evalAt-eval env (a-variable m h e l) = rw (m, e) refl
+evalAt-eval env (a-constant m w h e l) = rw (m, w .same, e) refl
+evalAt-eval env (an-unknown m w) = rw (m, w .same) refl
+evalAt-eval env (a-unary m o a) = rw (m, o .same, evalAt-eval env a) refl
+evalAt-eval env (a-binary m o a b e) = rw (m, o .same, evalAt-eval env a, evalAt-eval env b) refl
+evalAt-eval env (a-conditional m o c a b e) = rw (m, evalAt-eval env c, evalAt-eval env a, evalAt-eval env b) refl
+
+pub evalAt-read : (d : ℕ) (ws s : List ℕ) (env : ℕ → Value) (p : ℕ) {q : Parsed Expr} → readExpr d ws s p ≡ ok q → evalAt d s ws env p ≡ worth env q
+evalAt-read d ws s env p h = evalAt-eval env (derive ws s d p h)
+
+-- ---- skipAt is the next place
+
+-- One row of the table of maps.
+row : (t : Bool) (n r : ℕ) (a b : Evaluated) → n ≡ a .next → r ≡ b .next → pick t n r ≡ pick t a b .next
+row true n r a b h k = h
+row false n r a b h k = k
+
+-- On any bytes the code skips to where it would have evaluated to.
+pub skipAt-evalAt : (s ws : List ℕ) (env : ℕ → Value) (d p : ℕ) → skipAt d s p ≡ evalAt d s ws env p .next
+unfolding skipAt afterNode evalAt nodeAt innerNode nothing variableNode unaryNode binaryNode conditionalNode
+skipAt-evalAt s ws env zero p = refl
+skipAt-evalAt s ws env (suc d) p =
+    let operand : ℕ → Evaluated = evalAt d s ws env in
+    let ih : (q : ℕ) → skipAt d s q ≡ operand q .next = skipAt-evalAt s ws env d in
+    let one = ih (p + 2) in
+    let two : skipAt d s (skipAt d s (p + 2)) ≡ operand (operand (p + 2) .next) .next = ap (skipAt d s) one ∙ ih (operand (p + 2) .next) in
+    let three = ap (skipAt d s) two ∙ ih (operand (operand (p + 2) .next) .next) in
+    let m = getD s p 0 in
+    row (eqb m 0x02) _ _ _ _ refl
+    (row (eqb m 0x0C) _ _ _ _ refl
+    (row (eqb m 0x04) _ _ _ _ refl
+    (row (eqb m 0x11) _ _ _ _ one
+    (row (eqb m 0x31) _ _ _ _ two
+    (row (eqb m 0x71) _ _ (conditionalNode operand (p + 2)) nothing three refl)))))
+
+pub skipAt-next : {ws s : List ℕ} {d p : ℕ} {q : Parsed Expr} → Reads ws s d p q → skipAt d s p ≡ q .next
+skipAt-next {ws} {s} {d} {p} r =
+    let env : ℕ → Value = λ v. Unknown in
+    skipAt-evalAt s ws env d p ∙ ap (λ (e : Evaluated). e .next) (evalAt-eval env r)
+
+pub skipAt-read : (d : ℕ) (ws s : List ℕ) (p : ℕ) {q : Parsed Expr} → readExpr d ws s p ≡ ok q → skipAt d s p ≡ q .next
+skipAt-read d ws s p h = skipAt-next (derive ws s d p h)
+
+-- ---- eval stays within the width
+
+pub eval-fits : {ws s : List ℕ} {d p : ℕ} {q : Parsed Expr} (env : ℕ → Value) → ((v : ℕ) → v < length ws → fits (getD ws v 0) (env v) ≡ true) →
+    Reads ws s d p q → fits (q .width) (eval env (q .item)) ≡ true
+unfolding eval
+eval-fits env f (a-variable {v = v} m h e l) = f v l
+eval-fits env f (a-constant {w = w} {v = v} m b h e l) = fits-known w v l
+eval-fits env f (an-unknown {w = w} m b) = fits-unknown w
+eval-fits env f (a-unary {o = o} {a = a} m w x) = unary-fits o (a .width) (eval env (a .item))
+eval-fits env f (a-binary {o = o} {a = a} {b = b} m w x y e) =
+    binary-fits o (a .width) (eval env (a .item)) (eval env (b .item)) (eval-fits env f x) (rw e (eval-fits env f y))
+eval-fits env f (a-conditional {c = c} {a = a} {b = b} m w z x y e) =
+    choice-fits (a .width) (eval env (c .item)) (eval env (a .item)) (eval env (b .item)) (eval-fits env f x) (rw e (eval-fits env f y))
+
+-- ---- eval goes by the variables that the expression reads
+
+||-left : (a b : Bool) → a ≡ true → (a || b) ≡ true
+||-left a b e = rw e refl
+
+||-right : (a b : Bool) → b ≡ true → (a || b) ≡ true
+||-right true b e = refl
+||-right false b e = e
+
+pub eval-same : (f g : ℕ → Value) (e : Expr) → ((v : ℕ) → reads e v ≡ true → f v ≡ g v) → eval f e ≡ eval g e
+unfolding eval reads
+eval-same f g (variable v) h = h v (eq-eqb v v refl)
+eval-same f g (constant w n) h = refl
+eval-same f g (unknown w) h = refl
+eval-same f g (unary o w a) h = ap (operators.unary o w) (eval-same f g a h)
+eval-same f g (binary o w a b) h =
+    rw (eval-same f g a (λ v r. h v (||-left _ _ r)), eval-same f g b (λ v r. h v (||-right (reads a v) _ r))) refl
+eval-same f g (conditional c a b) h =
+    rw (
+      eval-same f g c (λ v r. h v (||-left _ _ (||-left _ _ r))),
+      eval-same f g a (λ v r. h v (||-left _ _ (||-right (reads c v) _ r))),
+      eval-same f g b (λ v r. h v (||-right (reads c v || reads a v) _ r)),
+    )
+    refl

@@ -1,0 +1,57 @@
+-- Worked examples, computed: what the code answers at place 0 of some bytes, by its definition.
+use mathlib.Core.Path.{_≡_, refl}
+use mathlib.Core.List.{List, [], _∷_}
+use Prim.Native.Nat.{ℕ, zero, suc}
+use Rattle.values.specs.declared.Value.{Value}
+use Rattle.values.specs.declared.Value.the-variants.{Known, Unknown}
+use Rattle.values.specs.Operators.{unaryWidth, binaryWidth, complement, sum, difference, flag, unaryKnown, unary, binaryKnown, binary, choice}
+use Rattle.sheet.specs.Reading.{word, wordOf}
+use Rattle.evaluation.specs.Bytes.{nothing, variableNode, unaryNode, binaryNode, conditionalNode, innerNode, nodeAt, evalAt, afterNode, skipAt}
+
+-- Variable 0 is the clock, 1 and 2 have width 4, 3 has width 8.
+abbrev widths : List ℕ
+widths = 1 ∷ 4 ∷ 4 ∷ 8 ∷ []
+
+-- The clock is x, variable 1 is 15, variable 2 is 5, variable 3 is x.
+abbrev env : ℕ → Value
+env zero = Unknown
+env (suc zero) = Known 15
+env (suc (suc zero)) = Known 5
+env (suc (suc (suc v))) = Unknown
+
+-- "Width 4: 15 + 1 = 0": v1 + 1.
+abbrev sum-bytes : List ℕ
+sum-bytes = 0x31 ∷ 6 ∷ 0x02 ∷ 1 ∷ 0x0C ∷ 4 ∷ 1 ∷ 0 ∷ 0 ∷ 0 ∷ []
+
+pub sample-sum : evalAt 16 sum-bytes widths env 0 ≡ record { value = Known 0; width = 4; next = 10 }
+unfolding evalAt nodeAt innerNode variableNode binaryNode wordOf word binary binaryKnown sum binaryWidth
+sample-sum = refl
+
+pub sample-skip : skipAt 16 sum-bytes 0 ≡ 10
+unfolding skipAt afterNode
+sample-skip = refl
+
+-- "8-bit x & 0 is x": v3 & 0.
+pub sample-x : evalAt 16 (0x31 ∷ 3 ∷ 0x02 ∷ 3 ∷ 0x0C ∷ 8 ∷ 0 ∷ 0 ∷ 0 ∷ 0 ∷ []) widths env 0 ≡ record { value = Unknown; width = 8; next = 10 }
+unfolding evalAt nodeAt innerNode variableNode binaryNode wordOf word binary binaryKnown binaryWidth
+sample-x = refl
+
+-- "?: gives x on an x condition": v0 ? v1 : v1, though both arms are 15.
+pub sample-choice-x : evalAt 16 (0x71 ∷ 10 ∷ 0x02 ∷ 0 ∷ 0x02 ∷ 1 ∷ 0x02 ∷ 1 ∷ []) widths env 0 ≡ record { value = Unknown; width = 4; next = 8 }
+unfolding evalAt nodeAt innerNode variableNode conditionalNode choice
+sample-choice-x = refl
+
+-- Nested: v1 < v2 ? v1 : v2 - v1, which is 5 - 15 at width 4.
+pub sample-nested : evalAt 16 (0x71 ∷ 10 ∷ 0x31 ∷ 9 ∷ 0x02 ∷ 1 ∷ 0x02 ∷ 2 ∷ 0x02 ∷ 1 ∷ 0x31 ∷ 7 ∷ 0x02 ∷ 2 ∷ 0x02 ∷ 1 ∷ []) widths env 0
+    ≡ record { value = Known 6; width = 4; next = 16 }
+unfolding evalAt nodeAt innerNode variableNode binaryNode conditionalNode binary binaryKnown difference flag binaryWidth choice
+sample-nested = refl
+
+-- No level left, and no bytes.
+pub sample-deep : evalAt 1 sum-bytes widths env 0 ≡ record { value = Unknown; width = 0; next = 0 }
+unfolding evalAt nodeAt innerNode nothing binaryNode binary binaryWidth
+sample-deep = refl
+
+pub sample-empty : evalAt 16 [] widths env 0 ≡ nothing
+unfolding evalAt nodeAt innerNode
+sample-empty = refl

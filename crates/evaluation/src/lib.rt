@@ -1,0 +1,235 @@
+// The value of an expression that stands in a sheet (document 01, "Values and pseudo-code"), and the place after it.
+// Each function equals its definition in specs/Bytes for any bytes whatever: where the sheet's reader accepted
+// the expression, that is `eval` of its tree (proofs/Evaluation).
+use values::Value;
+ghost use mathlib.Core.Path.{_≡_};
+ghost use lib.ListN.{getD};
+ghost use Rattle.values.specs.Planes.{valueAt};
+ghost use Rattle.sheet.specs.Reading.{word, wordOf};
+ghost use Rattle.evaluation.specs.Bytes.{nothing, variableNode, unaryNode, binaryNode, conditionalNode, innerNode, evalAt, skipAt};
+
+// A value, the width of the expression that has it, and the place after that expression.
+pub struct Evaluated {
+    pub value: Value,
+    pub width: u8,
+    pub next: usize,
+}
+
+// The byte at a place, 0 past the end.
+fn byte_at(s: &[u8], i: usize) -> u8
+    ensures { λ r. ⌜ r ≡ getD (now (s .entry)) i 0 ⌝ }
+{
+    if i < s.len() { s[i] } else { 0 }
+}
+
+// Four bytes as a number, low byte first.
+fn word(a: u8, b: u8, c: u8, d: u8) -> u32
+    ensures { λ r. ⌜ r ≡ word a b c d ⌝ }
+{
+    (a as u32) + 256 * (b as u32) + 65536 * (c as u32) + 16777216 * (d as u32)
+}
+
+// The number in the four bytes at a place.
+fn word_at(s: &[u8], at: usize) -> u32
+    ensures { λ r. ⌜ r ≡ wordOf (now (s .entry)) at ⌝ }
+{
+    if s.len() <= at {
+        return 0;
+    }
+    if s.len() - at < 4 {
+        return word(
+            s[at],
+            byte_at(s, at + 1),
+            byte_at(s, at + 2),
+            byte_at(s, at + 3),
+        );
+    }
+    word(s[at], s[at + 1], s[at + 2], s[at + 3])
+}
+
+// Where no expression stands.
+fn nothing() -> Evaluated
+    ensures { λ r. ⌜ r ≡ nothing ⌝ }
+{
+    Evaluated {
+        value: Value::Unknown,
+        width: 0,
+        next: 0,
+    }
+}
+
+// The variable of a number; the place after it.
+fn eval_variable<'a>(
+    widths: &[u8],
+    value: &'a [u32],
+    unknown: &'a [bool],
+    v: u8,
+    next: usize,
+) -> Evaluated
+    ensures { λ r. ⌜ r ≡ variableNode (now (widths .entry)) (valueAt (now (value .entry)) (now (unknown .entry))) v next ⌝ }
+{
+    let slot = v as usize;
+    Evaluated {
+        value: values::value_at(value, unknown, slot),
+        width: byte_at(widths, slot),
+        next,
+    }
+}
+
+// A unary operator; its operand at a place.
+fn eval_unary<'a>(
+    sheet: &[u8],
+    widths: &[u8],
+    value: &'a [u32],
+    unknown: &'a [bool],
+    op: u8,
+    at: usize,
+    depth: u8,
+) -> Evaluated
+    ensures { λ r. ⌜ r ≡ unaryNode (evalAt depth (now (sheet .entry)) (now (widths .entry)) (valueAt (now (value .entry)) (now (unknown .entry)))) op at ⌝ }
+{
+    let a = eval_expr(sheet, widths, value, unknown, at, depth);
+    let operand = a.value;
+    let width = a.width;
+    Evaluated {
+        value: values::unary(op, width, operand),
+        width: values::unary_width(op, width),
+        next: a.next,
+    }
+}
+
+// A binary operator; its first operand at a place.
+fn eval_binary<'a>(
+    sheet: &[u8],
+    widths: &[u8],
+    value: &'a [u32],
+    unknown: &'a [bool],
+    op: u8,
+    at: usize,
+    depth: u8,
+) -> Evaluated
+    ensures { λ r. ⌜ r ≡ binaryNode (evalAt depth (now (sheet .entry)) (now (widths .entry)) (valueAt (now (value .entry)) (now (unknown .entry)))) op at ⌝ }
+{
+    let a = eval_expr(sheet, widths, value, unknown, at, depth);
+    let b = eval_expr(sheet, widths, value, unknown, a.next, depth);
+    let left = a.value;
+    let right = b.value;
+    let width = a.width;
+    Evaluated {
+        value: values::binary(op, width, left, right),
+        width: values::binary_width(op, width),
+        next: b.next,
+    }
+}
+
+// A conditional; its condition at a place.
+fn eval_conditional<'a>(
+    sheet: &[u8],
+    widths: &[u8],
+    value: &'a [u32],
+    unknown: &'a [bool],
+    at: usize,
+    depth: u8,
+) -> Evaluated
+    ensures { λ r. ⌜ r ≡ conditionalNode (evalAt depth (now (sheet .entry)) (now (widths .entry)) (valueAt (now (value .entry)) (now (unknown .entry)))) at ⌝ }
+{
+    let c = eval_expr(sheet, widths, value, unknown, at, depth);
+    let a = eval_expr(sheet, widths, value, unknown, c.next, depth);
+    let b = eval_expr(sheet, widths, value, unknown, a.next, depth);
+    let condition = c.value;
+    let first = a.value;
+    let second = b.value;
+    Evaluated {
+        value: values::choice(condition, first, second),
+        width: a.width,
+        next: b.next,
+    }
+}
+
+// A node that is neither variable nor constant, by its map and the byte after it; what follows stands at a place.
+fn eval_inner<'a>(
+    sheet: &[u8],
+    widths: &[u8],
+    value: &'a [u32],
+    unknown: &'a [bool],
+    map: u8,
+    field: u8,
+    at: usize,
+    depth: u8,
+) -> Evaluated
+    ensures { λ r. ⌜ r ≡ innerNode (evalAt depth (now (sheet .entry)) (now (widths .entry)) (valueAt (now (value .entry)) (now (unknown .entry)))) map field at ⌝ }
+{
+    match map {
+        0x04 => Evaluated {
+            value: Value::Unknown,
+            width: field,
+            next: at,
+        },
+        0x11 => eval_unary(sheet, widths, value, unknown, field, at, depth),
+        0x31 => eval_binary(sheet, widths, value, unknown, field, at, depth),
+        0x71 => eval_conditional(sheet, widths, value, unknown, at, depth),
+        _ => nothing(),
+    }
+}
+
+// The value of the expression at a place, with so many levels left, on the values in two planes.
+// A variable or a constant is answered here, and needs no call further down.
+pub fn eval_expr<'a>(
+    sheet: &[u8],
+    widths: &[u8],
+    value: &'a [u32],
+    unknown: &'a [bool],
+    at: usize,
+    depth: u8,
+) -> Evaluated
+    ensures { λ r. ⌜ r ≡ evalAt depth (now (sheet .entry)) (now (widths .entry)) (valueAt (now (value .entry)) (now (unknown .entry))) at ⌝ }
+{
+    if depth == 0 {
+        return nothing();
+    }
+    if sheet.len() <= at {
+        return nothing();
+    }
+    let map = sheet[at];
+    let field = byte_at(sheet, at + 1);
+    let rest = at + 2;
+    match map {
+        0x02 => eval_variable(widths, value, unknown, field, rest),
+        0x0C => Evaluated {
+            value: Value::Known(word_at(sheet, rest)),
+            width: field,
+            next: at + 6,
+        },
+        _ => eval_inner(sheet, widths, value, unknown, map, field, rest, depth - 1),
+    }
+}
+
+// The place after the expression at a place, with so many levels left; 0 where none stands.
+pub fn skip_expr(sheet: &[u8], at: usize, depth: u8) -> usize
+    ensures { λ r. ⌜ r ≡ skipAt depth (now (sheet .entry)) at ⌝ }
+{
+    if depth == 0 {
+        return 0;
+    }
+    if sheet.len() <= at {
+        return 0;
+    }
+    let map = sheet[at];
+    let rest = at + 2;
+    match map {
+        0x02 => rest,
+        0x0C => at + 6,
+        0x04 => rest,
+        0x11 => skip_expr(sheet, rest, depth - 1),
+        0x31 => {
+            let second = skip_expr(sheet, rest, depth - 1);
+            skip_expr(sheet, second, depth - 1)
+        }
+        0x71 => {
+            let second = skip_expr(sheet, rest, depth - 1);
+            let third = skip_expr(sheet, second, depth - 1);
+            skip_expr(sheet, third, depth - 1)
+        }
+        _ => 0,
+    }
+}

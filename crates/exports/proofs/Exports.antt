@@ -1,0 +1,42 @@
+-- The code's answer to reading a sheet has the number and the place that `read` gives.
+use mathlib.Core.Path.{_≡_, refl, sym, ap, _∙_}
+use Prim.Native.Nat.{ℕ}
+use mathlib.Core.List.{List}
+use Rattle.sheet.specs.declared.SheetRead.{SheetRead}
+use Rattle.sheet.specs.Reading.{Res, ok, no}
+use Rattle.sheet.specs.Expression.{located}
+use Rattle.sheet.specs.Module.{Sheet, readSheet, read}
+use Rattle.sheet.specs.Answers.{sheetAnswer}
+use Rattle.sheet.proofs.Trees.{mapRes, read-located}
+use Rattle.exports.specs.Exports.{numberOf, placeOf}
+
+number-map : {A B : Type 0} (f : A → B) (x : Res A) → numberOf (mapRes f x) ≡ numberOf x
+unfolding numberOf mapRes
+number-map f (ok a) = refl
+number-map f (no n p) = refl
+
+place-map : {A B : Type 0} (f : A → B) (x : Res A) → placeOf (mapRes f x) ≡ placeOf x
+unfolding placeOf mapRes
+place-map f (ok a) = refl
+place-map f (no n p) = refl
+
+number-answer : (x : Res (Sheet ℕ)) → sheetAnswer x .number ≡ numberOf x
+unfolding sheetAnswer numberOf
+number-answer (ok r) = refl
+number-answer (no n p) = refl
+
+place-answer : (x : Res (Sheet ℕ)) → sheetAnswer x .place ≡ placeOf x
+unfolding sheetAnswer placeOf
+place-answer (ok r) = refl
+place-answer (no n p) = refl
+
+module _ (s : List ℕ) (r : SheetRead) (e : r ≡ sheetAnswer (readSheet (located s) s)) where
+  pub number-read : r .number ≡ numberOf (read s)
+  number-read =
+      ap (λ (a : SheetRead). a .number) e ∙ number-answer (readSheet (located s) s)
+      ∙ sym (ap numberOf (read-located s) ∙ number-map _ (readSheet (located s) s))
+
+  pub place-read : r .place ≡ placeOf (read s)
+  place-read =
+      ap (λ (a : SheetRead). a .place) e ∙ place-answer (readSheet (located s) s)
+      ∙ sym (ap placeOf (read-located s) ∙ place-map _ (readSheet (located s) s))

@@ -1,0 +1,197 @@
+-- The lines that the code prints from its table are the listing's, for every sheet that is read; and every other sheet's
+-- output is its refusal.
+use mathlib.Core.Path.{_≡_, refl, sym, ap, _∙_}
+use Prim.Native.Nat.{ℕ, zero, suc, _+_, _-_, _*_, _≤_, _<_}
+use native.Mathlib.Omega.{arith}
+use native.Mathlib.Numerals.{add-one}
+use mathlib.Core.List.{List, [], _∷_, _++_}
+use lib.ListN.{length, getD, replicate, length-replicate}
+use lib.Seq.{sets}
+use lib.Dec.{leb, eqb}
+use Rattle.sheet.specs.declared.SheetRead.{SheetRead}
+use Rattle.sheet.specs.Reading.{Res, ok, no, _>>=_, _>>_, check}
+use Rattle.sheet.specs.Expression.{Expr, located}
+use Rattle.sheet.specs.Statement.{Stmt, empty, size, Scope, Body, readStmt}
+use Rattle.sheet.specs.Module.{Listed, readHead, readWires, readThreads, Sheet, readSheet}
+use Rattle.sheet.specs.Answers.{layoutOf, blank, sheetAnswer}
+use Rattle.sheet.proofs.Reading.{bind-ok, check-ok, ok-injective}
+use Rattle.sheet.proofs.Statements.{ReadsStmt, derive-stmt}
+use Rattle.sheet.proofs.Numbers.{numbered-no, located-numbered, sheet-numbered}
+use Rattle.pseudocode.specs.Translation.{Instr, go, threadCode}
+use Rattle.pseudocode.specs.Instruction.{instructionOf}
+use Rattle.pseudocode.specs.Compiling.{Compiled, compileAt}
+use Rattle.pseudocode.specs.Fetching.{fetchAt}
+use Rattle.pseudocode.proofs.Translation.{threadCode-size}
+use Rattle.pseudocode.proofs.Compiling.{Compiles, compile-law}
+use Rattle.text.specs.Buffer.{Text, filled, puts}
+use Rattle.text.specs.Listing.{showLine, showCode, showThreads, showHead, showModule, refusal, output}
+use Rattle.text.specs.Printing.{textAt, instrOf, printedAt}
+use Rattle.text.proofs.Buffer.{puts-append, both, puts-sets}
+use Rattle.text.proofs.Length.{length-output}
+use Rattle.text.proofs.Located.{PlacedAll, none, more, instr-of, thread-placed, output-located}
+use Rattle.listings.specs.Lines.{codeLines, threadLines, tableListing}
+
+-- ---- the turns of the code's loops: what is still to be put gives the whole
+
+pub sub-zero : (n : ℕ) → n - 0 ≡ n
+sub-zero n = omega arith
+
+one-more : (n i : ℕ) → i < n → n - i ≡ suc (n - (i + 1))
+one-more n i h = omega arith
+
+module _ (s code : List ℕ) (thread size place : ℕ) (t u : Text) where
+  pub code-turn : place < size → u ≡ puts t (showLine (textAt s) thread place (instrOf (fetchAt s code thread place)))
+      → puts u (codeLines s code thread (size - (place + 1)) (place + 1)) ≡ puts t (codeLines s code thread (size - place) place)
+  unfolding codeLines
+  code-turn h e = rw (one-more size place h, puts-append, e) refl
+
+pub code-end : (s code : List ℕ) (thread size place : ℕ) → size ≤ place → codeLines s code thread (size - place) place ≡ []
+unfolding codeLines
+code-end s code thread size place h = let e : size - place ≡ 0 = omega arith in rw e refl
+
+module _ (s code sizes : List ℕ) (threads thread : ℕ) (t u : Text) where
+  pub thread-turn : thread < threads → u ≡ puts t (codeLines s code thread (getD sizes thread 0) 0)
+      → puts u (threadLines s code sizes (threads - (thread + 1)) (thread + 1)) ≡ puts t (threadLines s code sizes (threads - thread) thread)
+  unfolding threadLines
+  thread-turn h e = rw (one-more threads thread h, puts-append, e) refl
+
+pub thread-end : (s code sizes : List ℕ) (threads thread : ℕ) → threads ≤ thread → threadLines s code sizes (threads - thread) thread ≡ []
+unfolding threadLines
+thread-end s code sizes threads thread h = let e : threads - thread ≡ 0 = omega arith in rw e refl
+
+-- ---- the way through the code of a whole listing
+
+pub listing-path : (s : List ℕ) (threads body : ℕ) (t u v : Text) {code sizes : List ℕ}
+    → sizes ≡ compileAt s threads body (replicate 4096 0) .sizes → code ≡ compileAt s threads body (replicate 4096 0) .code
+    → u ≡ puts t (showHead threads) → v ≡ puts u (threadLines s code sizes threads 0) → v ≡ puts t (tableListing s threads body)
+unfolding tableListing
+listing-path s threads body t u v es ec eu ev = both t u v _ _ eu (ev ∙ rw (es, ec) refl)
+
+-- ---- one thread
+
+add-zero′ : (n : ℕ) → n ≡ n + 0
+add-zero′ n = omega arith
+
+zero-add′ : (n : ℕ) → 0 + n ≡ n
+zero-add′ n = omega arith
+
+shift : (n k : ℕ) → n + 1 + k ≡ n + suc k
+shift n k = omega arith
+
+module _ {ws s : List ℕ} (code : List ℕ) (thread : ℕ) where
+  lines-code : {is : List (Instr ℕ)} {js : List (Instr Expr)} → PlacedAll ws s is js → (n place : ℕ) → n ≡ length is
+      → ((k : ℕ) → k < length is → fetchAt s code thread (place + k) ≡ instructionOf (getD is k (go 0)))
+      → codeLines s code thread n place ≡ showCode (textAt s) thread place is
+  unfolding codeLines showCode
+  lines-code none n place e fetched = rw e refl
+  lines-code (more {i = i} {is = is} p ps) n place e fetched =
+      let first : fetchAt s code thread place ≡ instructionOf i = ap (fetchAt s code thread) (add-zero′ place) ∙ fetched 0 (omega arith) in
+      let rest = lines-code ps (length is) (place + 1) refl (λ k h. ap (fetchAt s code thread) (shift place k) ∙ fetched (suc k) (omega arith)) in
+      rw e (rw (first, instr-of p, rest) refl)
+
+-- ---- all threads
+
+abbrev number-of : SheetRead → ℕ
+number-of r = r .number
+
+abbrev items : Listed (Stmt ℕ) → List (Stmt ℕ)
+items l = l .items
+
+module _ (c : Scope) (s code sizes : List ℕ) where
+  -- The table holds the threads from a number on.
+  pub record Tabled (thread : ℕ) (threads : List (Stmt ℕ)) : Type 0 where
+    pub sized : (k : ℕ) → k < length threads → getD sizes (thread + k) 0 ≡ size (getD threads k empty) + 1
+    pub fetched : (k p : ℕ) → k < length threads → p < size (getD threads k empty) + 1
+        → fetchAt s code (thread + k) p ≡ instructionOf (getD (threadCode (getD threads k empty)) p (go 0))
+
+  tabled-rest : {thread : ℕ} {a : Stmt ℕ} {bs : List (Stmt ℕ)} → Tabled thread (a ∷ bs) → Tabled (thread + 1) bs
+  tabled-rest {thread} t =
+      record {
+        sized = λ k h. ap (λ (i : ℕ). getD sizes i 0) (shift thread k) ∙ t .sized (suc k) (omega arith);
+        fetched = λ k p h l. ap (λ (i : ℕ). fetchAt s code i p) (shift thread k) ∙ t .fetched (suc k) p (omega arith) l;
+      }
+
+  lines-thread : {d p : ℕ} {b : Body ℕ} {bs : List (Stmt ℕ)} → ReadsStmt (located s) c s d p b → (thread : ℕ) → Tabled thread (b .stmt ∷ bs)
+      → codeLines s code thread (getD sizes thread 0) 0 ≡ showCode (textAt s) thread 0 (threadCode (b .stmt))
+  lines-thread {b = b} x thread t =
+      let k : getD sizes thread 0 ≡ size (b .stmt) + 1 = ap (λ (i : ℕ). getD sizes i 0) (add-zero′ thread) ∙ t .sized 0 (omega arith) in
+      let n = threadCode-size (b .stmt) in
+      lines-code code thread (thread-placed c s x) (getD sizes thread 0) 0 (k ∙ sym n)
+      (λ i h. ap (fetchAt s code thread) (zero-add′ i) ∙ ap (λ (j : ℕ). fetchAt s code j i) (add-zero′ thread) ∙ t .fetched 0 i (omega arith) (omega arith))
+
+  lines-threads : (n p : ℕ) {l : Listed (Stmt ℕ)} → readThreads (located s) c s n p ≡ ok l → (ts : List (Stmt ℕ)) → l .items ≡ ts
+      → (thread : ℕ) → Tabled thread ts → threadLines s code sizes (length ts) thread ≡ showThreads (textAt s) thread ts
+  unfolding readThreads threadLines showThreads
+  lines-threads zero p {l} h ts q thread t =
+      let x : [] ≡ ts = ap items (ok-injective h) ∙ q in
+      rw (← x) refl
+  lines-threads (suc n) p {l} h ts q thread t =
+      let b = bind-ok (readStmt (located s) c s 64 p) _ h in
+      let k = check-ok (leb (size (b .0 .stmt) + 1) 256) 11 p _ (b .2) in
+      let bs = bind-ok (readThreads (located s) c s n (b .0 .next)) _ (k .1) in
+      let x : (b .0 .stmt ∷ bs .0 .items) ≡ ts = ap items (ok-injective (bs .2)) ∙ q in
+      let u : Tabled thread (b .0 .stmt ∷ bs .0 .items) = rw (← x) at t in
+      let y = lines-thread (derive-stmt (located s) c s 64 p (b .1)) thread u in
+      let z = lines-threads n (b .0 .next) (bs .1) (bs .0 .items) refl (thread + 1) (tabled-rest u) in
+      rw (← x) (rw (y, z) refl)
+
+-- ---- the sheet
+
+tabled : (c : Scope) (s : List ℕ) {threads : List (Stmt ℕ)} {k : Compiled} → Compiles s threads k → Tabled c s (k .code) (k .sizes) 0 threads
+tabled c s {threads} {k} h =
+    record {
+      sized = λ i l. ap (λ (j : ℕ). getD (k .sizes) j 0) (zero-add′ i) ∙ h .size-of i l;
+      fetched = λ i p l b. ap (λ (j : ℕ). fetchAt s (k .code) j p) (zero-add′ i) ∙ h .fetched i p l b;
+    }
+
+pub table-listing : (s : List ℕ) (r : Sheet ℕ) → readSheet (located s) s ≡ ok r
+    → tableListing s (length (r .contents .threads)) (r .body) ≡ showModule (textAt s) (r .contents)
+unfolding readSheet tableListing showModule
+table-listing s r e =
+    let k = check-ok (leb (length s) 8192) 1 8192 _ e in
+    let h = bind-ok (readHead s) _ (k .1) in
+    let sc = h .0 .scope in
+    let es = bind-ok (readWires (located s) sc s (h .0 .wires) (sc .inputs + sc .registers) (h .0 .next)) _ (h .2) in
+    let ts = bind-ok (readThreads (located s) sc s (h .0 .threads) (es .0 .next)) _ (es .2) in
+    let z = check-ok (eqb (ts .0 .next) (length s)) 10 (ts .0 .next) _ (ts .2) in
+    let x : ts .0 .items ≡ r .contents .threads = ap threads-of (ok-injective (z .1)) in
+    let t = tabled sc s (compile-law s (replicate 4096 0) r e (length-replicate {A = ℕ} 4096 0)) in
+    ap (λ (l : List ℕ). showHead (length (r .contents .threads)) ++ l)
+    (lines-threads sc s _ _ (h .0 .threads) (es .0 .next) (ts .1) (r .contents .threads) x 0 t)
+  where
+    threads-of : Sheet ℕ → List (Stmt ℕ)
+    threads-of q = q .contents .threads
+
+-- ---- what `list` prints, by the answer of reading
+
+module _ (s : List ℕ) (r : SheetRead) (e : r ≡ sheetAnswer (readSheet (located s) s)) where
+  pub output-refused : (r .number ≡ 0 → ⊥) → output s ≡ refusal (r .number)
+  unfolding sheetAnswer printedAt
+  output-refused h = output-located s ∙ by (readSheet (located s) s) refl
+    where
+      by : (x : Res (Sheet ℕ)) → readSheet (located s) s ≡ x → printedAt s x ≡ refusal (r .number)
+      by (ok q) g = absurd (h (ap number-of e ∙ ap (λ (y : Res (Sheet ℕ)). sheetAnswer y .number) g))
+      by (no n p) g = ap refusal (sym (ap number-of e ∙ ap (λ (y : Res (Sheet ℕ)). sheetAnswer y .number) g))
+
+  pub output-read : r .number ≡ 0 → output s ≡ tableListing s (r .layout .threads) (r .layout .body)
+  unfolding sheetAnswer printedAt layoutOf
+  output-read h = output-located s ∙ by (readSheet (located s) s) refl
+    where
+      by : (x : Res (Sheet ℕ)) → readSheet (located s) s ≡ x → printedAt s x ≡ tableListing s (r .layout .threads) (r .layout .body)
+      by (ok q) g =
+          let l : r ≡ sheetAnswer (ok q) = e ∙ ap sheetAnswer g in
+          sym (table-listing s q g) ∙ sym (ap (λ (a : SheetRead). tableListing s (a .layout .threads) (a .layout .body)) l)
+      by (no n p) g =
+          let k : n ≡ 0 = sym (ap number-of e ∙ ap (λ (y : Res (Sheet ℕ)). sheetAnswer y .number) g) ∙ h in
+          let z = numbered-no (sheet-numbered (located s) (located-numbered s) s) g in
+          absurd (omega arith)
+
+-- ---- the output at the front of the buffer
+
+pub listed : (l s x : List ℕ) {b : List ℕ} {r : ℕ} → output s ≡ x → filled b r ≡ puts (filled l 0) x
+    → (r ≡ length (output s)) × ((b ≡ sets l 0 (output s)) × (r ≤ 65536))
+listed l s x {b} {r} e h =
+    let few = length-output s in
+    let g : filled b r ≡ filled (sets l 0 (output s)) (0 + length (output s)) = h ∙ ap (puts (filled l 0)) (sym e) ∙ puts-sets (filled l 0) (output s) (omega arith) in
+    let n : r ≡ 0 + length (output s) = ap (λ (t : Text). t .at) g in
+    (omega arith, (ap (λ (t : Text). t .bytes) g, omega arith))

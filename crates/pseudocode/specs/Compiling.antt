@@ -1,0 +1,39 @@
+-- The code table of a whole sheet, filled once from a sheet that was accepted.
+-- Defined for any bytes; proofs/Compiling says that for a sheet that is accepted it holds the translation of each thread.
+use Prim.Native.Nat.{ℕ, zero, suc, _+_}
+use mathlib.Core.List.{List}
+use lib.ListN.{set, replicate}
+use lib.Dec.{ltb}
+use Rattle.values.specs.Values.{pick}
+use Rattle.pseudocode.specs.Filling.{filling, fillForever, fillAt}
+
+-- How far the sheet was taken, each thread's size, and the table.
+pub record Compiled : Type 0 where
+  pub next : ℕ
+  pub sizes : List ℕ
+  pub code : List ℕ
+
+abbrev pub compiled : ℕ → List ℕ → List ℕ → Compiled
+compiled next sizes code = record { next = next; sizes = sizes; code = code }
+
+-- ---- compileThread: "A thread is a forever of its statement"; a statement has "depth at most 64"
+
+unfoldable pub compileThread : List ℕ → ℕ → Compiled → Compiled
+compileThread s thread c =
+    let f = fillForever s thread (fillAt s thread 64) (filling (c .next) 0 (c .code)) in
+    compiled (f .next) (set (c .sizes) thread (f .place)) (f .code)
+
+-- ---- compileFrom: so many threads in turn, the first with this number
+
+unfoldable pub compileFrom : List ℕ → ℕ → ℕ → Compiled → Compiled
+compileFrom s zero thread c = c
+compileFrom s (suc n) thread c = compileFrom s n (thread + 1) (compileThread s thread c)
+
+-- ---- compileAt: all threads, the first one's statement at `body`. A thread past the last has size 0.
+
+-- "Threads (1 to 8)".
+unfoldable pub threadCount : ℕ → ℕ
+threadCount threads = pick (ltb threads 8) threads 8
+
+unfoldable pub compileAt : List ℕ → ℕ → ℕ → List ℕ → Compiled
+compileAt s threads body code = compileFrom s (threadCount threads) 0 (compiled body (replicate 8 0) code)

@@ -1,0 +1,50 @@
+-- Document 01, "Samples from the stands": the samples with a star, as one table of theorems over the definitions that the
+-- contracts cite. Each is computed.
+use mathlib.Core.Path.{_≡_}
+use Prim.Native.Nat.{ℕ}
+use mathlib.Core.Bool.{true, false}
+use mathlib.Core.List.{List, [], _∷_}
+use Rattle.values.specs.declared.Value.the-variants.{Known, Unknown}
+use Rattle.values.specs.declared.Edge.the-variants.{Posedge}
+use Rattle.values.specs.Values.{holds}
+use Rattle.values.specs.Operators.{binary}
+use Rattle.values.specs.Edges.{fires}
+use Rattle.values.proofs.Samples as values
+use Rattle.sheet.specs.Expression.{Expr}
+use Rattle.sheet.specs.Statement.{assign, ifElse, size}
+use Rattle.pseudocode.proofs.Samples as pseudocode
+use Rattle.text.specs.Listing.{output}
+use Rattle.text.proofs.Samples as text
+
+pub record Table : Type 0 where
+  -- "Width 4: 15 + 1 = 0; 0 - 1 = 15."
+  pub sum : binary 6 4 (Known 15) (Known 1) ≡ Known 0
+  pub difference : binary 7 4 (Known 0) (Known 1) ≡ Known 15
+  -- "8-bit x & 0 is x."
+  pub x-and-0 : binary 3 8 Unknown (Known 0) ≡ Unknown
+  -- "If on 2 holds; on x fails."
+  pub if-2 : holds (Known 2) ≡ true
+  pub if-x : holds Unknown ≡ false
+  -- "x to 1 fires posedge; 1 to 1 doesn't; 0 to x doesn't."
+  pub x-to-1 : fires Posedge Unknown (Known 1) ≡ true
+  pub 1-to-1 : fires Posedge (Known 1) (Known 1) ≡ false
+  pub 0-to-x : fires Posedge (Known 0) Unknown ≡ false
+  -- "If-else of two assignments: size 4."
+  pub if-else : (e x y : Expr) (a b : ℕ) → size (ifElse e (assign a x) (assign b y)) ≡ 4
+  -- The flip-flop sheet and its listing.
+  pub flip-flop : output text.flipFlop ≡ text.lines ("threads 1" ∷ "0 0 wait 1 0" ∷ "0 1 later 2 v1" ∷ "0 2 go 0" ∷ [])
+
+pub table : Table
+table =
+    record {
+      sum = values.sample-sum;
+      difference = values.sample-difference;
+      x-and-0 = values.sample-x-and-0;
+      if-2 = values.sample-if-2;
+      if-x = values.sample-if-x;
+      x-to-1 = values.sample-x-to-1;
+      1-to-1 = values.sample-1-to-1;
+      0-to-x = values.sample-0-to-x;
+      if-else = λ e x y a b. pseudocode.sample-size e x y a b .0;
+      flip-flop = text.samples .0;
+    }

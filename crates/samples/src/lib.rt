@@ -1,0 +1,1 @@
+// Document 01's starred samples: the table stands in proofs/Table.antt.

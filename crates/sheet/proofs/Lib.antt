@@ -1,0 +1,10 @@
+pub mod Reading
+pub mod Expression
+pub mod Statements
+pub mod Trees
+pub mod Numbers
+pub mod Answers
+pub mod Nodes
+pub mod Forms
+pub mod Sections
+pub mod Samples

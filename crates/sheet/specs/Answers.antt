@@ -1,0 +1,45 @@
+-- What the code answers: document 01's number and values for each case.
+use Prim.Native.Nat.{ℕ}
+use mathlib.Core.List.{List}
+use lib.ListN.{length, replicate}
+use lib.Seq.{sets}
+use Rattle.sheet.specs.Reading.{Res, ok, no}
+use Rattle.sheet.specs.Expression.{Expr, Parsed}
+use Rattle.sheet.specs.Statement.{Stmt, Body, size}
+use Rattle.sheet.specs.Module.{Module, Sheet}
+use Rattle.sheet.specs.declared.ExprRead as ExprRead
+use Rattle.sheet.specs.declared.StmtRead as StmtRead
+use Rattle.sheet.specs.declared.Layout.{Layout}
+use Rattle.sheet.specs.declared.SheetRead.{SheetRead}
+
+-- The tree is the only part of an expression that the answer leaves out.
+unfoldable pub exprAnswer : {E : Type 0} → Res (Parsed E) → ExprRead.ExprRead
+exprAnswer (ok e) = ExprRead.the-variants.Read (e .next) (e .width)
+exprAnswer (no n p) = ExprRead.the-variants.Refused n p
+
+-- Of a statement's tree the answer keeps the size.
+unfoldable pub stmtAnswer : {E : Type 0} → Res (Body E) → StmtRead.StmtRead
+stmtAnswer (ok b) = StmtRead.the-variants.Read (b .next) (size (b .stmt))
+stmtAnswer (no n p) = StmtRead.the-variants.Refused n p
+
+-- The places of the wires' expressions, 0 past the last.
+unfoldable pub startsOf : List ℕ → List ℕ
+startsOf wires = sets (replicate 32 0) 0 wires
+
+unfoldable pub layoutOf : Sheet ℕ → Layout
+layoutOf r =
+    record {
+      inputs = r .contents .scope .inputs;
+      registers = r .contents .scope .registers;
+      wires = length (r .contents .wires);
+      threads = length (r .contents .threads);
+      starts = startsOf (r .contents .wires);
+      body = r .body;
+    }
+
+unfoldable pub blank : Layout
+blank = record { inputs = 0; registers = 0; wires = 0; threads = 0; starts = replicate 32 0; body = 0 }
+
+unfoldable pub sheetAnswer : Res (Sheet ℕ) → SheetRead
+sheetAnswer (ok r) = record { number = 0; place = 0; layout = layoutOf r }
+sheetAnswer (no n p) = record { number = n; place = p; layout = blank }

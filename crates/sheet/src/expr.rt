@@ -1,0 +1,207 @@
+// Expressions of a sheet: one function for each kind of node.
+use super::ByteRead;
+use super::ExprRead;
+use super::bytes::byte_at;
+use super::bytes::read_name;
+use super::bytes::read_within;
+use super::bytes::word_at;
+use values::Value;
+ghost use mathlib.Core.Path.{_≡_};
+ghost use Prim.Native.Nat.{_<_};
+ghost use lib.ListN.{length};
+ghost use Rattle.sheet.specs.Expression.{readExpr, located, aVariable, aConstant, anUnknown, aUnary, aBinary, aConditional};
+ghost use Rattle.sheet.specs.Answers.{exprAnswer};
+ghost use Rattle.sheet.specs.Parts.{nodeAnswer};
+
+// A variable: its number. (No operand is read here, nor in a constant: any number of levels serves.)
+fn read_variable(sheet: &[u8], widths: &[u8], at: usize) -> ExprRead
+    requires { ⌜ at < length (now sheet) ⌝ }
+    ensures { λ r. ⌜ r ≡ nodeAnswer 0 (now (widths .entry)) (now (sheet .entry)) at aVariable ⌝ }
+{
+    match read_name(sheet, widths, at + 1) {
+        ByteRead::Byte(v) => ExprRead::Read {
+            next: at + 2,
+            width: byte_at(widths, v as usize),
+        },
+        ByteRead::Refused { number, place } => ExprRead::Refused { number, place },
+    }
+}
+
+// A constant: its width and its value.
+fn read_constant(sheet: &[u8], widths: &[u8], at: usize) -> ExprRead
+    requires { ⌜ at < length (now sheet) ⌝ }
+    ensures { λ r. ⌜ r ≡ nodeAnswer 0 (now (widths .entry)) (now (sheet .entry)) at aConstant ⌝ }
+{
+    let read = read_within(sheet, at + 1, 1, 32, 6);
+    let width = match read {
+        ByteRead::Byte(b) => b,
+        ByteRead::Refused { number, place } => {
+            return ExprRead::Refused { number, place };
+        }
+    };
+    let end = sheet.len();
+    let first = at + 2;
+    if end - first < 4 {
+        return ExprRead::Refused {
+            number: 2,
+            place: end,
+        };
+    }
+    let value = word_at(sheet, first);
+    if values::fits(width, Value::Known(value)) {
+        ExprRead::Read {
+            next: at + 6,
+            width,
+        }
+    } else {
+        ExprRead::Refused {
+            number: 6,
+            place: first,
+        }
+    }
+}
+
+// An unknown constant: its width.
+fn read_unknown(sheet: &[u8], widths: &[u8], at: usize) -> ExprRead
+    requires { ⌜ at < length (now sheet) ⌝ }
+    ensures { λ r. ⌜ r ≡ nodeAnswer 0 (now (widths .entry)) (now (sheet .entry)) at anUnknown ⌝ }
+{
+    match read_within(sheet, at + 1, 1, 32, 6) {
+        ByteRead::Byte(width) => ExprRead::Read {
+            next: at + 2,
+            width,
+        },
+        ByteRead::Refused { number, place } => ExprRead::Refused { number, place },
+    }
+}
+
+// An operator with one operand.
+fn read_unary(sheet: &[u8], widths: &[u8], at: usize, depth: u8) -> ExprRead
+    requires { ⌜ at < length (now sheet) ⌝ }
+    ensures { λ r. ⌜ r ≡ nodeAnswer depth (now (widths .entry)) (now (sheet .entry)) at aUnary ⌝ }
+{
+    let read = read_within(sheet, at + 1, 1, 2, 6);
+    let op = match read {
+        ByteRead::Byte(b) => b,
+        ByteRead::Refused { number, place } => {
+            return ExprRead::Refused { number, place };
+        }
+    };
+    let a = read_expr(sheet, widths, at + 2, depth);
+    let ExprRead::Read { next, width } = a else {
+        return a;
+    };
+    ExprRead::Read {
+        next,
+        width: values::unary_width(op, width),
+    }
+}
+
+// An operator with two operands of one width.
+fn read_binary(sheet: &[u8], widths: &[u8], at: usize, depth: u8) -> ExprRead
+    requires { ⌜ at < length (now sheet) ⌝ }
+    ensures { λ r. ⌜ r ≡ nodeAnswer depth (now (widths .entry)) (now (sheet .entry)) at aBinary ⌝ }
+{
+    let read = read_within(sheet, at + 1, 3, 9, 6);
+    let op = match read {
+        ByteRead::Byte(b) => b,
+        ByteRead::Refused { number, place } => {
+            return ExprRead::Refused { number, place };
+        }
+    };
+    let a = read_expr(sheet, widths, at + 2, depth);
+    let ExprRead::Read {
+        next: second,
+        width,
+    } = a
+    else {
+        return a;
+    };
+    let b = read_expr(sheet, widths, second, depth);
+    let ExprRead::Read { next, width: other } = b else {
+        return b;
+    };
+    if width != other {
+        return ExprRead::Refused {
+            number: 8,
+            place: at,
+        };
+    }
+    ExprRead::Read {
+        next,
+        width: values::binary_width(op, width),
+    }
+}
+
+// A condition and two arms of one width.
+fn read_conditional(sheet: &[u8], widths: &[u8], at: usize, depth: u8) -> ExprRead
+    requires { ⌜ at < length (now sheet) ⌝ }
+    ensures { λ r. ⌜ r ≡ nodeAnswer depth (now (widths .entry)) (now (sheet .entry)) at aConditional ⌝ }
+{
+    let read = read_within(sheet, at + 1, 10, 10, 6);
+    if let ByteRead::Refused { number, place } = read {
+        return ExprRead::Refused { number, place };
+    }
+    let c = read_expr(sheet, widths, at + 2, depth);
+    let ExprRead::Read {
+        next: second,
+        width: _,
+    } = c
+    else {
+        return c;
+    };
+    let a = read_expr(sheet, widths, second, depth);
+    let ExprRead::Read { next: third, width } = a else {
+        return a;
+    };
+    let b = read_expr(sheet, widths, third, depth);
+    let ExprRead::Read { next, width: other } = b else {
+        return b;
+    };
+    if width != other {
+        return ExprRead::Refused {
+            number: 8,
+            place: at,
+        };
+    }
+    ExprRead::Read { next, width }
+}
+
+// The expression at a place, with so many levels left.
+pub fn read_expr(sheet: &[u8], widths: &[u8], at: usize, depth: u8) -> ExprRead
+    ensures { λ r. ⌜ r ≡ exprAnswer (readExpr depth (now (widths .entry)) (now (sheet .entry)) at) ⌝ }
+{
+    let end = sheet.len();
+    if end <= at {
+        return ExprRead::Refused {
+            number: 2,
+            place: end,
+        };
+    }
+    if depth == 0 {
+        return ExprRead::Refused {
+            number: 7,
+            place: at,
+        };
+    }
+    let map = sheet[at];
+    match map {
+        0x02 => read_variable(sheet, widths, at),
+        0x0C => read_constant(sheet, widths, at),
+        0x04 => read_unknown(sheet, widths, at),
+        0x11 => read_unary(sheet, widths, at, depth - 1),
+        0x31 => read_binary(sheet, widths, at, depth - 1),
+        0x71 => read_conditional(sheet, widths, at, depth - 1),
+        _ => ExprRead::Refused {
+            number: 5,
+            place: at,
+        },
+    }
+}
+
+// An expression of the sheet that stands in no other: 16 levels.
+pub fn located(sheet: &[u8], widths: &[u8], at: usize) -> ExprRead
+    ensures { λ r. ⌜ r ≡ exprAnswer (located (now (sheet .entry)) (now (widths .entry)) at) ⌝ }
+{
+    read_expr(sheet, widths, at, 16)
+}

@@ -1,0 +1,114 @@
+// The sheet: bytes to module (document 01, "The sheet"), numbers 1 to 11.
+pub mod body;
+pub mod bytes;
+pub mod expr;
+pub mod head;
+pub mod stmt;
+
+pub use bytes::byte_at;
+pub use bytes::word_at;
+pub use expr::located;
+pub use expr::read_expr;
+pub use stmt::read_stmt;
+use values::Edge;
+ghost use mathlib.Core.Path.{_≡_};
+ghost use Rattle.sheet.specs.Expression.{located};
+ghost use Rattle.sheet.specs.Module.{readSheet};
+ghost use Rattle.sheet.specs.Answers.{sheetAnswer};
+
+// One pair of a wait: an edge and the variable that it is awaited on.
+pub struct EdgeTerm {
+    pub edge: Edge,
+    pub variable: u8,
+}
+
+// A byte that was read, or a refusal's number and place.
+pub enum ByteRead {
+    Byte(u8),
+    Refused { number: u8, place: usize },
+}
+
+// What reading an expression finds: the next place in the sheet and its width, or a refusal's number and place.
+pub enum ExprRead {
+    Read { next: usize, width: u8 },
+    Refused { number: u8, place: usize },
+}
+
+// What reading a wait's pairs finds: whether each edge suits its variable's width, or a refusal's number and place.
+pub enum TermsRead {
+    Read { narrow: bool },
+    Refused { number: u8, place: usize },
+}
+
+// What reading a statement finds: the next place in the sheet and its size, or a refusal's number and place.
+pub enum StmtRead {
+    Read { next: usize, size: usize },
+    Refused { number: u8, place: usize },
+}
+
+// What reading the widths finds: all within range, or a refusal's number and place.
+pub enum WidthsRead {
+    Fine,
+    Refused { number: u8, place: usize },
+}
+
+// What reading a sheet's head finds: the four counts, or a refusal's number and place.
+pub enum HeadRead {
+    Read {
+        inputs: u8,
+        registers: u8,
+        wires: u8,
+        threads: u8,
+    },
+    Refused {
+        number: u8,
+        place: usize,
+    },
+}
+
+// What reading a row of expressions or statements finds: the next place in the sheet, or a refusal's number and place.
+pub enum PlaceRead {
+    At(usize),
+    Refused { number: u8, place: usize },
+}
+
+// What reading the wires finds, and the place of each expression.
+pub struct WiresRead {
+    pub read: PlaceRead,
+    pub starts: [usize; 32],
+}
+
+// Where things stand in a sheet that was read: the counts, the place of each wire's expression and of the first thread.
+pub struct Layout {
+    pub inputs: u8,
+    pub registers: u8,
+    pub wires: u8,
+    pub threads: u8,
+    pub starts: [usize; 32],
+    pub body: usize,
+}
+
+// What reading a sheet finds: number 0 and the layout, or a refusal's number and place.
+pub struct SheetRead {
+    pub number: u8,
+    pub place: usize,
+    pub layout: Layout,
+}
+
+// The whole sheet.
+pub fn read(sheet: &[u8]) -> SheetRead
+    ensures { λ r. ⌜ r ≡ sheetAnswer (readSheet (located (now (sheet .entry))) (now (sheet .entry))) ⌝ }
+{
+    if 8192 < sheet.len() {
+        return body::refused(1, 8192);
+    }
+    match head::read_head(sheet) {
+        HeadRead::Refused { number, place } => body::refused(number, place),
+        HeadRead::Read {
+            inputs,
+            registers,
+            wires,
+            threads,
+        } => body::read_body(sheet, inputs, registers, wires, threads),
+    }
+}

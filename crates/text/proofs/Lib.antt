@@ -1,0 +1,7 @@
+pub mod Text
+pub mod Buffer
+pub mod Listing
+pub mod Printing
+pub mod Located
+pub mod Length
+pub mod Samples

@@ -1,0 +1,14 @@
+-- Words and characters as ASCII bytes.
+use Prim.Native.Nat.{ℕ}
+use Prim.Native.Char.{Char, code}
+use Prim.Native.String.{String, [], _∷_}
+use mathlib.Core.List.{List, [] as none, _∷_ as _then_}
+
+-- The bytes of a word.
+unfoldable pub ascii : String → List ℕ
+ascii [] = none
+ascii (c ∷ s) = code c then ascii s
+
+-- The byte of a character.
+abbrev pub byte : Char → ℕ
+byte c = code c

@@ -1,0 +1,5 @@
+pub mod Ascii
+pub mod Text
+pub mod Buffer
+pub mod Listing
+pub mod Printing

@@ -1,0 +1,88 @@
+//! The replay program: a script of calls in, a line for each record out.
+
+use std::io::{self, Write};
+
+use crate::module::Module;
+use crate::pseudocode;
+use crate::saved::write_state;
+use crate::sheet::{self, Refusal};
+use crate::simulator::{Simulator, number_of};
+use crate::state::State;
+
+mod record;
+
+pub use record::{LATER, Record, Script};
+
+/// Runs a script of any bytes as far as it goes.
+pub fn replay(script: &[u8], out: &mut impl Write) -> io::Result<()> {
+    let script = Script::read(script);
+    if let Some(sheet) = script.sheet {
+        let reading = sheet::read(sheet);
+        let mut session = Session::new(sheet, &reading);
+        for record in &script.records {
+            writeln!(out, "{}", session.answer(record))?;
+        }
+    }
+    if script.rest.is_some() { writeln!(out, "bad script") } else { Ok(()) }
+}
+
+/// A sheet with the state that the calls hand on.
+pub struct Session<'a> {
+    sheet: &'a [u8],
+    reading: &'a Result<Module, Refusal>,
+    pub simulator: Simulator<'a>,
+    pub state: State,
+}
+
+impl<'a> Session<'a> {
+    /// Of a sheet and what `sheet::read` gave for it.
+    pub fn new(sheet: &'a [u8], reading: &'a Result<Module, Refusal>) -> Session<'a> {
+        Session { sheet, reading, simulator: Simulator::new(reading), state: State::ZERO }
+    }
+
+    /// Makes the call; the line without its line feed.
+    pub fn answer(&mut self, record: &Record) -> String {
+        let Session { simulator, state, .. } = self;
+        match record {
+            Record::Read => {
+                let refusal = self.reading.as_ref().err();
+                let (number, place) = refusal.map_or((0, 0), |r| (r.number, r.place));
+                format!("read {number} {place}")
+            }
+            Record::List => format!("list {}", hex(pseudocode::print(self.sheet).as_bytes())),
+            Record::Start => {
+                let outcome = simulator.start().map(|start| *state = start);
+                format!("start {}", number_of(outcome))
+            }
+            Record::Choose(choice) => {
+                format!("choose {}", number_of(simulator.choose(state, *choice)))
+            }
+            Record::Run(choices) => {
+                let run = simulator.run(state, choices);
+                format!("run {} {}", run.accepted, run.number)
+            }
+            Record::Plain(limit) => {
+                let run = simulator.run_plain(state, *limit);
+                format!("plain {} {} {}", run.accepted, run.number, run.verdict.word())
+            }
+            Record::Instant(inputs) => {
+                format!("instant {}", number_of(simulator.instant(state, inputs)))
+            }
+            Record::Load(loaded) => {
+                state.clone_from(loaded);
+                "load".into()
+            }
+            Record::Dump => {
+                let mut bytes = Vec::new();
+                write_state(state, &mut bytes);
+                format!("state {}", hex(&bytes))
+            }
+        }
+    }
+}
+
+/// Two lower-case digits a byte.
+fn hex(bytes: &[u8]) -> String {
+    let digits = bytes.iter().flat_map(|byte| [byte >> 4, byte & 15]);
+    digits.map(|digit| char::from(b"0123456789abcdef"[usize::from(digit)])).collect()
+}

@@ -1,0 +1,151 @@
+//! The bytes of a script.
+
+use std::fmt::{self, Display, Formatter};
+
+use crate::saved::{Bytes, write_slot, write_state};
+use crate::state::{Slot, State};
+use crate::value::Value;
+
+/// The form of script that is read and written.
+const FORM: u8 = 1;
+
+/// The letters of records that are still to come: extraction, tables and cycle run.
+pub const LATER: [u8; 4] = *b"XTWK";
+
+/// One call.
+#[derive(Clone, Debug, PartialEq, Eq)]
+pub enum Record {
+    Read,
+    List,
+    Start,
+    Choose(u8),
+    /// At most 65,535 choices.
+    Run(Vec<u8>),
+    Plain(u16),
+    /// At most 255 values.
+    Instant(Vec<Slot>),
+    Load(Box<State>),
+    Dump,
+}
+
+/// A script as far as it can be read.
+pub struct Script<'a> {
+    /// None where the head is bad.
+    pub sheet: Option<&'a [u8]>,
+    pub records: Vec<Record>,
+    /// The bytes from the bad head or record on.
+    pub rest: Option<&'a [u8]>,
+}
+
+impl<'a> Script<'a> {
+    pub fn read(script: &'a [u8]) -> Script<'a> {
+        let mut bytes = Bytes::new(script);
+        let Some(sheet) = read_head(&mut bytes) else {
+            return Script { sheet: None, records: Vec::new(), rest: Some(script) };
+        };
+        let mut records = Vec::new();
+        let mut rest = None;
+        while !bytes.is_empty() {
+            let from_here = bytes.rest();
+            let Some(record) = Record::read(&mut bytes) else {
+                rest = Some(from_here);
+                break;
+            };
+            records.push(record);
+        }
+        Script { sheet: Some(sheet), records, rest }
+    }
+
+    pub fn write(sheet: &[u8], records: &[Record]) -> Vec<u8> {
+        let mut script = vec![FORM];
+        let length = u16::try_from(sheet.len()).expect("at most 65,535 bytes");
+        script.extend(length.to_le_bytes());
+        script.extend(sheet);
+        records.iter().for_each(|record| record.write(&mut script));
+        script
+    }
+}
+
+/// The sheet, behind the form and the sheet's length.
+fn read_head<'a>(bytes: &mut Bytes<'a>) -> Option<&'a [u8]> {
+    let form = bytes.byte()?;
+    let length = bytes.word()?;
+    let sheet = bytes.take(length.into())?;
+    (form == FORM).then_some(sheet)
+}
+
+impl Record {
+    /// None where the letter is unknown, a flag neither 0 nor 1, or the record cut short.
+    fn read(bytes: &mut Bytes) -> Option<Record> {
+        Some(match bytes.byte()? {
+            b'N' => Record::Read,
+            b'Q' => Record::List,
+            b'S' => Record::Start,
+            b'C' => Record::Choose(bytes.byte()?),
+            b'R' => {
+                let count = bytes.word()?;
+                Record::Run(bytes.take(count.into())?.to_vec())
+            }
+            b'P' => Record::Plain(bytes.word()?),
+            b'I' => {
+                let count = bytes.byte()?;
+                Record::Instant((0..count).map(|_| bytes.slot()).collect::<Option<_>>()?)
+            }
+            b'L' => Record::Load(Box::new(bytes.state()?)),
+            b'D' => Record::Dump,
+            _ => return None,
+        })
+    }
+
+    fn write(&self, script: &mut Vec<u8>) {
+        match self {
+            Record::Read => script.push(b'N'),
+            Record::List => script.push(b'Q'),
+            Record::Start => script.push(b'S'),
+            Record::Choose(choice) => script.extend([b'C', *choice]),
+            Record::Run(choices) => {
+                let count = u16::try_from(choices.len()).expect("at most 65,535 choices");
+                script.push(b'R');
+                script.extend(count.to_le_bytes());
+                script.extend(choices);
+            }
+            Record::Plain(limit) => {
+                script.push(b'P');
+                script.extend(limit.to_le_bytes());
+            }
+            Record::Instant(inputs) => {
+                let count = u8::try_from(inputs.len()).expect("at most 255 values");
+                script.extend([b'I', count]);
+                inputs.iter().for_each(|input| write_slot(input, script));
+            }
+            Record::Load(state) => {
+                script.push(b'L');
+                write_state(state, script);
+            }
+            Record::Dump => script.push(b'D'),
+        }
+    }
+}
+
+/// The record as people read it.
+impl Display for Record {
+    fn fmt(&self, f: &mut Formatter) -> fmt::Result {
+        match self {
+            Record::Read => write!(f, "read"),
+            Record::List => write!(f, "list"),
+            Record::Start => write!(f, "start"),
+            Record::Choose(choice) => write!(f, "choose {choice}"),
+            Record::Run(choices) => write!(f, "run {choices:?}"),
+            Record::Plain(limit) => write!(f, "plain run of at most {limit}"),
+            Record::Instant(inputs) => {
+                write!(f, "instant")?;
+                inputs.iter().try_for_each(|input| match input.value() {
+                    Value::X => write!(f, " x"),
+                    Value::Known(number) => write!(f, " {number}"),
+                })
+            }
+            Record::Load(_) => write!(f, "load"),
+            Record::Dump => write!(f, "state"),
+        }
+    }
+}

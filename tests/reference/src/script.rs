@@ -1,0 +1,268 @@
+//! Random scripts for the replay program: modules of every kind, states good and bad,
+//! calls that are accepted and calls that aren't.
+
+use crate::encode::encode;
+use crate::lively::{self, Kind, Size};
+use crate::machine::{COMMIT, Machine};
+use crate::module::Module;
+use crate::random::Random;
+use crate::replay::{LATER, Record, Script, Session};
+use crate::sheet;
+use crate::state::{Slot, State};
+use crate::{generate, limits, mutate, states};
+
+/// The script of a seed.
+pub fn script(seed: u64) -> Vec<u8> {
+    let mut random = Random::new(seed);
+    let sheet = sheet(&mut random);
+    let reading = sheet::read(&sheet);
+    let session = Session::new(&sheet, &reading);
+    let module = reading.as_ref().ok();
+    let (fitting, records) = (State::ZERO, Vec::new());
+    let mut writer = Writer { random, session, module, fitting, records };
+    writer.write();
+    let script = Script::write(&sheet, &writer.records);
+    match writer.random.chance(1, 8) {
+        true => damage(script, &mut writer.random),
+        false => script,
+    }
+}
+
+// ---- sheets
+
+fn sheet(random: &mut Random) -> Vec<u8> {
+    match random.below(20) {
+        0..=5 => encode(&lively::module(Kind::Extractable, Size::Usual, random)),
+        6..=12 => encode(&lively::module(Kind::Events, Size::Usual, random)),
+        13 => encode(&lively::module(Kind::Events, Size::Tiny, random)),
+        14 | 15 => encode(&generate::module(random)),
+        16 => mutate::damage(&encode(&generate::module(random)), random),
+        17 => long_sheet(random),
+        _ => limit_sheet(random),
+    }
+}
+
+/// A sheet that is refused with a number drawn first.
+fn limit_sheet(random: &mut Random) -> Vec<u8> {
+    let number = random.between(1, 11) as u8;
+    let samples = limits::groups().into_iter().flat_map(|group| group.1);
+    let mut sheets: Vec<Vec<u8>> = samples
+        .filter(|sample| sample.number == number && sample.sheet.len() <= u16::MAX.into())
+        .map(|sample| sample.sheet)
+        .collect();
+    sheets.swap_remove(random.below(sheets.len()))
+}
+
+/// Random bytes up to the longest sheet that a script can hold.
+fn long_sheet(random: &mut Random) -> Vec<u8> {
+    let length = random.pick(&[0, 1, 8191, 8192, 8193, u16::MAX.into()]);
+    (0..length).map(|_| random.byte()).collect()
+}
+
+// ---- damage
+
+/// A script with a few bytes changed, put in, taken out or cut off. It doesn't end at
+/// a letter that is still to come.
+fn damage(script: Vec<u8>, random: &mut Random) -> Vec<u8> {
+    loop {
+        let damaged = match random.below(6) {
+            0 | 1 => script[..random.below(script.len())].to_vec(),
+            2 => [&[random.byte()], &script[1..]].concat(),
+            3 => [&script[..], &[random.byte()]].concat(),
+            _ => mutate::damage(&script, random),
+        };
+        let rest = Script::read(&damaged).rest;
+        if !rest.and_then(|rest| rest.first()).is_some_and(|letter| LATER.contains(letter)) {
+            return damaged;
+        }
+    }
+}
+
+// ---- records
+
+struct Writer<'a> {
+    random: Random,
+    /// Where the records so far lead.
+    session: Session<'a>,
+    module: Option<&'a Module>,
+    /// The last state that fitted.
+    fitting: State,
+    records: Vec<Record>,
+}
+
+impl Writer<'_> {
+    fn write(&mut self) {
+        for record in [Record::Dump, Record::Read, Record::List, Record::Start, Record::Dump] {
+            self.call(record);
+        }
+        for _ in 0..self.random.pick(&[5, 20, 40, 80]) {
+            let record = self.record();
+            self.call(record);
+        }
+        self.call(Record::Dump);
+    }
+
+    /// Writes the record, makes its call, and mostly looks at the state afterwards.
+    fn call(&mut self, record: Record) {
+        let looks = record != Record::Dump && self.random.chance(2, 3);
+        self.session.answer(&record);
+        self.records.push(record);
+        if looks {
+            self.records.push(Record::Dump);
+        }
+        if self.fits() {
+            self.fitting.clone_from(&self.session.state);
+        }
+    }
+
+    fn fits(&self) -> bool {
+        self.session.simulator.judged(&self.session.state).is_ok()
+    }
+
+    fn quiet(&self) -> bool {
+        let judged = self.session.simulator.judged(&self.session.state);
+        judged.is_ok_and(|machine| machine.quiet(&self.session.state))
+    }
+
+    /// From a state that doesn't fit the way leads back, from a quiet one to an instant.
+    fn record(&mut self) -> Record {
+        if !self.fits() && self.random.chance(1, 3) {
+            return Record::Load(Box::new(self.fitting.clone()));
+        }
+        if self.quiet() && self.random.chance(2, 3) {
+            return Record::Instant(self.inputs());
+        }
+        match self.random.below(32) {
+            0..=11 => Record::Choose(self.choice()),
+            12..=16 => Record::Run(self.choices()),
+            17..=21 => Record::Plain(self.limit()),
+            22..=23 => Record::Instant(self.inputs()),
+            24..=27 => Record::Load(Box::new(self.state())),
+            28 => Record::Start,
+            29 => Record::Read,
+            30 => Record::List,
+            _ => Record::Plain(u16::MAX),
+        }
+    }
+
+    fn limit(&mut self) -> u16 {
+        match self.random.below(6) {
+            0 => 0,
+            1 | 2 => self.random.between(1, 4) as u16,
+            3 => self.random.between(1, 40) as u16,
+            4 => self.random.between(1, 1000) as u16,
+            _ => self.random.pick(&[100, 255, 256, 257, 1000, 2000]),
+        }
+    }
+
+    // ---- choices
+
+    /// Mostly one that is accepted.
+    fn choice(&mut self) -> u8 {
+        let state = self.session.state.clone();
+        match self.session.simulator.judged(&state) {
+            Ok(machine) => choice(machine, &state, &mut self.random),
+            Err(_) => self.random.byte(),
+        }
+    }
+
+    /// Choices one after the other, mostly accepted ones until the state is quiet.
+    fn choices(&mut self) -> Vec<u8> {
+        let length = self.random.pick(&[0, 1, 2, 5, 10, 40, 300]);
+        let mut state = self.session.state.clone();
+        let Ok(machine) = self.session.simulator.judged(&state) else {
+            return (0..length).map(|_| self.random.byte()).collect();
+        };
+        let mut choices = Vec::new();
+        for _ in 0..length {
+            let choice = match self.random.chance(1, 30) {
+                true => choice(machine, &state, &mut self.random),
+                false => enabled(machine, &state, &mut self.random),
+            };
+            choices.push(choice);
+            let accepted = machine.choose(&mut state, choice).is_ok();
+            if accepted && machine.quiet(&state) && self.random.chance(3, 4) {
+                break;
+            }
+        }
+        choices
+    }
+
+    // ---- inputs and states
+
+    /// Mostly as many as the module has.
+    fn inputs(&mut self) -> Vec<Slot> {
+        let mut inputs = self.inputs_in_number();
+        let length = match self.random.below(32) {
+            0 => inputs.len() + 1,
+            1 => inputs.len().saturating_sub(1),
+            2 => self.random.pick(&[0, 15, 16, 17, 18, 255]),
+            _ => inputs.len(),
+        };
+        inputs.resize(length, Slot::ZERO);
+        inputs
+    }
+
+    /// Mostly inputs that fit. Half of them stay as they are; the clock goes to and fro.
+    fn inputs_in_number(&mut self) -> Vec<Slot> {
+        let Some(module) = self.module else {
+            return vec![Slot::known(self.random.below(3) as u32); self.random.below(4)];
+        };
+        let random = &mut self.random;
+        let careless = random.chance(1, 12);
+        let present = self.session.state.values.iter().zip(&module.widths);
+        let mut inputs: Vec<Slot> = present
+            .take(module.inputs.into())
+            .map(|(slot, &width)| match random.chance(1, 2) {
+                true => *slot,
+                false if careless => states::slot(width, random),
+                false => states::fitting_slot(width, random),
+            })
+            .collect();
+        match random.below(8) {
+            0 => inputs[0] = Slot::X,
+            1 => {}
+            _ => inputs[0] = Slot::known(u32::from(inputs[0] == Slot::known(0))),
+        }
+        inputs
+    }
+
+    /// The last state that fitted, disturbed or not; now and then any state at all.
+    fn state(&mut self) -> State {
+        let mut state = self.fitting.clone();
+        let random = &mut self.random;
+        match random.below(16) {
+            0 => state = states::noise(random),
+            1..=9 => states::disturb(&mut state, self.module, random),
+            10 => (0..3).for_each(|_| states::disturb(&mut state, self.module, random)),
+            _ => {}
+        }
+        if let Some(module) = self.module {
+            if random.chance(1, 4) {
+                states::make_known(&mut state, module, random);
+            }
+            if random.chance(1, 3) {
+                states::litter(&mut state, module, random);
+            }
+        }
+        state
+    }
+}
+
+/// One of the enabled items, or the commit where there is none.
+fn enabled(machine: &Machine, state: &State, random: &mut Random) -> u8 {
+    let items: Vec<u8> = machine.enabled(state).collect();
+    if items.is_empty() { COMMIT } else { random.pick(&items) }
+}
+
+/// Mostly an enabled item, else any byte, with those next to the last item.
+fn choice(machine: &Machine, state: &State, random: &mut Random) -> u8 {
+    let items = machine.items();
+    match random.below(16) {
+        0 | 1 => COMMIT,
+        2 | 3 => random.below(items) as u8,
+        4 => random.byte(),
+        5 => random.pick(&[items as u8, items as u8 - 1, 254]),
+        _ => enabled(machine, state, random),
+    }
+}

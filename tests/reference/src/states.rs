@@ -1,0 +1,149 @@
+//! States as they may be handed over: disturbed in one field, or random throughout.
+
+use crate::module::Module;
+use crate::random::Random;
+use crate::state::{MARKS, PENDING, PLACES, Pending, Slot, State, VALUES};
+use crate::value::mask;
+
+/// The sizes that a state is held against; those of a small module where there is none.
+struct Sizes<'a> {
+    widths: &'a [u8],
+    inputs: usize,
+    registers: usize,
+    wires: usize,
+    threads: usize,
+}
+
+impl<'a> Sizes<'a> {
+    fn of(module: Option<&'a Module>) -> Sizes<'a> {
+        let Some(module) = module else {
+            return Sizes {
+                widths: &[1, 8, 8, 1],
+                inputs: 2,
+                registers: 1,
+                wires: 1,
+                threads: 1,
+            };
+        };
+        Sizes {
+            widths: &module.widths,
+            inputs: module.inputs.into(),
+            registers: module.registers.into(),
+            wires: module.wires.len(),
+            threads: module.threads.len(),
+        }
+    }
+
+    /// The width of a variable, 32 past the last.
+    fn width(&self, variable: usize) -> u8 {
+        self.widths.get(variable).copied().unwrap_or(32)
+    }
+}
+
+/// A slot for a value of the width, now and then too wide, and x with any number.
+pub fn slot(width: u8, random: &mut Random) -> Slot {
+    let most = mask(width);
+    let number = match random.below(8) {
+        0 => most,
+        1 => most.wrapping_add(1),
+        2 => random.number() as u32,
+        3 => 1,
+        4 => 0,
+        _ => random.number() as u32 & most,
+    };
+    Slot { unknown: random.chance(1, 8), number }
+}
+
+/// A slot for a value of the width.
+pub fn fitting_slot(width: u8, random: &mut Random) -> Slot {
+    loop {
+        let slot = slot(width, random);
+        if slot.value().fits(width) {
+            return slot;
+        }
+    }
+}
+
+/// A number below `count`, now and then one past it.
+fn index(count: usize, all: usize, random: &mut Random) -> usize {
+    match count == 0 || random.chance(1, 4) {
+        true => random.below(all),
+        false => random.below(count),
+    }
+}
+
+/// At the end of a counter or next to it.
+fn nearly_full(random: &mut Random) -> u32 {
+    u32::MAX - random.below(4) as u32
+}
+
+/// The state with one field changed: it may fit the module afterwards or not.
+pub fn disturb(state: &mut State, module: Option<&Module>, random: &mut Random) {
+    let sizes = Sizes::of(module);
+    match random.below(12) {
+        0..=3 => {
+            let variable = index(sizes.widths.len(), VALUES, random);
+            state.values[variable] = slot(sizes.width(variable), random);
+        }
+        4 | 5 => {
+            let register = index(sizes.registers, PENDING, random);
+            let slot = slot(sizes.width(sizes.inputs + register), random);
+            state.pending[register] = Pending { held: random.chance(3, 4), slot };
+        }
+        6 | 7 => {
+            let thread = index(sizes.threads, PLACES, random);
+            let place = match random.chance(3, 4) {
+                true => random.below(6) as u8,
+                false => random.byte(),
+            };
+            state.places[thread] = place;
+        }
+        8 | 9 => {
+            let wire = index(sizes.wires, MARKS, random);
+            state.due[wire] = !state.due[wire];
+        }
+        10 => state.time = nearly_full(random),
+        _ => state.count = nearly_full(random),
+    }
+}
+
+/// Gives every variable a known value.
+pub fn make_known(state: &mut State, module: &Module, random: &mut Random) {
+    for (slot, &width) in state.values.iter_mut().zip(&module.widths) {
+        *slot = Slot::known(fitting_slot(width, random).number & mask(width));
+    }
+}
+
+/// Puts anything into what isn't looked at: numbers under x, slots without a pending
+/// value, values and places past the sheet's.
+pub fn litter(state: &mut State, module: &Module, random: &mut Random) {
+    for (variable, slot) in state.values.iter_mut().enumerate() {
+        if variable >= module.widths.len() {
+            *slot = Slot { unknown: random.chance(1, 2), number: random.number() as u32 };
+        }
+    }
+    let pending = state.pending.iter_mut();
+    for pending in pending.filter(|pending| !pending.held) {
+        pending.slot = Slot { unknown: random.chance(1, 2), number: random.number() as u32 };
+    }
+    let slots = state.values.iter_mut().chain(state.pending.iter_mut().map(|p| &mut p.slot));
+    for slot in slots.filter(|slot| slot.unknown) {
+        slot.number = random.number() as u32;
+    }
+    for place in &mut state.places[module.threads.len()..] {
+        *place = random.byte();
+    }
+}
+
+/// Any state at all.
+pub fn noise(random: &mut Random) -> State {
+    let mut state = State::ZERO;
+    state.values = std::array::from_fn(|_| slot(8, random));
+    let pending = |_| Pending { held: random.chance(1, 16), slot: slot(8, random) };
+    state.pending = std::array::from_fn(pending);
+    state.places = std::array::from_fn(|_| random.byte());
+    state.due = std::array::from_fn(|_| random.chance(1, 16));
+    state.time = random.number() as u32;
+    state.count = random.number() as u32;
+    state
+}

@@ -1,0 +1,260 @@
+//! The replay program, and the random scripts for it.
+
+use reference::differ::difference;
+use reference::random::Random;
+use reference::replay::{LATER, Record, Script, replay};
+use reference::samples::FLIP_FLOP;
+use reference::script::script;
+use reference::state::{Slot, State};
+use reference::states::noise;
+use reference::tally::Tally;
+
+fn output(script: &[u8]) -> String {
+    let mut out = Vec::new();
+    replay(script, &mut out).expect("a list takes all");
+    String::from_utf8(out).expect("text")
+}
+
+fn lines(script: &[u8]) -> Vec<String> {
+    output(script).lines().map(String::from).collect()
+}
+
+/// The lines of records on the flip-flop's sheet.
+fn answers(records: &[Record]) -> Vec<String> {
+    lines(&Script::write(&FLIP_FLOP.sheet(), records))
+}
+
+fn instant(numbers: &[u32]) -> Record {
+    Record::Instant(numbers.iter().copied().map(Slot::known).collect())
+}
+
+// ---- what the records answer
+
+#[test]
+fn a_cycle_of_the_flip_flop() {
+    let found = answers(&[
+        Record::Read,
+        Record::Start,
+        Record::Plain(9),
+        instant(&[0, 7]),
+        instant(&[1, 7]),
+        Record::Choose(0),
+        Record::Choose(255),
+        Record::Run(vec![0, 255, 255, 0]),
+        Record::Plain(0),
+        instant(&[0, 7, 7]),
+        instant(&[0, 256]),
+        Record::Choose(0),
+        Record::Choose(1),
+    ]);
+    let expected = [
+        "read 0 0",
+        "start 0",
+        "plain 0 0 quiet",
+        "instant 0",
+        "instant 0",
+        "choose 0",
+        "choose 34",
+        "run 2 35",
+        "plain 0 0 quiet",
+        "instant 25",
+        "instant 25",
+        "choose 33",
+        "choose 22",
+    ];
+    assert_eq!(found, expected);
+}
+
+#[test]
+fn the_listing_in_hexadecimal() {
+    let found = answers(&[Record::List]);
+    let text: String = FLIP_FLOP.listing.bytes().map(|b| format!("{b:02x}")).collect();
+    assert_eq!(found, [format!("list {text}")]);
+    let found = lines(&Script::write(&[0], &[Record::List, Record::Read, Record::Start]));
+    assert_eq!(found, ["list 7265667573656420330a", "read 3 0", "start 3"]);
+}
+
+/// The state before the first record is all zero, which fits; a refused start leaves it.
+#[test]
+fn the_first_state() {
+    let zero = format!("state {}", "00".repeat(640));
+    assert_eq!(answers(&[Record::Dump])[0], zero);
+    let found = lines(&Script::write(&[], &[Record::Start, Record::Dump, Record::Plain(1)]));
+    assert_eq!(found, ["start 2".into(), zero, "plain 0 2 refused".into()]);
+    assert_eq!(answers(&[Record::Plain(1)]), ["plain 0 0 quiet"]);
+}
+
+/// A loaded state is printed as it stands, whatever it holds.
+#[test]
+fn states_are_printed_as_loaded() {
+    let mut random = Random::new(4);
+    for _ in 0..20 {
+        let state = noise(&mut random);
+        let saved = reference::saved::save(&state);
+        let text: String = saved[1..].iter().map(|b| format!("{b:02x}")).collect();
+        let found = answers(&[Record::Load(Box::new(state)), Record::Choose(0), Record::Dump]);
+        assert_eq!(found, ["load".into(), "choose 31".into(), format!("state {text}")]);
+    }
+}
+
+/// Any count of inputs is answered.
+#[test]
+fn instants_of_any_count() {
+    for count in 0..=255 {
+        let expected = if count == 2 { "instant 0" } else { "instant 25" };
+        assert_eq!(answers(&[Record::Start, instant(&vec![0; count])])[1], expected);
+    }
+}
+
+// ---- bad scripts
+
+#[test]
+fn heads() {
+    assert_eq!(output(&[]), "bad script\n");
+    assert_eq!(output(&[1]), "bad script\n");
+    assert_eq!(output(&[1, 0]), "bad script\n");
+    assert_eq!(output(&[1, 1, 0]), "bad script\n");
+    assert_eq!(output(&[1, 0, 0]), "");
+    assert_eq!(output(&[1, 0, 0, b'N']), "read 2 0\n");
+    for form in (0..=255).filter(|&form| form != 1) {
+        assert_eq!(output(&[form, 0, 0, b'N']), "bad script\n");
+    }
+    let long = [&[1, 255, 255][..], &[0; 65_535], b"N"].concat();
+    assert_eq!(output(&long), "read 1 8192\n");
+}
+
+#[test]
+fn letters() {
+    for letter in 0..=255 {
+        let found = output(&[&[1, 0, 0, b'N', letter][..], &[0; 640]].concat());
+        let answered = b"NQSCRPILD".contains(&letter);
+        let second = found.lines().nth(1).expect("two lines");
+        assert_eq!(second != "bad script", answered, "{letter}");
+        assert!(!answered || !LATER.contains(&letter));
+    }
+}
+
+/// A flag or mark other than 0 or 1 ends the run, wherever it stands.
+#[test]
+fn flags() {
+    let head = Script::write(&FLIP_FLOP.sheet(), &[]);
+    let load = |state: &[u8]| output(&[&head[..], b"L", state].concat());
+    let mut bytes = [0; 640];
+    let mut flags = 0;
+    for place in 0..640 {
+        bytes[place] = 2;
+        flags += usize::from(load(&bytes) == "bad script\n");
+        bytes[place] = 0;
+    }
+    assert_eq!(flags, 80 + 2 * 32 + 32);
+    assert_eq!(load(&bytes), "load\n");
+    // Also among inputs past the sixteenth.
+    let mut inputs = vec![0; 2 + 5 * 18];
+    inputs[..2].copy_from_slice(&[b'I', 18]);
+    assert_eq!(output(&[&head[..], &inputs].concat()), "instant 25\n");
+    inputs[2 + 5 * 17] = 2;
+    assert_eq!(output(&[&head[..], &inputs].concat()), "bad script\n");
+}
+
+/// The lines of earlier records stand whatever comes after.
+#[test]
+fn front_parts() {
+    for seed in 0..20 {
+        let script = script(seed);
+        let whole = lines(&script);
+        let step = script.len() / 40 + 1;
+        for length in (0..script.len()).step_by(step) {
+            let mut part = lines(&script[..length]);
+            if part.last().is_some_and(|line| line == "bad script") {
+                part.pop();
+            }
+            assert_eq!(part, whole[..part.len()]);
+        }
+    }
+}
+
+#[test]
+fn records_are_read_as_written() {
+    for seed in 0..50 {
+        let script = script(seed);
+        let read = Script::read(&script);
+        if let (Some(sheet), None) = (read.sheet, read.rest) {
+            assert_eq!(Script::write(sheet, &read.records), script);
+        }
+    }
+    let records = [
+        Record::Read,
+        Record::List,
+        Record::Start,
+        Record::Choose(200),
+        Record::Run((0..=255).cycle().take(65_535).collect()),
+        Record::Plain(0x1234),
+        Record::Instant(vec![Slot { unknown: true, number: 0xFEDC_BA98 }; 255]),
+        Record::Load(Box::new(State::start(5))),
+        Record::Dump,
+    ];
+    let script = Script::write(&[1, 2, 3], &records);
+    let read = Script::read(&script);
+    assert_eq!(
+        (read.sheet, &read.records[..], read.rest),
+        (Some(&[1, 2, 3][..]), &records[..], None)
+    );
+}
+
+// ---- random scripts
+
+/// Scripts meet every answer: each number of each call, and each of the plain run's words.
+#[test]
+fn every_answer_is_met() {
+    let mut tally = Tally::default();
+    for seed in 0..3000 {
+        tally.add(&output(&script(seed)));
+        if seed % 100 == 99 && tally.missing().is_empty() {
+            return;
+        }
+    }
+    panic!("never met: {}", tally.missing().join(", "));
+}
+
+#[test]
+fn a_seed_gives_one_script() {
+    assert!((0..10).all(|seed| script(seed) == script(seed)));
+    assert!((0..10).all(|seed| script(seed) != script(seed + 1)));
+}
+
+/// No script ends at a letter that is still to come.
+#[test]
+fn damaged_scripts() {
+    let mut damaged = 0;
+    for seed in 0..200 {
+        if let Some(rest) = Script::read(&script(seed)).rest {
+            damaged += 1;
+            assert!(!rest.first().is_some_and(|letter| LATER.contains(letter)));
+        }
+    }
+    assert!(damaged > 5, "{damaged}");
+}
+
+// ---- differences
+
+#[test]
+fn differences_are_named() {
+    let records = [Record::Start, Record::Choose(7), Record::Dump];
+    let script = Script::write(&FLIP_FLOP.sheet(), &records);
+    let reference = output(&script);
+    let differ = |other: &str| difference(&script, reference.as_bytes(), other.as_bytes());
+    assert_eq!(differ(&reference), None);
+    let report = differ(&reference.replace("choose 22", "choose 33")).expect("a difference");
+    let expected =
+        "line 2, record `choose 7`, after `start`\n  reference: choose 22\n  other: choose 33";
+    assert_eq!(report, expected);
+    // The count's first byte is the fourth from the end.
+    let end = reference.len() - 1;
+    let other = format!("{}01000000\n", &reference[..end - 8]);
+    let report = differ(&other).expect("a difference");
+    assert!(report.starts_with("line 3, record `state`, after `choose 7`"), "{report}");
+    assert!(report.ends_with("count: 00000000 and 01000000"), "{report}");
+    // A line too few.
+    let report = differ("start 0\n").expect("a difference");
+    assert!(report.ends_with("reference: choose 22\n  other: no line"), "{report}");
+}

@@ -1,0 +1,85 @@
+//! Modules and states, written short.
+
+use reference::encode::encode;
+use reference::module::{Edge, Expr, Module, Operator, Stmt, Term};
+use reference::sheet::{Refusal, read};
+use reference::state::{Slot, State};
+use reference::value::Value;
+
+pub const CLK: u8 = 0;
+
+pub fn v(variable: u8) -> Expr {
+    Expr::Variable(variable)
+}
+
+pub fn num(width: u8, value: u32) -> Expr {
+    Expr::Constant { width, value }
+}
+
+pub fn add(a: Expr, b: Expr) -> Expr {
+    Expr::Operation(Operator::Add, vec![a, b])
+}
+
+pub fn mux(condition: Expr, a: Expr, b: Expr) -> Expr {
+    Expr::Operation(Operator::Conditional, vec![condition, a, b])
+}
+
+pub fn set(target: u8, value: Expr) -> Stmt {
+    Stmt::Set(target, value)
+}
+
+pub fn later(target: u8, value: Expr) -> Stmt {
+    Stmt::Later(target, value)
+}
+
+/// `@(a or b ..)`
+pub fn any(variables: &[u8]) -> Stmt {
+    let term = |&variable| Term { edge: Edge::Any, variable };
+    Stmt::Wait(variables.iter().map(term).collect())
+}
+
+/// `@(posedge clk) ..`
+pub fn at_clk(statements: Vec<Stmt>) -> Stmt {
+    Stmt::sequence(Stmt::posedge(CLK), Stmt::list(statements))
+}
+
+/// A module by the widths of its inputs and registers and the widths and expressions of
+/// its wires, written as a sheet and read.
+pub fn module(
+    inputs: &[u8],
+    registers: &[u8],
+    wires: Vec<(u8, Expr)>,
+    threads: Vec<Stmt>,
+) -> Result<Module, Refusal> {
+    let wire_widths: Vec<u8> = wires.iter().map(|wire| wire.0).collect();
+    read(&encode(&Module {
+        inputs: inputs.len() as u8,
+        registers: registers.len() as u8,
+        widths: [inputs, registers, &wire_widths].concat(),
+        wires: wires.into_iter().map(|wire| wire.1).collect(),
+        threads,
+    }))
+}
+
+/// The state in which the variables from 0 up have these values, nothing is due and all
+/// places are 0.
+pub fn state(values: &[Option<u32>]) -> State {
+    let mut state = State::start(0);
+    for (slot, &value) in state.values.iter_mut().zip(values) {
+        *slot = value.map_or(Slot::X, Slot::known);
+    }
+    state
+}
+
+pub fn known(numbers: &[u32]) -> Vec<Slot> {
+    numbers.iter().copied().map(Slot::known).collect()
+}
+
+/// The values of the variables from 0 up, none for x.
+pub fn values(state: &State, count: usize) -> Vec<Option<u32>> {
+    let number = |slot: &Slot| match slot.value() {
+        Value::X => None,
+        Value::Known(number) => Some(number),
+    };
+    state.values[..count].iter().map(number).collect()
+}
