@@ -1,23 +1,13 @@
--- Laws of what the code works out on bytes: each way through `evalAt` and `skipAt`. Assumes nothing.
+-- Laws of what the code works out on bytes: each way through `evalAt`. Assumes nothing.
 use mathlib.Core.Path.{_≡_, refl, ap, _∙_}
 use mathlib.Core.List.{List}
 use Prim.Native.Nat.{ℕ, zero, suc, _+_, _-_, _≤_}
 use native.Mathlib.Numerals.{sub-one}
-use native.Mathlib.Omega.{arith}
 use lib.ListN.{length, getD, List·getD-eq-default}
 use borrow.Author.Tests.{ne-eqb}
 use Rattle.values.specs.declared.Value.{Value}
-use Rattle.sheet.specs.Reading.{word, wordOf}
 use Rattle.evaluation.specs.declared.Evaluated.{Evaluated}
-use Rattle.evaluation.specs.Bytes.{nothing, innerNode, nodeAt, evalAt, afterNode, skipAt}
-
--- ---- wordOf past the end
-
-pub wordOf-end : (s : List ℕ) (at : ℕ) → length s ≤ at → wordOf s at ≡ 0
-unfolding wordOf word
-wordOf-end s at h =
-    let past : (k : ℕ) → at ≤ k → getD s k 0 ≡ 0 = λ k l. List·getD-eq-default s 0 (omega arith) in
-    rw (past at (omega arith), past (at + 1) (omega arith), past (at + 2) (omega arith), past (at + 3) (omega arith))
+use Rattle.evaluation.specs.Bytes.{nothing, innerNode, nodeAt, evalAt}
 
 -- ---- a map past those of a case
 
@@ -30,12 +20,6 @@ pub nodeAt-inner : (operand : ℕ → Evaluated) (s ws : List ℕ) (env : ℕ �
     nodeAt operand s ws env m p ≡ innerNode operand m (getD s (p + 1) 0) (p + 2)
 unfolding nodeAt
 nodeAt-inner operand s ws env m p a b = simp (ne-eqb _ _ a, ne-eqb _ _ b)
-
-pub afterNode-none : (operand : ℕ → ℕ) (m p : ℕ) → (m ≡ 0x02 → ⊥) → (m ≡ 0x0C → ⊥) → (m ≡ 0x04 → ⊥) → (m ≡ 0x11 → ⊥) → (m ≡ 0x31 → ⊥) → (m ≡ 0x71 → ⊥) →
-    afterNode operand m p ≡ 0
-unfolding afterNode
-afterNode-none operand m p a b c d e f =
-    simp (ne-eqb _ _ a, ne-eqb _ _ b, ne-eqb _ _ c, ne-eqb _ _ d, ne-eqb _ _ e, ne-eqb _ _ f)
 
 -- ---- evalAt: no level left, a level left, no byte left
 
@@ -53,19 +37,3 @@ module _ (s ws : List ℕ) (env : ℕ → Value) (p : ℕ) where
   pub evalAt-end : (d : ℕ) → (d ≡ 0 → ⊥) → length s ≤ p → evalAt d s ws env p ≡ nothing
   unfolding nodeAt innerNode
   evalAt-end d h l = evalAt-node d h (List·getD-eq-default s 0 l)
-
--- ---- skipAt: the same ways
-
-module _ (s : List ℕ) (p : ℕ) where
-  pub skipAt-deep : (d : ℕ) → d ≡ 0 → skipAt d s p ≡ 0
-  unfolding skipAt
-  skipAt-deep d e = rw e refl
-
-  pub skipAt-node : (d : ℕ) {m : ℕ} → (d ≡ 0 → ⊥) → getD s p 0 ≡ m → skipAt d s p ≡ afterNode (skipAt (d - 1) s) m p
-  unfolding skipAt
-  skipAt-node zero h e = absurd (h refl)
-  skipAt-node (suc d) h e = rw (sub-one, e) refl
-
-  pub skipAt-end : (d : ℕ) → (d ≡ 0 → ⊥) → length s ≤ p → skipAt d s p ≡ 0
-  unfolding afterNode
-  skipAt-end d h l = skipAt-node d h (List·getD-eq-default s 0 l)

@@ -18,7 +18,7 @@ use Rattle.sheet.specs.Expression.{Expr, variable, constant, unknown, unary, bi
 use Rattle.sheet.proofs.Expression.{Reads, a-variable, a-constant, an-unknown, a-unary, a-binary, a-conditional, derive}
 use Rattle.evaluation.specs.declared.Evaluated.{Evaluated}
 use Rattle.evaluation.specs.Evaluation.{eval, reads}
-use Rattle.evaluation.specs.Bytes.{nothing, variableNode, unaryNode, binaryNode, conditionalNode, innerNode, nodeAt, evalAt, afterNode, skipAt}
+use Rattle.evaluation.specs.Bytes.{nothing, variableNode, unaryNode, binaryNode, conditionalNode, innerNode, nodeAt, evalAt}
 
 -- ---- evalAt is eval
 
@@ -37,39 +37,6 @@ evalAt-eval env (a-conditional m o c a b e) = rw (m, evalAt-eval env c, evalAt-e
 
 pub evalAt-read : (d : ℕ) (ws s : List ℕ) (env : ℕ → Value) (p : ℕ) {q : Parsed Expr} → readExpr d ws s p ≡ ok q → evalAt d s ws env p ≡ worth env q
 evalAt-read d ws s env p h = evalAt-eval env (derive ws s d p h)
-
--- ---- skipAt is the next place
-
--- One row of the table of maps.
-row : (t : Bool) (n r : ℕ) (a b : Evaluated) → n ≡ a .next → r ≡ b .next → pick t n r ≡ pick t a b .next
-row true n r a b h k = h
-row false n r a b h k = k
-
--- On any bytes the code skips to where it would have evaluated to.
-pub skipAt-evalAt : (s ws : List ℕ) (env : ℕ → Value) (d p : ℕ) → skipAt d s p ≡ evalAt d s ws env p .next
-unfolding skipAt afterNode evalAt nodeAt innerNode nothing variableNode unaryNode binaryNode conditionalNode
-skipAt-evalAt s ws env zero p = refl
-skipAt-evalAt s ws env (suc d) p =
-    let operand : ℕ → Evaluated = evalAt d s ws env in
-    let ih : (q : ℕ) → skipAt d s q ≡ operand q .next = skipAt-evalAt s ws env d in
-    let one = ih (p + 2) in
-    let two : skipAt d s (skipAt d s (p + 2)) ≡ operand (operand (p + 2) .next) .next = ap (skipAt d s) one ∙ ih (operand (p + 2) .next) in
-    let three = ap (skipAt d s) two ∙ ih (operand (operand (p + 2) .next) .next) in
-    let m = getD s p 0 in
-    row (eqb m 0x02) _ _ _ _ refl
-    (row (eqb m 0x0C) _ _ _ _ refl
-    (row (eqb m 0x04) _ _ _ _ refl
-    (row (eqb m 0x11) _ _ _ _ one
-    (row (eqb m 0x31) _ _ _ _ two
-    (row (eqb m 0x71) _ _ (conditionalNode operand (p + 2)) nothing three refl)))))
-
-pub skipAt-next : {ws s : List ℕ} {d p : ℕ} {q : Parsed Expr} → Reads ws s d p q → skipAt d s p ≡ q .next
-skipAt-next {ws} {s} {d} {p} r =
-    let env : ℕ → Value = λ v. Unknown in
-    skipAt-evalAt s ws env d p ∙ ap (λ (e : Evaluated). e .next) (evalAt-eval env r)
-
-pub skipAt-read : (d : ℕ) (ws s : List ℕ) (p : ℕ) {q : Parsed Expr} → readExpr d ws s p ≡ ok q → skipAt d s p ≡ q .next
-skipAt-read d ws s p h = skipAt-next (derive ws s d p h)
 
 -- ---- eval stays within the width
 

@@ -6,7 +6,7 @@ use Rattle.values.specs.declared.Value.{Value}
 use Rattle.values.specs.declared.Value.the-variants.{Known, Unknown}
 use Rattle.values.specs.Operators.{unaryWidth, binaryWidth, complement, sum, difference, flag, unaryKnown, unary, binaryKnown, binary, choice}
 use Rattle.sheet.specs.Reading.{word, wordOf}
-use Rattle.evaluation.specs.Bytes.{nothing, variableNode, unaryNode, binaryNode, conditionalNode, innerNode, nodeAt, evalAt, afterNode, skipAt}
+use Rattle.evaluation.specs.Bytes.{nothing, variableNode, unaryNode, binaryNode, conditionalNode, innerNode, nodeAt, evalAt}
 
 -- Variable 0 is the clock, 1 and 2 have width 4, 3 has width 8.
 abbrev widths : List ℕ
@@ -26,10 +26,6 @@ sum-bytes = 0x31 ∷ 6 ∷ 0x02 ∷ 1 ∷ 0x0C ∷ 4 ∷ 1 ∷ 0 ∷ 0 ∷ 0 ∷
 pub sample-sum : evalAt 16 sum-bytes widths env 0 ≡ record { value = Known 0; width = 4; next = 10 }
 unfolding evalAt nodeAt innerNode variableNode binaryNode wordOf word binary binaryKnown sum binaryWidth
 sample-sum = refl
-
-pub sample-skip : skipAt 16 sum-bytes 0 ≡ 10
-unfolding skipAt afterNode
-sample-skip = refl
 
 -- "8-bit x & 0 is x": v3 & 0.
 pub sample-x : evalAt 16 (0x31 ∷ 3 ∷ 0x02 ∷ 3 ∷ 0x0C ∷ 8 ∷ 0 ∷ 0 ∷ 0 ∷ 0 ∷ []) widths env 0 ≡ record { value = Unknown; width = 8; next = 10 }

@@ -60,20 +60,3 @@ nodeAt operand s ws env m p =
 unfoldable pub evalAt : ℕ → List ℕ → List ℕ → (ℕ → Value) → ℕ → Evaluated
 evalAt zero s ws env p = nothing
 evalAt (suc d) s ws env p = nodeAt (evalAt d s ws env) s ws env (getD s p 0) p
-
--- ---- skipAt: the place after the expression at p, with so many levels left; 0 where none stands
-
--- The place after the node with map m at p; `operand` gives the place after an operand.
-unfoldable pub afterNode : (ℕ → ℕ) → ℕ → ℕ → ℕ
-afterNode operand m p =
-    m is 0x02 then p + 2 else
-    m is 0x0C then p + 6 else
-    m is 0x04 then p + 2 else
-    m is 0x11 then operand (p + 2) else
-    m is 0x31 then operand (operand (p + 2)) else
-    m is 0x71 then operand (operand (operand (p + 2))) else
-    0
-
-unfoldable pub skipAt : ℕ → List ℕ → ℕ → ℕ
-skipAt zero s p = 0
-skipAt (suc d) s p = afterNode (skipAt d s) (getD s p 0) p

@@ -1,50 +1,18 @@
-// The value of an expression that stands in a sheet (document 01, "Values and pseudo-code"), and the place after it.
+// The value of an expression that stands in a sheet (document 01, "Values and pseudo-code").
 // Each function equals its definition in specs/Bytes for any bytes whatever: where the sheet's reader accepted
 // the expression, that is `eval` of its tree (proofs/Evaluation).
+use sheet::byte_at;
+use sheet::word_at;
 use values::Value;
 ghost use mathlib.Core.Path.{_≡_};
-ghost use lib.ListN.{getD};
 ghost use Rattle.values.specs.Planes.{valueAt};
-ghost use Rattle.sheet.specs.Reading.{word, wordOf};
-ghost use Rattle.evaluation.specs.Bytes.{nothing, variableNode, unaryNode, binaryNode, conditionalNode, innerNode, evalAt, skipAt};
+ghost use Rattle.evaluation.specs.Bytes.{nothing, variableNode, unaryNode, binaryNode, conditionalNode, innerNode, evalAt};
 
 // A value, the width of the expression that has it, and the place after that expression.
 pub struct Evaluated {
     pub value: Value,
     pub width: u8,
     pub next: usize,
-}
-
-// The byte at a place, 0 past the end.
-fn byte_at(s: &[u8], i: usize) -> u8
-    ensures { λ r. ⌜ r ≡ getD (now (s .entry)) i 0 ⌝ }
-{
-    if i < s.len() { s[i] } else { 0 }
-}
-
-// Four bytes as a number, low byte first.
-fn word(a: u8, b: u8, c: u8, d: u8) -> u32
-    ensures { λ r. ⌜ r ≡ word a b c d ⌝ }
-{
-    (a as u32) + 256 * (b as u32) + 65536 * (c as u32) + 16777216 * (d as u32)
-}
-
-// The number in the four bytes at a place.
-fn word_at(s: &[u8], at: usize) -> u32
-    ensures { λ r. ⌜ r ≡ wordOf (now (s .entry)) at ⌝ }
-{
-    if s.len() <= at {
-        return 0;
-    }
-    if s.len() - at < 4 {
-        return word(
-            s[at],
-            byte_at(s, at + 1),
-            byte_at(s, at + 2),
-            byte_at(s, at + 3),
-        );
-    }
-    word(s[at], s[at + 1], s[at + 2], s[at + 3])
 }
 
 // Where no expression stands.
@@ -201,35 +169,5 @@ pub fn eval_expr<'a>(
             next: at + 6,
         },
         _ => eval_inner(sheet, widths, value, unknown, map, field, rest, depth - 1),
-    }
-}
-
-// The place after the expression at a place, with so many levels left; 0 where none stands.
-pub fn skip_expr(sheet: &[u8], at: usize, depth: u8) -> usize
-    ensures { λ r. ⌜ r ≡ skipAt depth (now (sheet .entry)) at ⌝ }
-{
-    if depth == 0 {
-        return 0;
-    }
-    if sheet.len() <= at {
-        return 0;
-    }
-    let map = sheet[at];
-    let rest = at + 2;
-    match map {
-        0x02 => rest,
-        0x0C => at + 6,
-        0x04 => rest,
-        0x11 => skip_expr(sheet, rest, depth - 1),
-        0x31 => {
-            let second = skip_expr(sheet, rest, depth - 1);
-            skip_expr(sheet, second, depth - 1)
-        }
-        0x71 => {
-            let second = skip_expr(sheet, rest, depth - 1);
-            let third = skip_expr(sheet, second, depth - 1);
-            skip_expr(sheet, third, depth - 1)
-        }
-        _ => 0,
     }
 }

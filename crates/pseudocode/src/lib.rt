@@ -1,10 +1,10 @@
 // Pseudo-code: the instructions of a module's threads (document 01, "Values and pseudo-code").
 // A code table is filled once from a sheet that was accepted; `fetch` builds an instruction from it.
 use sheet::EdgeTerm;
+use sheet::byte_at;
 use values::Edge;
 ghost use mathlib.Core.Path.{_≡_};
 ghost use Prim.Native.Nat.{_+_};
-ghost use lib.ListN.{getD};
 ghost use Rattle.pseudocode.specs.Skipping.{skipAt};
 ghost use Rattle.pseudocode.specs.Filling.{firstWord, store, after, emit, filling, filled, fillAssign, fillSequence, fillIf, fillIfElse, fillWhile, fillForever, fillAt};
 ghost use Rattle.pseudocode.specs.Compiling.{threadCount, compileAt};
@@ -53,13 +53,6 @@ const LATER: u8 = 2;
 const GO: u8 = 3;
 
 const IFNOT: u8 = 4;
-
-// The byte at a place, 0 past the end.
-fn byte_at(sheet: &[u8], at: usize) -> u8
-    ensures { λ r. ⌜ r ≡ getD (now (sheet .entry)) at 0 ⌝ }
-{
-    if at < sheet.len() { sheet[at] } else { 0 }
-}
 
 // A byte as a place.
 fn wide(b: u8) -> usize

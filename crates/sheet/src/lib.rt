@@ -1,8 +1,8 @@
 // The sheet: bytes to module (document 01, "The sheet"), numbers 1 to 11.
-pub mod body;
+mod body;
 pub mod bytes;
 pub mod expr;
-pub mod head;
+mod head;
 pub mod stmt;
 
 pub use bytes::byte_at;

@@ -18,10 +18,10 @@ use Rattle.evaluation.proofs.+eval_binary+eval_conditional+eval_expr+ev
 use Rattle.evaluation.proofs.eval_unary.Reads as eval-unary
 use Rattle.evaluation.proofs.eval_unary.Kinds as eval-unary-kinds
 use Rattle.evaluation.proofs.+eval_binary+eval_conditional+eval_expr+eval_inner+eval_unary.Lts-eval_unary as eval-unary-lts
-use Rattle.evaluation.proofs.byte_at.Reads as byte-at-reads
+use Rattle.sheet.proofs.bytes.byte_at.Reads as byte-at-reads
 use Rattle.evaluation.proofs.eval_variable.Reads as eval-variable-reads
 use Rattle.evaluation.proofs.nothing.Reads as nothing-reads
-use Rattle.evaluation.proofs.word_at.Reads as word-at-reads
+use Rattle.sheet.proofs.bytes.word_at.Reads as word-at-reads
 use Rattle.values.proofs.binary.Reads as binary-reads
 use Rattle.values.proofs.binary_width.Reads as binary-width-reads
 use Rattle.values.proofs.choice.Reads as choice-reads

@@ -21,7 +21,7 @@ use Rattle.pseudocode.proofs.fill_while.Reads as fill-while
 use Rattle.pseudocode.proofs.fill_while.Kinds as fill-while-kinds
 use Rattle.pseudocode.proofs.+fill_forever+fill_if+fill_if_else+fill_sequence+fill_stmt+fill_while.Lts-fill_while as fill-while-lts
 use Rattle.pseudocode.proofs.after.Reads as after-reads
-use Rattle.pseudocode.proofs.byte_at.Reads as byte-at-reads
+use Rattle.sheet.proofs.bytes.byte_at.Reads as byte-at-reads
 use Rattle.pseudocode.proofs.emit.Reads as emit-reads
 use Rattle.pseudocode.proofs.fill_assign.Reads as fill-assign-reads
 use Rattle.pseudocode.proofs.skip_expr.Reads as skip-expr-reads

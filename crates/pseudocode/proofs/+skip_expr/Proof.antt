@@ -5,7 +5,7 @@ use borrow.Fn.PlainCycle.{Measures, is, falls, and}
 use Rattle.pseudocode.proofs.skip_expr.Reads as skip-expr
 use Rattle.pseudocode.proofs.skip_expr.Kinds as skip-expr-kinds
 use Rattle.pseudocode.proofs.+skip_expr.Lts-skip_expr as skip-expr-lts
-use Rattle.pseudocode.proofs.byte_at.Reads as byte-at-reads
+use Rattle.sheet.proofs.bytes.byte_at.Reads as byte-at-reads
 use Rattle.pseudocode.proofs.+skip_expr.{statement}
 use Rattle.pseudocode.proofs.+skip_expr.Tie.{close}
 use borrow.Author.Needs.{needs}
