@@ -36,7 +36,7 @@ pub fn word_at(s: &[u8], at: usize) -> u32
 }
 
 // A byte from low to high; outside, the number is met at that byte.
-pub fn read_within(sheet: &[u8], at: usize, low: u8, high: u8, number: u8) -> ByteRead
+pub(crate) fn read_within(sheet: &[u8], at: usize, low: u8, high: u8, number: u8) -> ByteRead
     ensures { λ r. ⌜ r ≡ byteAnswer (within low high number (now (sheet .entry)) at) ⌝ }
 {
     let end = sheet.len();
@@ -57,7 +57,7 @@ pub fn read_within(sheet: &[u8], at: usize, low: u8, high: u8, number: u8) -> By
 }
 
 // A byte that names one of the variables.
-pub fn read_name(sheet: &[u8], widths: &[u8], at: usize) -> ByteRead
+pub(crate) fn read_name(sheet: &[u8], widths: &[u8], at: usize) -> ByteRead
     ensures { λ r. ⌜ r ≡ byteAnswer (variableAt (now (widths .entry)) (now (sheet .entry)) at) ⌝ }
 {
     let end = sheet.len();

@@ -1,15 +1,12 @@
 // The sheet: bytes to module (document 01, "The sheet"), numbers 1 to 11.
 mod body;
 pub mod bytes;
-pub mod expr;
+mod expr;
 mod head;
-pub mod stmt;
+mod stmt;
 
 pub use bytes::byte_at;
 pub use bytes::word_at;
-pub use expr::located;
-pub use expr::read_expr;
-pub use stmt::read_stmt;
 use values::Edge;
 ghost use mathlib.Core.Path.{_≡_};
 ghost use Rattle.sheet.specs.Expression.{located};
