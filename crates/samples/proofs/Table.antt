@@ -3,7 +3,9 @@
 use mathlib.Core.Path.{_≡_}
 use Prim.Native.Nat.{ℕ}
 use mathlib.Core.Bool.{true, false}
-use mathlib.Core.List.{List, [], _∷_}
+use mathlib.Core.List.{List, [], _∷_, map}
+use lib.ListN.{replicate}
+use Rattle.values.specs.declared.Value.{Value}
 use Rattle.values.specs.declared.Value.the-variants.{Known, Unknown}
 use Rattle.values.specs.declared.Edge.the-variants.{Posedge}
 use Rattle.values.specs.Values.{holds}
@@ -15,6 +17,9 @@ use Rattle.sheet.specs.Statement.{assign, ifElse, size}
 use Rattle.pseudocode.proofs.Samples as pseudocode
 use Rattle.text.specs.Listing.{output}
 use Rattle.text.proofs.Samples as text
+use Rattle.state.specs.State.{valueOf, placeOf}
+use Rattle.events.specs.Calls.{started, runIn}
+use Rattle.events.proofs.Samples as events
 
 pub record Table : Type 0 where
   -- "Width 4: 15 + 1 = 0; 0 - 1 = 15."
@@ -31,6 +36,15 @@ pub record Table : Type 0 where
   pub 0-to-x : fires Posedge (Known 0) Unknown ≡ false
   -- "If-else of two assignments: size 4."
   pub if-else : (e x y : Expr) (a b : ℕ) → size (ifElse e (assign a x) (assign b y)) ≡ 4
+  -- "Register 5 assigned 5 wakes no thread": thread 1 waits for a change of it, and stays at its wait.
+  pub five-again : placeOf (runIn events.fives (2 ∷ 0 ∷ 0 ∷ 1 ∷ 2 ∷ 0 ∷ []) (started 1) .state) 1 ≡ 0
+  -- "Two threads `a <= b`, `b <= a`: swapped in any order": in each of the six orders of the choices after the rise.
+  pub swapped :
+      (x y : ℕ) →
+      map {B = Value × Value} (λ s. (valueOf s 1, valueOf s 2)) (events.reached events.swapping 5 (events.risen x y))
+      ≡ replicate 6 (Known y, Known x)
+  -- "Two pending values for one register: the second stands."
+  pub second-stands : valueOf (runIn events.twice (0 ∷ 0 ∷ 255 ∷ []) (started 0) .state) 1 ≡ Known 5
   -- The flip-flop sheet and its listing.
   pub flip-flop : output text.flipFlop ≡ text.lines ("threads 1" ∷ "0 0 wait 1 0" ∷ "0 1 later 2 v1" ∷ "0 2 go 0" ∷ [])
 
@@ -46,5 +60,8 @@ table =
       1-to-1 = values.sample-1-to-1;
       0-to-x = values.sample-0-to-x;
       if-else = λ e x y a b. pseudocode.sample-size e x y a b .0;
+      five-again = events.five-again .4;
+      swapped = λ x y. events.swapped-in-any-order x y .0;
+      second-stands = events.second-stands .3;
       flip-flop = text.samples .0;
     }

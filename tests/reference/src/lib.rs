@@ -20,6 +20,8 @@ pub mod generate;
 pub mod mutate;
 pub mod census;
 
+pub mod build;
+pub mod examples;
 pub mod lively;
 pub mod states;
 pub mod script;

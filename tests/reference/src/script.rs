@@ -95,7 +95,7 @@ impl Writer<'_> {
         for record in [Record::Dump, Record::Read, Record::List, Record::Start, Record::Dump] {
             self.call(record);
         }
-        for _ in 0..self.random.pick(&[5, 20, 40, 80]) {
+        for _ in 0..self.random.pick(&[40, 400, 800, 1000]) {
             let record = self.record();
             self.call(record);
         }

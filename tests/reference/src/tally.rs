@@ -12,7 +12,6 @@ pub struct Tally {
     /// By the plain run's word.
     verdicts: BTreeMap<String, u64>,
     bad_scripts: u64,
-    lines: u64,
 }
 
 /// The calls whose line has a number, and where it stands in the line.
@@ -37,7 +36,6 @@ impl Tally {
     }
 
     fn add_line(&mut self, line: &str) {
-        self.lines += 1;
         self.bad_scripts += u64::from(line == "bad script");
         let fields: Vec<&str> = line.split(' ').collect();
         if let Some((call, field)) = CALLS.into_iter().find(|call| call.0 == fields[0]) {
@@ -55,6 +53,11 @@ impl Tally {
 
     fn verdict(&self, verdict: Verdict) -> u64 {
         self.verdicts.get(verdict.word()).copied().unwrap_or(0)
+    }
+
+    /// How many calls were answered.
+    pub fn calls(&self) -> u64 {
+        self.numbers.values().sum()
     }
 
     /// The answers never met.
@@ -90,6 +93,6 @@ impl Display for Tally {
         for verdict in Verdict::ALL {
             write!(f, " {} {}", verdict.word(), self.verdict(verdict))?;
         }
-        write!(f, "; bad scripts {}; lines {}", self.bad_scripts, self.lines)
+        write!(f, "; bad scripts {}; calls {}", self.bad_scripts, self.calls())
     }
 }

@@ -1,12 +1,21 @@
-//! Prints a random script for the replay program: `script SEED`.
+//! Prints a script for the replay program: `script SEED` a random one, `script example N` that of example 3.2.N of
+//! source document 003.
 
 use std::io::{self, Write};
 
 fn main() -> io::Result<()> {
-    let seed = std::env::args().nth(1).and_then(|seed| seed.parse().ok());
-    let Some(seed) = seed else {
-        eprintln!("usage: script SEED");
+    let arguments: Vec<String> = std::env::args().skip(1).collect();
+    let number = arguments.last().and_then(|number| number.parse::<u64>().ok());
+    let script = match (&arguments[..], number) {
+        ([_], Some(seed)) => Some(reference::script::script(seed)),
+        ([word, _], Some(n @ 1..=8)) if word == "example" => {
+            Some(reference::examples::scripts().swap_remove(n as usize - 1))
+        }
+        _ => None,
+    };
+    let Some(script) = script else {
+        eprintln!("usage: script SEED | script example 1..8");
         std::process::exit(2);
     };
-    io::stdout().write_all(&reference::script::script(seed))
+    io::stdout().write_all(&script)
 }

@@ -10,7 +10,7 @@ use reference::simulator::{Simulator, Verdict};
 use reference::state::{Slot, State};
 use reference::states;
 
-use crate::build::{CLK, known, module, num, set, values};
+use reference::build::{CLK, known, module, num, set, values};
 
 fn rows(numbers: &[&[u32]]) -> Vec<Vec<Slot>> {
     numbers.iter().map(|row| known(row)).collect()

@@ -1,7 +1,6 @@
 //! The event simulator: document 01's samples, the examples of source document 003, and
 //! what holds in every state.
 
-mod build;
 mod orders;
 
 mod values;

@@ -5,7 +5,9 @@ use reference::module::{Edge, Expr, Operator, Stmt, Term};
 use reference::simulator::{Simulator, Verdict};
 use reference::state::{Pending, Slot, State};
 
-use crate::build::{CLK, add, any, at_clk, known, later, module, num, set, state, v, values};
+use reference::build::{
+    CLK, add, any, at_clk, known, later, module, num, set, state, v, values,
+};
 
 // ---- where IEEE 1364 decides over 003
 

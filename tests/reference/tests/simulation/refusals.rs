@@ -9,7 +9,7 @@ use reference::simulator::{Run, Simulator, Verdict};
 use reference::state::{Pending, Slot, State};
 use reference::states;
 
-use crate::build::{any, known, later, module, v};
+use reference::build::{any, known, later, module, v};
 
 /// Clock, input of 4 bits; register of 4 bits; wire of 4 bits. Thread 0 waits for the
 /// register, thread 1 for the input and assigns it later.

@@ -7,10 +7,10 @@ use reference::sheet::Refusal;
 use reference::simulator::Simulator;
 use reference::state::State;
 
-use crate::build::{
+use crate::orders::resting;
+use reference::build::{
     CLK, add, any, at_clk, known, later, module, mux, num, set, state, v, values,
 };
-use crate::orders::resting;
 
 type Values = Vec<Option<u32>>;
 

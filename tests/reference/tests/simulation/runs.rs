@@ -8,7 +8,7 @@ use reference::simulator::{PlainRun, Run, Simulator, Verdict};
 use reference::state::{Pending, Slot, State};
 use reference::states;
 
-use crate::build::{CLK, any, at_clk, known, later, module, num, set, v};
+use reference::build::{CLK, any, at_clk, known, later, module, num, set, v};
 
 /// Two wires, of which the second reads the first: one choice each, then quiet.
 #[test]

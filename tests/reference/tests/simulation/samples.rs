@@ -4,8 +4,10 @@ use reference::module::Stmt;
 use reference::simulator::{Simulator, Verdict};
 use reference::state::Slot;
 
-use crate::build::{CLK, add, any, at_clk, known, later, module, num, set, state, v, values};
 use crate::orders::resting;
+use reference::build::{
+    CLK, add, any, at_clk, known, later, module, num, set, state, v, values,
+};
 
 /// Register 5 assigned 5 wakes no thread; assigned over another value, it does.
 #[test]

@@ -1,10 +1,10 @@
 //! Modules and states, written short.
 
-use reference::encode::encode;
-use reference::module::{Edge, Expr, Module, Operator, Stmt, Term};
-use reference::sheet::{Refusal, read};
-use reference::state::{Slot, State};
-use reference::value::Value;
+use crate::encode::encode;
+use crate::module::{Edge, Expr, Module, Operator, Stmt, Term};
+use crate::sheet::{Refusal, read};
+use crate::state::{Slot, State};
+use crate::value::Value;
 
 pub const CLK: u8 = 0;
 
@@ -44,21 +44,31 @@ pub fn at_clk(statements: Vec<Stmt>) -> Stmt {
 }
 
 /// A module by the widths of its inputs and registers and the widths and expressions of
-/// its wires, written as a sheet and read.
+/// its wires, written as a sheet.
+pub fn sheet(
+    inputs: &[u8],
+    registers: &[u8],
+    wires: Vec<(u8, Expr)>,
+    threads: Vec<Stmt>,
+) -> Vec<u8> {
+    let wire_widths: Vec<u8> = wires.iter().map(|wire| wire.0).collect();
+    encode(&Module {
+        inputs: inputs.len() as u8,
+        registers: registers.len() as u8,
+        widths: [inputs, registers, &wire_widths].concat(),
+        wires: wires.into_iter().map(|wire| wire.1).collect(),
+        threads,
+    })
+}
+
+/// The same, read.
 pub fn module(
     inputs: &[u8],
     registers: &[u8],
     wires: Vec<(u8, Expr)>,
     threads: Vec<Stmt>,
 ) -> Result<Module, Refusal> {
-    let wire_widths: Vec<u8> = wires.iter().map(|wire| wire.0).collect();
-    read(&encode(&Module {
-        inputs: inputs.len() as u8,
-        registers: registers.len() as u8,
-        widths: [inputs, registers, &wire_widths].concat(),
-        wires: wires.into_iter().map(|wire| wire.1).collect(),
-        threads,
-    }))
+    read(&sheet(inputs, registers, wires, threads))
 }
 
 /// The state in which the variables from 0 up have these values, nothing is due and all

@@ -1,0 +1,5 @@
+pub mod Copying
+pub mod Going
+pub mod Course
+pub mod Answers
+pub mod Samples

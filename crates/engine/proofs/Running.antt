@@ -1,0 +1,189 @@
+-- Laws of runs: a run is its first choice and then the rest; and the choices that it accepts fit the count.
+use mathlib.Core.Path.{_≡_, refl, sym, ap, _∙_}
+use Prim.Native.Nat.{ℕ, zero, suc, _+_, _-_, _≤_, _<_}
+use native.Mathlib.Omega.{arith}
+use native.Mathlib.Numerals.{add-one}
+use native.Mathlib.Nat.{zero-add, add-zero}
+use mathlib.Core.Bool.{Bool, true, false, or-true}
+use mathlib.Core.List.{List, [], _∷_}
+use lib.ListN.{length, drop, getD, drop-of-length-le}
+use lib.Seq.{drop-cons}
+use lib.Dec.{eqb}
+use borrow.Author.Tests.{ne-eqb, eqb-true}
+use Rattle.values.specs.Values.{pick}
+use Rattle.masks.specs.Masks.{first, anyMark}
+use Rattle.engine.specs.Live.{Plan, Live}
+use Rattle.engine.specs.Acting.{Taken, taken, take}
+use Rattle.engine.proofs.Taking.{take-room}
+use Rattle.engine.specs.Running.{Run, run, onward, runList, busy, plainChoice, runPlain}
+
+-- ---- ahead: a run with k choices accepted before it
+
+abbrev pub ahead : ℕ → Run → Run
+ahead k r = run (r .accepted + k) (r .number) (r .left)
+
+pub ahead-zero : (r : Run) → ahead 0 r ≡ r
+ahead-zero r = ap (λ (m : ℕ). run m (r .number) (r .left)) (add-zero (r .accepted))
+
+ahead-one : (k : ℕ) (r : Run) → ahead k (run (r .accepted + 1) (r .number) (r .left)) ≡ ahead (k + 1) r
+ahead-one k r =
+    let e : r .accepted + 1 + k ≡ r .accepted + (k + 1) = omega arith in
+    ap (λ (m : ℕ). run m (r .number) (r .left)) e
+
+ahead-none : (k n : ℕ) (l : Live) → ahead k (run 0 n l) ≡ run k n l
+ahead-none k n l = ap (λ (m : ℕ). run m n l) (zero-add k)
+
+-- ---- onward
+
+module _ (i n : ℕ) (d : Live) (t : Taken) (r : Run) (e : taken n d ≡ t) where
+  onward-on : n ≡ 0 → ahead i (onward t r) ≡ ahead (i + 1) r
+  unfolding onward
+  onward-on h = rw (← e, h) (ahead-one i r)
+
+  onward-off : (n ≡ 0 → ⊥) → ahead i (onward t r) ≡ run i n d
+  unfolding onward
+  onward-off h = rw (← e, ne-eqb n 0 h) (ahead-none i n d)
+
+module _ (q : Plan) (count : ℕ) (l : Live) (i n : ℕ) (d : Live) where
+  -- ---- runList
+
+  module _ (cs : List ℕ) where
+    list-first : i < length cs → runList q (drop i cs) count l
+        ≡ onward (take q count (getD cs i 0) l)
+        (runList q (drop (i + 1) cs) (count + 1) (take q count (getD cs i 0) l .left))
+    unfolding runList
+    list-first h = rw (drop-cons cs i 0 h, add-one i)
+
+    pub list-on : i < length cs → taken n d ≡ take q count (getD cs i 0) l → n ≡ 0
+        → ahead i (runList q (drop i cs) count l) ≡ ahead (i + 1) (runList q (drop (i + 1) cs) (count + 1) d)
+    list-on h e z =
+        rw (list-first h)
+        (onward-on i n d _ _ e z
+        ∙ ap (λ (t : Taken). ahead (i + 1) (runList q (drop (i + 1) cs) (count + 1) (t .left))) (sym e))
+
+    pub list-off : i < length cs → taken n d ≡ take q count (getD cs i 0) l → (n ≡ 0 → ⊥)
+        → ahead i (runList q (drop i cs) count l) ≡ run i n d
+    list-off h e z = rw (list-first h) (onward-off i n d _ _ e z)
+
+  -- ---- runPlain
+
+  module _ (limit : ℕ) where
+    plain-first : i < limit → busy l ≡ true → runPlain q (limit - i) count l
+        ≡ onward (take q count (plainChoice q l) l)
+        (runPlain q (limit - (i + 1)) (count + 1) (take q count (plainChoice q l) l .left))
+    unfolding runPlain
+    plain-first h b =
+        let e : limit - i ≡ suc (limit - (i + 1)) = omega arith in
+        rw (e, b)
+
+    pub plain-on : i < limit → busy l ≡ true → taken n d ≡ take q count (plainChoice q l) l → n ≡ 0
+        → ahead i (runPlain q (limit - i) count l) ≡ ahead (i + 1) (runPlain q (limit - (i + 1)) (count + 1) d)
+    plain-on h b e z =
+        rw (plain-first h b)
+        (onward-on i n d _ _ e z
+        ∙ ap (λ (t : Taken). ahead (i + 1) (runPlain q (limit - (i + 1)) (count + 1) (t .left))) (sym e))
+
+    pub plain-off : i < limit → busy l ≡ true → taken n d ≡ take q count (plainChoice q l) l → (n ≡ 0 → ⊥)
+        → ahead i (runPlain q (limit - i) count l) ≡ run i n d
+    plain-off h b e z = rw (plain-first h b) (onward-off i n d _ _ e z)
+
+-- ---- runs that start and end
+
+pub plain-whole : (q : Plan) (count : ℕ) (l : Live) (limit : ℕ)
+    → ahead 0 (runPlain q (limit - 0) count l) ≡ runPlain q limit count l
+plain-whole q count l limit =
+    let e : limit - 0 ≡ limit = omega arith in
+    rw e (ahead-zero (runPlain q limit count l))
+
+module _ (q : Plan) (count : ℕ) (l : Live) (i : ℕ) where
+  pub list-end : (cs : List ℕ) → length cs ≤ i → ahead i (runList q (drop i cs) count l) ≡ run i 0 l
+  unfolding runList
+  list-end cs h = rw (drop-of-length-le cs h) (ahead-none i 0 l)
+
+  pub plain-end : (limit : ℕ) → limit ≤ i → ahead i (runPlain q (limit - i) count l) ≡ run i 0 l
+  unfolding runPlain
+  plain-end limit h =
+      let e : limit - i ≡ zero = omega arith in
+      rw e (ahead-none i 0 l)
+
+  pub plain-quiet : (limit : ℕ) → busy l ≡ false → ahead i (runPlain q (limit - i) count l) ≡ run i 0 l
+  unfolding runPlain
+  plain-quiet limit b = by (limit - i)
+    where
+      by : (m : ℕ) → ahead i (runPlain q m count l) ≡ run i 0 l
+      by zero = ahead-none i 0 l
+      by (suc m) = rw b (ahead-none i 0 l)
+
+-- ---- the choices that a run accepts fit the count
+
+module _ (t : Taken) (rest : Run) (count : ℕ) where
+  onward-count : (t .number ≡ 0 → count ≡ 4294967295 → ⊥) → count ≤ 4294967295
+      → (count + 1 ≤ 4294967295 → rest .accepted + (count + 1) ≤ 4294967295)
+      → onward t rest .accepted + count ≤ 4294967295
+  unfolding onward
+  onward-count h u k = by (eqb (t .number) 0) refl
+    where
+      by : (b : Bool) → eqb (t .number) 0 ≡ b
+          → pick b (run (rest .accepted + 1) (rest .number) (rest .left)) (run 0 (t .number) (t .left)) .accepted + count
+          ≤ 4294967295
+      by true e =
+          let n : count ≡ 4294967295 → ⊥ = h (eqb-true (t .number) 0 e) in
+          let m = k (omega arith) in
+          omega arith
+      by false e = omega arith
+
+either-count : (b : Bool) (r s : Run) (count : ℕ) → r .accepted + count ≤ 4294967295 → s .accepted + count ≤ 4294967295
+    → pick b r s .accepted + count ≤ 4294967295
+either-count true r s count h k = h
+either-count false r s count h k = k
+
+module _ (q : Plan) where
+  pub list-count : (cs : List ℕ) (count : ℕ) (l : Live) → count ≤ 4294967295
+      → runList q cs count l .accepted + count ≤ 4294967295
+  unfolding runList
+  list-count [] count l h = omega arith
+  list-count (c ∷ cs) count l h =
+      onward-count (take q count c l) _ count (λ e u. take-room q count u c l e) h
+      (λ k. list-count cs (count + 1) (take q count c l .left) k)
+
+  pub plain-count : (limit count : ℕ) (l : Live) → count ≤ 4294967295
+      → runPlain q limit count l .accepted + count ≤ 4294967295
+  unfolding runPlain
+  plain-count zero count l h = omega arith
+  plain-count (suc n) count l h =
+      let t = take q count (plainChoice q l) l in
+      either-count (busy l) (onward t (runPlain q n (count + 1) (t .left))) (run 0 0 l) count
+      (onward-count t _ count (λ e u. take-room q count u (plainChoice q l) l e) h
+      (λ k. plain-count n (count + 1) (t .left) k))
+      (omega arith)
+
+-- ---- busy
+
+module _ (l : Live) where
+  pub busy-thread : anyMark (l .scene .ready) ≡ true → true ≡ busy l
+  unfolding busy
+  busy-thread e = rw e
+
+  pub busy-wire : anyMark (l .scene .due) ≡ true → true ≡ busy l
+  unfolding busy
+  busy-wire e = rw (e, or-true (anyMark (l .scene .ready)))
+
+  pub busy-held : anyMark (l .scene .ready) ≡ false → anyMark (l .scene .due) ≡ false → anyMark (l .held) ≡ busy l
+  unfolding busy
+  busy-held e u = rw (e, u)
+
+-- ---- plainChoice
+
+module _ (q : Plan) (l : Live) where
+  pub choice-thread : anyMark (l .scene .ready) ≡ true → first (l .scene .ready) ≡ plainChoice q l
+  unfolding plainChoice
+  choice-thread e = rw e
+
+  pub choice-wire : anyMark (l .scene .ready) ≡ false → anyMark (l .scene .due) ≡ true
+      → q .shape .threads + first (l .scene .due) ≡ plainChoice q l
+  unfolding plainChoice
+  choice-wire e u = rw (e, u)
+
+  pub choice-commit : anyMark (l .scene .ready) ≡ false → anyMark (l .scene .due) ≡ false → 255 ≡ plainChoice q l
+  unfolding plainChoice
+  choice-commit e u = rw (e, u)

@@ -1,0 +1,7 @@
+pub mod Cycle
+pub mod Choices
+pub mod Steps
+pub mod Fits
+pub mod Runs
+pub mod Samples
+pub mod Accepted

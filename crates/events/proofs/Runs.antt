@@ -1,0 +1,429 @@
+-- Laws of the two runs (document 01: "A run over a list of choices ends at the first refused one and returns the number
+-- accepted. The plain run .. takes the lowest enabled item, else the commit. It says quiet exactly when the state reached is
+-- quiet, spent exactly when N choices ran and it isn't, and otherwise gives 36, met before the Nth."):
+--   runIn-append, runIn-stopped   a run over two lists, one after the other;
+--   chain-runIn, chain-runBy      the accepted choices, each a step from the state that the one before it left;
+--   runIn-choicesBy               a run that picks its choices is the run over the list of those that it took;
+--   plain-lowest, plain-commit    what the plain run picks;
+--   ended-plain                   how the plain run ends, and verdict-quiet, verdict-spent, verdict-stopped both ways;
+--   fits-runIn, fits-runBy        the state reached fits the sheet.
+-- Assumes nothing.
+use mathlib.Core.Path.{_≡_, refl, sym, ap, _∙_}
+use mathlib.Core.Logic.{_≢_, _↔_}
+use mathlib.Core.Bool.{Bool, true, false, _||_}
+use mathlib.Core.List.{List, [], _∷_, _++_}
+use Prim.Native.Nat.{ℕ, zero, suc, _+_, _≤_, _<_}
+use native.Mathlib.Decide.{ℕ-discrete}
+use native.Mathlib.Numerals.{add-one}
+use native.Mathlib.Omega.{arith}
+use lib.ListN.{length, getD, take}
+use lib.Seq.{length-take-le, take-length}
+use lib.Dec.{eqb}
+use borrow.Author.Tests.{not-false, eq-eqb, ne-eqb}
+use Rattle.values.specs.Values.{pick}
+use Rattle.sheet.specs.Expression.{Expr}
+use Rattle.sheet.specs.Module.{Module}
+use Rattle.state.specs.declared.State.{State}
+use Rattle.state.specs.State.{Shaped}
+use Rattle.soundness.specs.Soundness.{Sound}
+use Rattle.events.specs.declared.Chosen.{Chosen}
+use Rattle.events.specs.declared.Ran.{Ran}
+use Rattle.events.specs.declared.Verdict.the-variants.{Quiet, Spent, Stopped}
+use Rattle.events.specs.declared.Rested.{Rested}
+use Rattle.events.specs.Cycle.{items, anyBelow, enabled, anyEnabled, anyPending, quiet}
+use Rattle.events.specs.Calls.{spend, refusal, chooseIn, onward, runIn, resting, runBy, choicesBy, lowest, plainChoice}
+use Rattle.events.specs.Steps.{Step}
+use Rattle.events.proofs.Cycle.{absurd-bool, or-left, or-right, none-below}
+use Rattle.events.proofs.Choices.{full, spend-full, spend-zero, none-enabled, some-pending, Ready, commit-ready, ready-item, refusal-ready, number-chooseIn, state-refused, shaped-chooseIn}
+use Rattle.events.proofs.Steps.{step-chooseIn}
+use Rattle.events.proofs.Fits.{Fits, fits-chooseIn}
+
+-- ---- one choice more
+
+module _ (r : Chosen) (rest : Ran) where
+  pub onward-accepted :
+      r .number ≡ 0 → onward r rest ≡ record { accepted = rest .accepted + 1; number = rest .number; state = rest .state }
+  unfolding onward
+  onward-accepted h = rw h
+
+  pub onward-refused : r .number ≢ 0 → onward r rest ≡ record { accepted = 0; number = r .number; state = r .state }
+  unfolding onward
+  onward-refused h = rw (ne-eqb (r .number) 0 h)
+
+module _ (st : State) (r : Chosen) (rest : Rested) where
+  pub resting-accepted :
+      r .number ≡ 0 → resting st r rest ≡ record { accepted = rest .accepted + 1; verdict = rest .verdict; state = rest .state }
+  unfolding resting
+  resting-accepted h = rw h
+
+  pub resting-refused : r .number ≢ 0 → resting st r rest ≡ record { accepted = 0; verdict = Stopped (r .number); state = st }
+  unfolding resting
+  resting-refused h = rw (ne-eqb (r .number) 0 h)
+
+-- ---- a run over two lists, one after the other
+
+-- Two runs as one: the second from the state that the first reached.
+unfoldable pub joined : Ran → Ran → Ran
+joined a b = record { accepted = a .accepted + b .accepted; number = b .number; state = b .state }
+
+module _ (a b : Ran) (z : _≡_ {A = ℕ} (a .accepted) 0) where
+  joined-zero : joined a b ≡ b
+  unfolding joined
+  joined-zero =
+      let e : a .accepted + b .accepted ≡ b .accepted = omega arith in
+      λ i. record { accepted = e i; number = b .number; state = b .state }
+
+joined-suc :
+    (a b : Ran) →
+    _≡_ {A = Ran} (record { accepted = joined a b .accepted + 1; number = joined a b .number; state = joined a b .state })
+    (joined (record { accepted = a .accepted + 1; number = a .number; state = a .state }) b)
+unfolding joined
+joined-suc a b =
+    let e : a .accepted + b .accepted + 1 ≡ a .accepted + 1 + b .accepted = omega arith in
+    λ i. record { accepted = e i; number = b .number; state = b .state }
+
+module _ (m : Module Expr) (ds : List ℕ) where
+  -- The second run goes on from where the first ended, if nothing stopped that.
+  pub runIn-append :
+      (cs : List ℕ) (st : State) → runIn m cs st .number ≡ 0 →
+      runIn m (cs ++ ds) st ≡ joined (runIn m cs st) (runIn m ds (runIn m cs st .state))
+  unfolding runIn
+  runIn-append [] st h = sym (joined-zero (runIn m [] st) (runIn m ds st) refl)
+  runIn-append (c ∷ cs) st h = by (ℕ-discrete (r .number) 0) (runIn-append cs (r .state))
+    where
+      r : Chosen
+      r = chooseIn m st c
+
+      rest : Ran
+      rest = runIn m cs (r .state)
+
+      by : Dec (r .number ≡ 0) → (rest .number ≡ 0 → runIn m (cs ++ ds) (r .state) ≡ joined rest (runIn m ds (rest .state))) →
+          onward r (runIn m (cs ++ ds) (r .state)) ≡ joined (onward r rest) (runIn m ds (onward r rest .state))
+      by (yes z) ih =
+          let e = onward-accepted r rest z in
+          rw (onward-accepted r (runIn m (cs ++ ds) (r .state)) z, e, ih (rw e at h)) (joined-suc rest (runIn m ds (rest .state)))
+      by (no z) ih = absurd (z (rw (onward-refused r rest z) at h))
+
+  -- A run that was stopped is the whole run.
+  pub runIn-stopped : (cs : List ℕ) (st : State) → runIn m cs st .number ≢ 0 → runIn m (cs ++ ds) st ≡ runIn m cs st
+  unfolding runIn
+  runIn-stopped [] st h = absurd (h refl)
+  runIn-stopped (c ∷ cs) st h = by (ℕ-discrete (r .number) 0) (runIn-stopped cs (r .state))
+    where
+      r : Chosen
+      r = chooseIn m st c
+
+      rest : Ran
+      rest = runIn m cs (r .state)
+
+      by : Dec (r .number ≡ 0) → (rest .number ≢ 0 → runIn m (cs ++ ds) (r .state) ≡ rest) →
+          onward r (runIn m (cs ++ ds) (r .state)) ≡ onward r rest
+      by (yes z) ih = rw (ih (rw (onward-accepted r rest z) at h))
+      by (no z) ih = onward-refused r (runIn m (cs ++ ds) (r .state)) z ∙ sym (onward-refused r rest z)
+
+-- ---- the accepted choices as steps
+
+-- Steps one after the other, each from the state that the one before it left.
+pub data Chain (m : Module Expr) : State → List ℕ → State → Type 0 where
+  done : {st : State} → Chain m st [] st
+  after : {old mid new : State} {c : ℕ} {cs : List ℕ} → Step m old mid c → Chain m mid cs new → Chain m old (c ∷ cs) new
+
+-- How a run over a list ended: all were accepted, or the next one was refused.
+pub data Over (m : Module Expr) (cs : List ℕ) (r : Ran) : Type 0 where
+  all-ran : r .number ≡ 0 → r .accepted ≡ length cs → Over m cs r
+  refused : r .accepted < length cs → r .number ≢ 0 → r .number ≡ refusal m (r .state) (getD cs (r .accepted) 0) → Over m cs r
+
+module _ (m : Module Expr) where
+  pub over-runIn : (cs : List ℕ) (st : State) → Over m cs (runIn m cs st)
+  unfolding runIn
+  over-runIn [] st = all-ran refl refl
+  over-runIn (c ∷ cs) st = by (ℕ-discrete (r .number) 0) (over-runIn cs (r .state))
+    where
+      r : Chosen
+      r = chooseIn m st c
+
+      rest : Ran
+      rest = runIn m cs (r .state)
+
+      on : Over m cs rest → Over m (c ∷ cs) (record { accepted = rest .accepted + 1; number = rest .number; state = rest .state })
+      on (all-ran n a) = all-ran n (omega arith)
+      on (refused l z n) = refused (omega arith) z (n ∙ (rw (add-one (rest .accepted)) refl))
+
+      by : Dec (r .number ≡ 0) → Over m cs rest → Over m (c ∷ cs) (onward r rest)
+      by (yes z) ih = rw (onward-accepted r rest z) (on ih)
+      by (no z) ih = rw (onward-refused r rest z) (refused (omega arith) z (rw (state-refused m st c z) (number-chooseIn m st c)))
+
+  module _ (w : Sound m) where
+    pub chain-runIn :
+        (cs : List ℕ) (st : State) → Shaped st → Chain m st (take (runIn m cs st .accepted) cs) (runIn m cs st .state)
+    unfolding runIn
+    chain-runIn [] st s = done
+    chain-runIn (c ∷ cs) st s = by (ℕ-discrete (r .number) 0) (chain-runIn cs (r .state) (shaped-chooseIn m st c s))
+      where
+        r : Chosen
+        r = chooseIn m st c
+
+        rest : Ran
+        rest = runIn m cs (r .state)
+
+        by : Dec (r .number ≡ 0) → Chain m (r .state) (take (rest .accepted) cs) (rest .state) →
+            Chain m st (take (onward r rest .accepted) (c ∷ cs)) (onward r rest .state)
+        by (yes z) ih =
+            rw (onward-accepted r rest z, add-one (rest .accepted)) (after (step-chooseIn m w st s c z) ih)
+        by (no z) ih =
+            rw (onward-refused r rest z, state-refused m st c z) done
+
+    pub shaped-runIn : (cs : List ℕ) (st : State) → Shaped st → Shaped (runIn m cs st .state)
+    unfolding runIn
+    shaped-runIn [] st s = s
+    shaped-runIn (c ∷ cs) st s = by (ℕ-discrete (r .number) 0) (shaped-runIn cs (r .state) (shaped-chooseIn m st c s))
+      where
+        r : Chosen
+        r = chooseIn m st c
+
+        rest : Ran
+        rest = runIn m cs (r .state)
+
+        by : Dec (r .number ≡ 0) → Shaped (rest .state) → Shaped (onward r rest .state)
+        by (yes z) ih = rw (onward-accepted r rest z) ih
+        by (no z) ih = rw (onward-refused r rest z) (shaped-chooseIn m st c s)
+
+    pub fits-runIn : (cs : List ℕ) (st : State) → Shaped st → Fits m st → Fits m (runIn m cs st .state)
+    unfolding runIn
+    fits-runIn [] st s f = f
+    fits-runIn (c ∷ cs) st s f =
+        by (ℕ-discrete (r .number) 0) (fits-runIn cs (r .state) (shaped-chooseIn m st c s) (fits-chooseIn m w st s f c))
+      where
+        r : Chosen
+        r = chooseIn m st c
+
+        rest : Ran
+        rest = runIn m cs (r .state)
+
+        by : Dec (r .number ≡ 0) → Fits m (rest .state) → Fits m (onward r rest .state)
+        by (yes z) ih = rw (onward-accepted r rest z) ih
+        by (no z) ih = rw (onward-refused r rest z) (fits-chooseIn m w st s f c)
+
+-- ---- a run that picks its choices: it is the run over the list of those that it took
+
+module _ (m : Module Expr) (next : State → ℕ) where
+  pub runIn-choicesBy :
+      (n : ℕ) (st : State) →
+      runIn m (choicesBy m next n st) st
+      ≡ record { accepted = runBy m next n st .accepted; number = 0; state = runBy m next n st .state }
+  unfolding runIn runBy choicesBy
+  runIn-choicesBy zero st = refl
+  runIn-choicesBy (suc n) st = by (quiet m st) (ℕ-discrete (r .number) 0) (runIn-choicesBy n (r .state))
+    where
+      r : Chosen
+      r = chooseIn m st (next st)
+
+      cs : List ℕ
+      cs = choicesBy m next n (r .state)
+
+      rest : Rested
+      rest = runBy m next n (r .state)
+
+      still : Rested
+      still = record { accepted = 0; verdict = Quiet; state = st }
+
+      by : (q : Bool) → Dec (r .number ≡ 0) →
+          runIn m cs (r .state) ≡ record { accepted = rest .accepted; number = 0; state = rest .state } →
+          runIn m (pick q [] (pick (eqb (r .number) 0) (next st ∷ cs) [])) st
+          ≡ record {
+            accepted = (pick q still (resting st r rest)) .accepted;
+            number = 0;
+            state = (pick q still (resting st r rest)) .state;
+          }
+      by true z ih = refl
+      by false (yes z) ih =
+          rw (resting-accepted st r rest z, eq-eqb (r .number) 0 z) (onward-accepted r (runIn m cs (r .state)) z ∙ (rw ih refl))
+      by false (no z) ih = rw (resting-refused st r rest z, ne-eqb (r .number) 0 z)
+
+  pub length-choicesBy : (n : ℕ) (st : State) → length (choicesBy m next n st) ≡ runBy m next n st .accepted
+  unfolding runBy choicesBy
+  length-choicesBy zero st = refl
+  length-choicesBy (suc n) st = by (quiet m st) (ℕ-discrete (r .number) 0) (length-choicesBy n (r .state))
+    where
+      r : Chosen
+      r = chooseIn m st (next st)
+
+      cs : List ℕ
+      cs = choicesBy m next n (r .state)
+
+      rest : Rested
+      rest = runBy m next n (r .state)
+
+      by : (q : Bool) → Dec (r .number ≡ 0) → length cs ≡ rest .accepted →
+          length (pick q [] (pick (eqb (r .number) 0) (next st ∷ cs) []))
+          ≡ (pick q (record { accepted = 0; verdict = Quiet; state = st }) (resting st r rest)) .accepted
+      by true z ih = refl
+      by false (yes z) ih = rw (resting-accepted st r rest z, eq-eqb (r .number) 0 z) (omega arith)
+      by false (no z) ih = rw (resting-refused st r rest z, ne-eqb (r .number) 0 z)
+
+  module _ (w : Sound m) (n : ℕ) (st : State) (s : Shaped st) where
+    pub chain-runBy : Chain m st (choicesBy m next n st) (runBy m next n st .state)
+    chain-runBy =
+        let cs = choicesBy m next n st in
+        rw (runIn-choicesBy n st, sym (length-choicesBy n st), take-length cs) at (chain-runIn m w cs st s)
+
+    pub shaped-runBy : Shaped (runBy m next n st .state)
+    shaped-runBy = rw (runIn-choicesBy n st) at (shaped-runIn m w (choicesBy m next n st) st s)
+
+    pub fits-runBy : Fits m st → Fits m (runBy m next n st .state)
+    fits-runBy f = rw (runIn-choicesBy n st) at (fits-runIn m w (choicesBy m next n st) st s f)
+
+-- ---- the counters: one more for each accepted choice
+
+module _ (m : Module Expr) where
+  pub count-chain : {old new : State} {cs : List ℕ} → Chain m old cs new → new .count ≡ old .count + length cs
+  count-chain done = omega arith
+  count-chain (after s h) = let x = count-chain h in omega (arith, s .count)
+
+  pub time-chain : {old new : State} {cs : List ℕ} → Chain m old cs new → new .time ≡ old .time
+  time-chain done = refl
+  time-chain (after s h) = time-chain h ∙ s .time
+
+  module _ (w : Sound m) (st : State) (s : Shaped st) where
+    pub count-runIn : (cs : List ℕ) → runIn m cs st .state .count ≡ st .count + runIn m cs st .accepted
+    count-runIn cs = by (over-runIn m cs st)
+      where
+        n : ℕ
+        n = runIn m cs st .accepted
+
+        within : n ≤ length cs → runIn m cs st .state .count ≡ st .count + n
+        within l = rw (length-take-le n cs l) at (count-chain (chain-runIn m w cs st s))
+
+        by : Over m cs (runIn m cs st) → runIn m cs st .state .count ≡ st .count + n
+        by (all-ran z a) = within (omega arith)
+        by (refused l z e) = within (omega arith)
+
+    pub time-runIn : (cs : List ℕ) → runIn m cs st .state .time ≡ st .time
+    time-runIn cs = time-chain (chain-runIn m w cs st s)
+
+    pub count-runBy :
+        (next : State → ℕ) (n : ℕ) → runBy m next n st .state .count ≡ st .count + runBy m next n st .accepted
+    count-runBy next n = rw (length-choicesBy m next n st) at (count-chain (chain-runBy m next w n st s))
+
+    pub time-runBy : (next : State → ℕ) (n : ℕ) → runBy m next n st .state .time ≡ st .time
+    time-runBy next n = time-chain (chain-runBy m next w n st s)
+
+-- ---- the plain choice: "takes the lowest enabled item, else the commit"
+
+module _ (f : ℕ → Bool) where
+  pub lowest-none : (n other : ℕ) → anyBelow n f ≡ false → lowest n f other ≡ other
+  unfolding lowest anyBelow
+  lowest-none zero other h = refl
+  lowest-none (suc n) other h =
+      lowest-none n (pick (f n) n other) (or-left (anyBelow n f) (f n) h) ∙ (rw (or-right (anyBelow n f) (f n) h) refl)
+
+  pub lowest-some :
+      (n other : ℕ) → anyBelow n f ≡ true →
+      (lowest n f other < n) × (f (lowest n f other) ≡ true) × ((k : ℕ) → k < lowest n f other → f k ≡ false)
+  unfolding lowest anyBelow
+  lowest-some zero other h = absurd-bool h refl
+  lowest-some (suc n) other h = by (anyBelow n f) refl (lowest-some n (pick (f n) n other)) h
+    where
+      k : ℕ
+      k = lowest n f (pick (f n) n other)
+
+      by : (t : Bool) → anyBelow n f ≡ t →
+          (anyBelow n f ≡ true → (k < n) × (f k ≡ true) × ((j : ℕ) → j < k → f j ≡ false)) → (t || f n) ≡ true →
+          (k < suc n) × (f k ≡ true) × ((j : ℕ) → j < k → f j ≡ false)
+      by true e ih q = let s = ih e in (omega (arith, s .0), s .1, s .2)
+      by false e ih q =
+          let z : k ≡ n = lowest-none n (pick (f n) n other) e ∙ (rw q refl) in
+          (omega arith, rw z q, λ j l. none-below f n e j (omega arith))
+
+module _ (m : Module Expr) (st : State) where
+  pub plain-lowest :
+      anyEnabled m st ≡ true →
+      (plainChoice m st < items m) × (enabled m st (plainChoice m st) ≡ true)
+      × ((c : ℕ) → c < plainChoice m st → enabled m st c ≡ false)
+  unfolding plainChoice anyEnabled
+  plain-lowest h = lowest-some (enabled m st) (items m) 255 h
+
+  pub plain-commit : anyEnabled m st ≡ false → plainChoice m st ≡ 255
+  unfolding plainChoice anyEnabled
+  plain-commit h = lowest-none (enabled m st) (items m) 255 h
+
+  -- In a state that isn't quiet it is ready: nothing but 36 refuses it.
+  pub plain-ready : quiet m st ≡ false → Ready m st (plainChoice m st)
+  unfolding quiet
+  plain-ready h = by (anyEnabled m st) refl (not-false (anyEnabled m st || anyPending m st) h)
+    where
+      by : (t : Bool) → anyEnabled m st ≡ t → (t || anyPending m st) ≡ true → Ready m st (plainChoice m st)
+      by true e q = let p = plain-lowest e in ready-item m st (plainChoice m st) (p .0) (p .1)
+      by false e q =
+          let p = some-pending m st q in
+          rw (plain-commit e) (commit-ready (none-enabled m st e) (p .0) (p .1) (p .2))
+
+  pub plain-refusal : Sound m → quiet m st ≡ false → chooseIn m st (plainChoice m st) .number ≡ spend (st .count)
+  plain-refusal w h = number-chooseIn m st (plainChoice m st) ∙ refusal-ready m st w (plain-ready h)
+
+-- ---- how the plain run ends
+
+pub data Ended (m : Module Expr) (n : ℕ) (r : Rested) : Type 0 where
+  at-rest : r .verdict ≡ Quiet → quiet m (r .state) ≡ true → r .accepted ≤ n → Ended m n r
+  spent : r .verdict ≡ Spent → quiet m (r .state) ≡ false → r .accepted ≡ n → Ended m n r
+  stopped : r .verdict ≡ Stopped 36 → quiet m (r .state) ≡ false → r .accepted < n → r .state .count ≡ full → Ended m n r
+
+module _ (m : Module Expr) (w : Sound m) where
+  ended-zero :
+      (st : State) (q : Bool) → quiet m st ≡ q →
+      Ended m 0 (record { accepted = 0; verdict = pick q Quiet Spent; state = st })
+  ended-zero st true h = at-rest refl h (omega arith)
+  ended-zero st false h = spent refl h refl
+
+  ended-suc :
+      (n : ℕ) (r : Rested) → Ended m n r →
+      Ended m (suc n) (record { accepted = r .accepted + 1; verdict = r .verdict; state = r .state })
+  ended-suc n r (at-rest v q a) = at-rest v q (omega arith)
+  ended-suc n r (spent v q a) = spent v q (omega arith)
+  ended-suc n r (stopped v q a c) = stopped v q (omega arith) c
+
+  pub ended-plain : (n : ℕ) (st : State) → Ended m n (runBy m (plainChoice m) n st)
+  unfolding runBy
+  ended-plain zero st = ended-zero st (quiet m st) refl
+  ended-plain (suc n) st = by (quiet m st) refl (ended-plain n (r .state))
+    where
+      r : Chosen
+      r = chooseIn m st (plainChoice m st)
+
+      rest : Rested
+      rest = runBy m (plainChoice m) n (r .state)
+
+      room : quiet m st ≡ false → Dec (st .count ≡ full) → Ended m n rest → Ended m (suc n) (resting st r rest)
+      room q (yes e) ih =
+          let z : r .number ≡ 36 = plain-refusal m st w q ∙ ap spend e ∙ spend-full in
+          rw (resting-refused st r rest (λ x. omega arith)) (stopped (ap Stopped z) q (omega arith) e)
+      room q (no d) ih =
+          let z : r .number ≡ 0 = plain-refusal m st w q ∙ spend-zero (st .count) d in
+          rw (resting-accepted st r rest z) (ended-suc n rest ih)
+
+      by : (q : Bool) → quiet m st ≡ q → Ended m n rest →
+          Ended m (suc n) (pick q (record { accepted = 0; verdict = Quiet; state = st }) (resting st r rest))
+      by true q ih = at-rest refl q (omega arith)
+      by false q ih = room q (ℕ-discrete (st .count) full) ih
+
+-- ---- the verdicts, both ways
+
+module _ (m : Module Expr) (n : ℕ) (r : Rested) where
+  -- "It says quiet exactly when the state reached is quiet"
+  pub verdict-quiet : Ended m n r → (r .verdict ≡ Quiet) ↔ (quiet m (r .state) ≡ true)
+  verdict-quiet (at-rest v q a) = (λ e. q, λ e. v)
+  verdict-quiet (spent v q a) = (λ e. cc, λ e. absurd-bool e q)
+  verdict-quiet (stopped v q a c) = (λ e. cc, λ e. absurd-bool e q)
+
+  -- "spent exactly when N choices ran and it isn't"
+  pub verdict-spent : Ended m n r → (r .verdict ≡ Spent) ↔ ((r .accepted ≡ n) × (quiet m (r .state) ≡ false))
+  verdict-spent (at-rest v q a) = (λ e. (cc, cc), λ e. absurd-bool q (e .1))
+  verdict-spent (spent v q a) = (λ e. (a, q), λ e. v)
+  verdict-spent (stopped v q a c) = (λ e. (cc, cc), λ e. absurd (omega (arith, e .0)))
+
+  -- "and otherwise gives 36, met before the Nth"
+  pub verdict-stopped :
+      Ended m n r → (r .verdict ≡ Stopped 36) ↔ ((r .accepted < n) × (quiet m (r .state) ≡ false))
+  verdict-stopped (at-rest v q a) = (λ e. let z : _≡_ {A = ℕ} 0 1 = cc in absurd (omega arith), λ e. absurd-bool q (e .1))
+  verdict-stopped (spent v q a) = (λ e. let z : _≡_ {A = ℕ} 0 1 = cc in absurd (omega arith), λ e. absurd (omega (arith, e .0)))
+  verdict-stopped (stopped v q a c) = (λ e. (a, q), λ e. v)

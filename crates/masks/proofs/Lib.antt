@@ -1,0 +1,4 @@
+pub mod Digits
+pub mod Masks
+pub mod Loops
+pub mod Samples

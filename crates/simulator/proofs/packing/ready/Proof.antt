@@ -1,0 +1,63 @@
+-- `simulator::packing::ready` meets its contract. The loop's invariant: the marks so far are those of the threads below `i`.
+-- Assumes nothing.
+use borrow.Author.Needs.{needs}
+use mathlib.Core.Path.{_≡_, sym, ap, _∙_}
+use mathlib.Core.Logic.{⊎-elim}
+use Prim.Native.Nat.{ℕ, _+_, _≤_, _-_}
+use native.Mathlib.Omega.{arith}
+use borrow.Author.Tests.{not-true, not-false}
+use Rattle.masks.specs.Masks.{bits}
+use Rattle.simulator.specs.Filled.{readyBelow}
+use Rattle.simulator.proofs.Unpacked.{ready-none, ready-off, ready-on, eight-most}
+use Rattle.simulator.proofs.packing.ready.Statement.{statement}
+use Rattle.simulator.proofs.packing.ready.Tie as tie
+use Rattle.simulator.proofs.packing.ready.Reads as reads
+use Rattle.simulator.proofs.packing.ready.Lts as lts
+
+abbrev Inv-loop : tie.InvT-loop
+Inv-loop sheet code places threads n m₀ i₀ m i = (i ≤ n) × (bits m ≡ readyBelow sheet code places i)
+
+abbrev μ-loop : tie.MeasureT-loop
+μ-loop sheet code places threads n m₀ i₀ m i = n - i
+
+loop-holds : tie.Need-loop-holds Inv-loop μ-loop
+loop-holds c = (omega arith, ready-none _ _ _)
+
+element-copy-out-waits : tie.Need-element-copy-out-waits Inv-loop μ-loop
+element-copy-out-waits c = omega (arith, c .before .before .eight .ensures, eight-most (c .before .before .before .before .args .threads))
+
+loop-again : tie.Need-loop-again Inv-loop μ-loop
+loop-again c =
+    let a = c .before .before .before .before .before .before .before .args in
+    let l = c .before .before .before .before .loop in
+    let w = c .before .waits in
+    let next : bits (c .if1 .m) ≡ readyBelow (a .sheet .now) (a .code .now) (a .places .now) (l .i + 1) =
+    ⊎-elim
+    (λ t. rw (t .2) (ready-on _ _ _ (l .i) (l .m) (l .inv .1) _ (sym (w .ensures) ∙ not-true _ (t .0 .taken)) (t .1 .ensures)))
+    (λ t. rw (t .1) (ready-off _ _ _ (l .i) (l .m) (l .inv .1) (sym (w .ensures) ∙ not-false _ (t .0 .left))))
+    (c .if1 .came) in
+    (omega arith, next)
+
+returns : tie.Need-returns Inv-loop μ-loop
+returns c =
+    let a = c .before .before .before .before .args in
+    let l = c .before .loop in
+    let e : l .i ≡ c .before .before .eight .result = omega arith in
+    l .inv .1 ∙ ap (λ (n : ℕ). readyBelow (a .sheet .now) (a .code .now) (a .places .now) n) (e ∙ c .before .before .eight .ensures)
+
+pub ready-spec : {M : Type 1} → statement M
+ready-spec =
+    tie.close
+    (tie.spec
+    Inv-loop
+    μ-loop
+    (λ c κs. search needs)
+    loop-holds
+    (λ c. search needs)
+    element-copy-out-waits
+    (λ c κs. search needs)
+    (λ c κs. search needs)
+    (λ c. search needs)
+    (λ c. search needs)
+    loop-again
+    returns)

@@ -1,0 +1,12 @@
+-- `simulator::planning::shape_of` meets its contract. Assumes nothing.
+use mathlib.Core.Path.{refl}
+use Rattle.simulator.specs.Filled.{shapeOf}
+use Rattle.simulator.proofs.planning.shape_of.Statement.{statement}
+use Rattle.simulator.proofs.planning.shape_of.Tie as tie
+
+returns : tie.Need-returns
+unfolding shapeOf
+returns c = refl
+
+pub shape-of-spec : {M : Type 1} → statement M
+shape-of-spec = tie.close (tie.spec returns)

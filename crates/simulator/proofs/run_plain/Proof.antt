@@ -1,0 +1,44 @@
+-- `simulator::run_plain` meets its contract: each way through the code is a law of proofs/Answers. Assumes nothing.
+use borrow.Author.Needs.{needs}
+use Prim.Native.Nat.{_≤_}
+use native.Mathlib.Omega.{arith}
+use Rattle.state.proofs.Accessors.{shaped-good}
+use Rattle.simulator.specs.Filled.{widthsEnd}
+use Rattle.simulator.proofs.Plan.{widths-start}
+use Rattle.simulator.proofs.Answers.{plain-refused, plain-accepted, widths-end-inside}
+use Rattle.simulator.proofs.run_plain.Statement.{statement}
+use Rattle.simulator.proofs.run_plain.Tie as tie
+
+returns : tie.Need-returns
+returns c = plain-refused _ _ (c .before .before .read .ensures) _ (c .if1 .taken) _
+
+sub-widths : tie.Need-sub-widths
+sub-widths c = omega (arith, c .widths-end .ensures, widths-start (c .before .before .before .before .before .before .before .before .read .result .layout))
+
+part-widths-start : tie.Need-part-widths-start
+part-widths-start c = omega (arith, c .widths-end .ensures, widths-start (c .before .before .before .before .before .before .before .before .read .result .layout))
+
+part-widths-end : tie.Need-part-widths-end
+part-widths-end c =
+    omega (arith, c .widths-end .ensures, widths-end-inside _ _ (c .before .before .before .before .before .before .before .before .read .ensures) (c .before .before .before .before .before .before .before .before .before .before .args .st) (c .before .before .before .before .before .before .if1 .left))
+
+returns-2 : tie.Need-returns-2
+returns-2 c =
+    let f = c .before .before .before .before .before .before .before .before .before .before .fill .ensures in
+    plain-accepted _ _ (c .before .before .before .before .before .before .before .before .before .before .before .before .before .before .before .before .before .read .ensures) (c .before .before .before .before .before .before .before .before .before .before .before .before .before .before .before .before .before .before .before .args .st) (c .before .before .before .before .before .before .before .before .before .before .before .before .before .before .before .if1 .left) (shaped-good (c .before .before .before .before .before .before .before .before .before .before .before .before .before .before .before .before .before .before .before .args .st) (c .before .before .before .before .before .before .before .before .before .before .before .before .before .before .before .before .before .before .before .good .1 .0)) _ _ _ _ _ _ (c .before .before .before .before .before .before .before .before .before .widths-end .ensures)
+    (c .before .before .before .before .before .before .shape-of .ensures) (f .0) (f .1 .0) (f .1 .1 .0) (f .1 .1 .1) _ _ (c .run-plain .ensures)
+
+pub run-plain-spec : {M : Type 1} → statement M
+run-plain-spec =
+    tie.close
+    (tie.spec
+    (λ c κs. search needs)
+    returns
+    (λ c κs. search needs)
+    (λ c κs. search needs)
+    sub-widths
+    part-widths-start
+    part-widths-end
+    (λ c κs. search needs)
+    (λ c κs. search needs)
+    returns-2)

@@ -1,0 +1,200 @@
+// The event simulator (document 01, "The simulation cycle"): start, choose, run, run_plain, instant.
+// Each public call equals its definition in events' specs/Calls, for every sheet, state, choice, list and input.
+mod calls;
+pub mod packing;
+pub mod planning;
+
+use events::Chosen;
+use events::Inputs;
+use events::Ran;
+use events::Rested;
+use events::Verdict;
+use planning::fill;
+use planning::shape_of;
+use planning::widths_end;
+use state::State;
+ghost use mathlib.Core.Path.{_≡_};
+ghost use Rattle.events.specs.Calls.{dueBelow, started, start, choose, runList, runPlain, instant};
+
+// ---- start
+
+// The marks of the wires below n, and of no others.
+fn due_below(n: u8) -> [bool; 32]
+    ensures { λ r. ⌜ r ≡ dueBelow n ⌝ }
+{
+    let mut due: u32 = 0;
+    let mut k: u8 = 0;
+    while k < n {
+        due = masks::with(due, k as usize);
+        k += 1;
+    }
+    masks::flags(due)
+}
+
+// The state at the start of a sheet with so many wires.
+fn started(wires: u8) -> State
+    ensures { λ r. ⌜ r ≡ started wires ⌝ }
+{
+    State {
+        value: [0u32; 80],
+        unknown: [true; 80],
+        pending: [0u32; 32],
+        unsure: [false; 32],
+        held: [false; 32],
+        places: [0u8; 8],
+        due: due_below(wires),
+        time: 0,
+        count: 0,
+    }
+}
+
+// The state at the start. Where the sheet is refused, that of a sheet without wires.
+pub fn start(sheet: &[u8]) -> Chosen
+    ensures { λ r. ⌜ r ≡ start (now (sheet .entry)) ⌝ }
+{
+    let read = sheet::read(sheet);
+    Chosen {
+        number: read.number,
+        state: started(read.layout.wires),
+    }
+}
+
+// ---- the calls
+
+// A choice: an item by its number, or 255 for the commit.
+pub fn choose(sheet: &[u8], st: State, c: u8) -> Chosen
+    ensures { λ r. ⌜ r ≡ choose (now (sheet .entry)) st c ⌝ }
+{
+    let read = sheet::read(sheet);
+    if read.number != 0 {
+        return Chosen {
+            number: read.number,
+            state: st,
+        };
+    }
+    let layout = read.layout;
+    let mut code = [0u16; 4096];
+    let mut readers = [0u32; 80];
+    let mut watched = [false; 80];
+    let sizes = fill(sheet, layout, &mut code, &mut readers, &mut watched);
+    let end = widths_end(layout);
+    let widths = &sheet[4..end];
+    let starts = layout.starts;
+    let shape = shape_of(layout);
+    calls::choose(
+        sheet,
+        widths,
+        &code,
+        &readers,
+        &watched,
+        &starts,
+        &sizes,
+        shape,
+        st,
+        c,
+    )
+}
+
+// A run over a list of choices. It ends at the first refused one.
+pub fn run(sheet: &[u8], st: State, choices: &[u8]) -> Ran
+    ensures { λ r. ⌜ r ≡ runList (now (sheet .entry)) st (now (choices .entry)) ⌝ }
+{
+    let read = sheet::read(sheet);
+    if read.number != 0 {
+        return Ran {
+            accepted: 0,
+            number: read.number,
+            state: st,
+        };
+    }
+    let layout = read.layout;
+    let mut code = [0u16; 4096];
+    let mut readers = [0u32; 80];
+    let mut watched = [false; 80];
+    let sizes = fill(sheet, layout, &mut code, &mut readers, &mut watched);
+    let end = widths_end(layout);
+    let widths = &sheet[4..end];
+    let starts = layout.starts;
+    let shape = shape_of(layout);
+    calls::run(
+        sheet,
+        widths,
+        &code,
+        &readers,
+        &watched,
+        &starts,
+        &sizes,
+        shape,
+        st,
+        choices,
+    )
+}
+
+// The plain run of at most `limit` choices: it takes the lowest enabled item, else the commit.
+pub fn run_plain(sheet: &[u8], st: State, limit: u16) -> Rested
+    ensures { λ r. ⌜ r ≡ runPlain (now (sheet .entry)) st limit ⌝ }
+{
+    let read = sheet::read(sheet);
+    if read.number != 0 {
+        return Rested {
+            accepted: 0,
+            verdict: Verdict::Stopped(read.number),
+            state: st,
+        };
+    }
+    let layout = read.layout;
+    let mut code = [0u16; 4096];
+    let mut readers = [0u32; 80];
+    let mut watched = [false; 80];
+    let sizes = fill(sheet, layout, &mut code, &mut readers, &mut watched);
+    let end = widths_end(layout);
+    let widths = &sheet[4..end];
+    let starts = layout.starts;
+    let shape = shape_of(layout);
+    calls::run_plain(
+        sheet,
+        widths,
+        &code,
+        &readers,
+        &watched,
+        &starts,
+        &sizes,
+        shape,
+        st,
+        limit,
+    )
+}
+
+// An instant: all inputs are set as one change, and the time goes on.
+pub fn instant(sheet: &[u8], st: State, a: Inputs) -> Chosen
+    ensures { λ r. ⌜ r ≡ instant (now (sheet .entry)) st a ⌝ }
+{
+    let read = sheet::read(sheet);
+    if read.number != 0 {
+        return Chosen {
+            number: read.number,
+            state: st,
+        };
+    }
+    let layout = read.layout;
+    let mut code = [0u16; 4096];
+    let mut readers = [0u32; 80];
+    let mut watched = [false; 80];
+    let sizes = fill(sheet, layout, &mut code, &mut readers, &mut watched);
+    let end = widths_end(layout);
+    let widths = &sheet[4..end];
+    let starts = layout.starts;
+    let shape = shape_of(layout);
+    calls::instant(
+        sheet,
+        widths,
+        &code,
+        &readers,
+        &watched,
+        &starts,
+        &sizes,
+        shape,
+        st,
+        a,
+    )
+}

@@ -1,0 +1,4 @@
+pub mod Expression
+pub mod Instructions
+pub mod Module
+pub mod Soundness

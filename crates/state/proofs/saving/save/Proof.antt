@@ -1,0 +1,30 @@
+-- `state::saving::save` meets its contract: its stores, one after the other, are those of the saved form. Assumes nothing.
+use mathlib.Core.Path.{_∙_}
+use borrow.Author.Needs.{needs}
+use Rattle.state.proofs.Stores.{saved-sets}
+use Rattle.state.proofs.saving.save.Statement.{statement}
+use Rattle.state.proofs.saving.save.Tie as tie
+
+returns : tie.Need-returns
+returns c =
+    let marks = c .before .before .before .before in
+    let places = marks .before .before .before .before in
+    let slots = places .before .before .before .before in
+    let values = slots .before .before .before .before .before .before in
+    let a = values .before .before .before .before .before .args in
+    c .put-word2 .ensures
+    ∙ rw (c .before .before .put-word .ensures, marks .put-marks .ensures, places .put-places .ensures)
+    (rw (slots .put-slots .ensures, values .put-values .ensures) (saved-sets (a .t1) (a .out .now)))
+
+pub save-spec : {M : Type 1} → statement M
+save-spec =
+    tie.close
+    (tie.spec
+    (λ c. search needs)
+    (λ c κs. search needs)
+    (λ c κs. search needs)
+    (λ c κs. search needs)
+    (λ c κs. search needs)
+    (λ c κs. search needs)
+    (λ c κs. search needs)
+    returns)

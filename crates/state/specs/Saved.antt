@@ -1,0 +1,140 @@
+-- The saved form of a state: one byte that names the form, and 640 bytes of state. "Multi-byte numbers are low byte first."
+use Prim.Native.Nat.{ℕ, zero, suc, _+_, _*_, _/_, _%_, _<_}
+use mathlib.Core.Bool.{Bool, true, false, _&&_}
+use mathlib.Core.List.{List, [], _∷_, _++_}
+use mathlib.Core.Option.{Option, none, some}
+use lib.Dec.{leb, eqb}
+use lib.ListN.{length, getD, replicate}
+use Rattle.values.specs.Values.{pick}
+use Rattle.sheet.specs.Reading.{wordOf}
+use Rattle.state.specs.declared.State.{State}
+use Rattle.state.specs.declared.Loaded.{Loaded}
+
+-- ---- rows, one after the other
+
+-- The bytes of row 0, row 1, .., row n - 1.
+unfoldable pub rows : ℕ → (ℕ → List ℕ) → List ℕ
+rows zero f = []
+rows (suc n) f = rows n f ++ f n
+
+-- The list of f 0, f 1, .., f (n - 1).
+unfoldable pub listOf : {A : Type 0} → ℕ → (ℕ → A) → List A
+listOf zero f = []
+listOf (suc n) f = listOf n f ++ (f n ∷ [])
+
+-- Does the test hold of 0, 1, .., n - 1?
+unfoldable pub allBelow : ℕ → (ℕ → Bool) → Bool
+allBelow zero f = true
+allBelow (suc n) f = allBelow n f && f n
+
+-- ---- saved: the bytes of a state
+
+unfoldable pub flagByte : Bool → ℕ
+flagByte b = pick b 1 0
+
+unfoldable pub wordBytes : ℕ → List ℕ
+wordBytes n = n % 256 ∷ n / 256 % 256 ∷ n / 65536 % 256 ∷ n / 16777216 % 256 ∷ []
+
+-- "80 values": "A value is 5 bytes: 1 for x or 0 for a known number, then four bytes of number (handed on as they stand,
+-- also under x)."
+unfoldable pub valueRow : List ℕ → List Bool → ℕ → List ℕ
+valueRow ns xs v = flagByte (getD xs v false) ∷ wordBytes (getD ns v 0)
+
+unfoldable pub valueBytes : List ℕ → List Bool → List ℕ
+valueBytes ns xs = rows 80 (valueRow ns xs)
+
+-- "32 pending slots (1 byte, 0 none or 1 held, then a value)"
+unfoldable pub slotRow : List Bool → List ℕ → List Bool → ℕ → List ℕ
+slotRow hs ns xs r = flagByte (getD hs r false) ∷ valueRow ns xs r
+
+unfoldable pub slotBytes : List Bool → List ℕ → List Bool → List ℕ
+slotBytes hs ns xs = rows 32 (slotRow hs ns xs)
+
+-- "8 places (1 byte each)"
+unfoldable pub placeRow : List ℕ → ℕ → List ℕ
+placeRow ps i = getD ps i 0 ∷ []
+
+unfoldable pub placeBytes : List ℕ → List ℕ
+placeBytes ps = rows 8 (placeRow ps)
+
+-- "32 marks (0 or 1)"
+unfoldable pub markRow : List Bool → ℕ → List ℕ
+markRow ds k = flagByte (getD ds k false) ∷ []
+
+unfoldable pub markBytes : List Bool → List ℕ
+markBytes ds = rows 32 (markRow ds)
+
+-- The form's number is 1. "time and count (4 bytes each): 640 bytes"
+unfoldable pub saved : State → List ℕ
+saved st =
+    1 ∷ valueBytes (st .value) (st .unknown)
+    ++ slotBytes (st .held) (st .pending) (st .unsure)
+    ++ placeBytes (st .places)
+    ++ markBytes (st .due)
+    ++ wordBytes (st .time)
+    ++ wordBytes (st .count)
+
+-- ---- loaded: the state that bytes are the saved form of
+
+-- A list of bytes; past the end `getD` gives 0.
+abbrev pub Bytes : List ℕ → Type 0
+Bytes b = (i : ℕ) → getD b i 0 < 256
+
+unfoldable pub isFlag : List ℕ → ℕ → Bool
+isFlag b at = leb (getD b at 0) 1
+
+unfoldable pub flagAt : List ℕ → ℕ → Bool
+flagAt b at = eqb (getD b at 0) 1
+
+-- Value v stands at 1 + 5 v, slot r at 401 + 6 r, the places from 593, the marks from 601, time at 633, count at 637.
+unfoldable pub valueFlags : List ℕ → Bool
+valueFlags b = allBelow 80 (λ v. isFlag b (1 + 5 * v))
+
+unfoldable pub slotFlags : List ℕ → Bool
+slotFlags b = allBelow 32 (λ r. isFlag b (401 + 6 * r) && isFlag b (402 + 6 * r))
+
+unfoldable pub markFlags : List ℕ → Bool
+markFlags b = allBelow 32 (λ k. isFlag b (601 + k))
+
+-- Bytes of another length, form or flag are no state.
+unfoldable pub isSaved : List ℕ → Bool
+isSaved b = eqb (length b) 641 && eqb (getD b 0 0) 1 && valueFlags b && slotFlags b && markFlags b
+
+unfoldable pub stateIn : List ℕ → State
+stateIn b =
+    record {
+      value = listOf 80 (λ v. wordOf b (2 + 5 * v));
+      unknown = listOf 80 (λ v. flagAt b (1 + 5 * v));
+      pending = listOf 32 (λ r. wordOf b (403 + 6 * r));
+      unsure = listOf 32 (λ r. flagAt b (402 + 6 * r));
+      held = listOf 32 (λ r. flagAt b (401 + 6 * r));
+      places = listOf 8 (λ i. getD b (593 + i) 0);
+      due = listOf 32 (λ k. flagAt b (601 + k));
+      time = wordOf b 633;
+      count = wordOf b 637;
+    }
+
+unfoldable pub loaded : List ℕ → Option State
+loaded b = pick (isSaved b) (some (stateIn b)) none
+
+-- ---- what `load` answers
+
+-- Every number 0 and every flag down.
+unfoldable pub zeroState : State
+zeroState =
+    record {
+      value = replicate 80 0;
+      unknown = replicate 80 false;
+      pending = replicate 32 0;
+      unsure = replicate 32 false;
+      held = replicate 32 false;
+      places = replicate 8 0;
+      due = replicate 32 false;
+      time = 0;
+      count = 0;
+    }
+
+-- Where nothing is found, the state says nothing: it is the one with every number 0.
+unfoldable pub loadedAnswer : Option State → Loaded
+loadedAnswer (some st) = record { found = true; state = st }
+loadedAnswer none = record { found = false; state = zeroState }

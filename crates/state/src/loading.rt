@@ -1,0 +1,230 @@
+// A state out of its saved form.
+use super::Loaded;
+use super::State;
+use sheet::byte_at;
+use sheet::word_at;
+ghost use mathlib.Core.Path.{_≡_};
+ghost use Prim.Native.Nat.{_+_, _*_};
+ghost use lib.ListN.{getD};
+ghost use Rattle.sheet.specs.Reading.{wordOf};
+ghost use Rattle.state.specs.Saved.{isFlag, valueFlags, slotFlags, markFlags, isSaved};
+ghost use Rattle.state.specs.Saved.{flagAt, listOf, stateIn, zeroState, loaded, loadedAnswer};
+
+// ---- are these bytes the saved form of a state?
+
+// Does a flag stand at a place?
+fn is_flag(bytes: &[u8], at: usize) -> bool
+    ensures { λ r. ⌜ r ≡ isFlag (now (bytes .entry)) at ⌝ }
+{
+    byte_at(bytes, at) <= 1
+}
+
+fn value_flags(bytes: &[u8]) -> bool
+    ensures { λ r. ⌜ r ≡ valueFlags (now (bytes .entry)) ⌝ }
+{
+    let mut v = 0;
+    while v < 80 {
+        if !is_flag(bytes, 1 + 5 * v) {
+            return false;
+        }
+        v += 1;
+    }
+    true
+}
+
+fn slot_flags(bytes: &[u8]) -> bool
+    ensures { λ r. ⌜ r ≡ slotFlags (now (bytes .entry)) ⌝ }
+{
+    let mut r = 0;
+    while r < 32 {
+        if !is_flag(bytes, 401 + 6 * r) {
+            return false;
+        }
+        if !is_flag(bytes, 402 + 6 * r) {
+            return false;
+        }
+        r += 1;
+    }
+    true
+}
+
+fn mark_flags(bytes: &[u8]) -> bool
+    ensures { λ r. ⌜ r ≡ markFlags (now (bytes .entry)) ⌝ }
+{
+    let mut k = 0;
+    while k < 32 {
+        if !is_flag(bytes, 601 + k) {
+            return false;
+        }
+        k += 1;
+    }
+    true
+}
+
+fn is_saved(bytes: &[u8]) -> bool
+    ensures { λ r. ⌜ r ≡ isSaved (now (bytes .entry)) ⌝ }
+{
+    if bytes.len() != 641 {
+        return false;
+    }
+    if byte_at(bytes, 0) != 1 {
+        return false;
+    }
+    if !value_flags(bytes) {
+        return false;
+    }
+    if !slot_flags(bytes) {
+        return false;
+    }
+    mark_flags(bytes)
+}
+
+// ---- the parts of the state
+
+// Is the flag at a place up?
+fn flag_at(bytes: &[u8], at: usize) -> bool
+    ensures { λ r. ⌜ r ≡ flagAt (now (bytes .entry)) at ⌝ }
+{
+    byte_at(bytes, at) == 1
+}
+
+fn value_in(bytes: &[u8]) -> [u32; 80]
+    ensures { λ r. ⌜ r ≡ listOf 80 (λ v. wordOf (now (bytes .entry)) (2 + 5 * v)) ⌝ }
+{
+    let mut a = [0u32; 80];
+    let mut v = 0;
+    while v < 80 {
+        a[v] = word_at(bytes, 2 + 5 * v);
+        v += 1;
+    }
+    a
+}
+
+fn unknown_in(bytes: &[u8]) -> [bool; 80]
+    ensures { λ r. ⌜ r ≡ listOf 80 (λ v. flagAt (now (bytes .entry)) (1 + 5 * v)) ⌝ }
+{
+    let mut a = [false; 80];
+    let mut v = 0;
+    while v < 80 {
+        a[v] = flag_at(bytes, 1 + 5 * v);
+        v += 1;
+    }
+    a
+}
+
+fn pending_in(bytes: &[u8]) -> [u32; 32]
+    ensures { λ r. ⌜ r ≡ listOf 32 (λ k. wordOf (now (bytes .entry)) (403 + 6 * k)) ⌝ }
+{
+    let mut a = [0u32; 32];
+    let mut r = 0;
+    while r < 32 {
+        a[r] = word_at(bytes, 403 + 6 * r);
+        r += 1;
+    }
+    a
+}
+
+fn unsure_in(bytes: &[u8]) -> [bool; 32]
+    ensures { λ r. ⌜ r ≡ listOf 32 (λ k. flagAt (now (bytes .entry)) (402 + 6 * k)) ⌝ }
+{
+    let mut a = [false; 32];
+    let mut r = 0;
+    while r < 32 {
+        a[r] = flag_at(bytes, 402 + 6 * r);
+        r += 1;
+    }
+    a
+}
+
+fn held_in(bytes: &[u8]) -> [bool; 32]
+    ensures { λ r. ⌜ r ≡ listOf 32 (λ k. flagAt (now (bytes .entry)) (401 + 6 * k)) ⌝ }
+{
+    let mut a = [false; 32];
+    let mut r = 0;
+    while r < 32 {
+        a[r] = flag_at(bytes, 401 + 6 * r);
+        r += 1;
+    }
+    a
+}
+
+fn places_in(bytes: &[u8]) -> [u8; 8]
+    ensures { λ r. ⌜ r ≡ listOf 8 (λ k. getD (now (bytes .entry)) (593 + k) 0) ⌝ }
+{
+    let mut a = [0u8; 8];
+    let mut i = 0;
+    while i < 8 {
+        a[i] = byte_at(bytes, 593 + i);
+        i += 1;
+    }
+    a
+}
+
+fn due_in(bytes: &[u8]) -> [bool; 32]
+    ensures { λ r. ⌜ r ≡ listOf 32 (λ k. flagAt (now (bytes .entry)) (601 + k)) ⌝ }
+{
+    let mut a = [false; 32];
+    let mut k = 0;
+    while k < 32 {
+        a[k] = flag_at(bytes, 601 + k);
+        k += 1;
+    }
+    a
+}
+
+// ---- the state
+
+fn state_in(bytes: &[u8]) -> State
+    ensures { λ r. ⌜ r ≡ stateIn (now (bytes .entry)) ⌝ }
+{
+    let value = value_in(bytes);
+    let unknown = unknown_in(bytes);
+    let pending = pending_in(bytes);
+    let unsure = unsure_in(bytes);
+    let held = held_in(bytes);
+    let places = places_in(bytes);
+    let due = due_in(bytes);
+    State {
+        value,
+        unknown,
+        pending,
+        unsure,
+        held,
+        places,
+        due,
+        time: word_at(bytes, 633),
+        count: word_at(bytes, 637),
+    }
+}
+
+// Every number 0 and every flag down.
+fn zero_state() -> State
+    ensures { λ r. ⌜ r ≡ zeroState ⌝ }
+{
+    State {
+        value: [0u32; 80],
+        unknown: [false; 80],
+        pending: [0u32; 32],
+        unsure: [false; 32],
+        held: [false; 32],
+        places: [0u8; 8],
+        due: [false; 32],
+        time: 0,
+        count: 0,
+    }
+}
+
+// The state that the bytes are the saved form of.
+pub fn load(bytes: &[u8]) -> Loaded
+    ensures { λ r. ⌜ r ≡ loadedAnswer (loaded (now (bytes .entry))) ⌝ }
+{
+    if !is_saved(bytes) {
+        let state = zero_state();
+        return Loaded {
+            found: false,
+            state,
+        };
+    }
+    let state = state_in(bytes);
+    Loaded { found: true, state }
+}

@@ -1,0 +1,92 @@
+// A state into its saved form, which is put at the front of a lent buffer.
+use super::State;
+ghost use mathlib.Core.Path.{_≡_};
+ghost use Prim.Native.Nat.{_≤_};
+ghost use lib.Seq.{sets};
+ghost use Rattle.state.specs.Saved.{flagByte, wordBytes, valueBytes, slotBytes, placeBytes, markBytes, saved};
+
+// A flag as a byte.
+fn flag_byte(b: bool) -> u8
+    ensures { λ r. ⌜ r ≡ flagByte b ⌝ }
+{
+    if b { 1 } else { 0 }
+}
+
+// A number, low byte first.
+fn put_word(n: u32, out: &mut [u8; 641], at: usize)
+    requires { ⌜ at ≤ 637 ⌝ }
+    ensures { λ r. ⌜ now (out .exit) ≡ sets (now (out .entry)) at (wordBytes n) ⌝ }
+{
+    out[at] = (n % 256) as u8;
+    out[at + 1] = (n / 256 % 256) as u8;
+    out[at + 2] = (n / 65536 % 256) as u8;
+    out[at + 3] = (n / 16777216 % 256) as u8;
+}
+
+// The values.
+fn put_values<'a>(value: &'a [u32; 80], unknown: &'a [bool; 80], out: &mut [u8; 641])
+    ensures { λ r. ⌜ now (out .exit) ≡ sets (now (out .entry)) 1 (valueBytes (now (value .entry)) (now (unknown .entry))) ⌝ }
+{
+    let mut v = 0;
+    while v < 80 {
+        let at = 1 + 5 * v;
+        out[at] = flag_byte(unknown[v]);
+        put_word(value[v], out, at + 1);
+        v += 1;
+    }
+}
+
+// The pending slots.
+fn put_slots<'a>(
+    held: &'a [bool; 32],
+    pending: &'a [u32; 32],
+    unsure: &'a [bool; 32],
+    out: &mut [u8; 641],
+)
+    ensures { λ r. ⌜ now (out .exit) ≡ sets (now (out .entry)) 401
+        (slotBytes (now (held .entry)) (now (pending .entry)) (now (unsure .entry))) ⌝ }
+{
+    let mut r = 0;
+    while r < 32 {
+        let at = 401 + 6 * r;
+        out[at] = flag_byte(held[r]);
+        out[at + 1] = flag_byte(unsure[r]);
+        put_word(pending[r], out, at + 2);
+        r += 1;
+    }
+}
+
+// The places.
+fn put_places(places: &[u8; 8], out: &mut [u8; 641])
+    ensures { λ r. ⌜ now (out .exit) ≡ sets (now (out .entry)) 593 (placeBytes (now (places .entry))) ⌝ }
+{
+    let mut i = 0;
+    while i < 8 {
+        out[593 + i] = places[i];
+        i += 1;
+    }
+}
+
+// The marks.
+fn put_marks(due: &[bool; 32], out: &mut [u8; 641])
+    ensures { λ r. ⌜ now (out .exit) ≡ sets (now (out .entry)) 601 (markBytes (now (due .entry))) ⌝ }
+{
+    let mut k = 0;
+    while k < 32 {
+        out[601 + k] = flag_byte(due[k]);
+        k += 1;
+    }
+}
+
+// The saved form of a state is put into the buffer.
+pub fn save(st: State, out: &mut [u8; 641])
+    ensures { λ r. ⌜ now (out .exit) ≡ sets (now (out .entry)) 0 (saved st) ⌝ }
+{
+    out[0] = 1;
+    put_values(&st.value, &st.unknown, out);
+    put_slots(&st.held, &st.pending, &st.unsure, out);
+    put_places(&st.places, out);
+    put_marks(&st.due, out);
+    put_word(st.time, out, 633);
+    put_word(st.count, out, 637);
+}

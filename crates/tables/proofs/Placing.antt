@@ -1,0 +1,146 @@
+-- The instructions of a statement that was read: by the places of the expressions, as the code keeps them, and by their trees.
+-- Assumes nothing.
+use mathlib.Core.Path.{_≡_, refl, sym, ap, _∙_}
+use mathlib.Core.List.{List, [], _∷_, _++_}
+use Prim.Native.Nat.{ℕ, zero, suc, _+_, _≤_, _<_}
+use native.Mathlib.Nat.{not-suc-le-zero, le-of-suc-le-suc}
+use native.Mathlib.Omega.{arith}
+use lib.ListN.{length, getD}
+use lib.Dec.{leb}
+use borrow.Author.Tests.{leb-true}
+use Rattle.sheet.specs.declared.EdgeTerm.{EdgeTerm}
+use Rattle.sheet.specs.Reading.{ok}
+use Rattle.sheet.specs.Expression.{Expr, Parsed, tree, located, exprAt}
+use Rattle.sheet.specs.Statement.{Stmt, empty, size, mapStmt, Scope, Body, readStmt}
+use Rattle.sheet.specs.Module.{Listed, readThreads}
+use Rattle.sheet.proofs.Reading.{bind-ok, check-ok, ok-injective}
+use Rattle.sheet.proofs.Expression.{derive}
+use Rattle.sheet.proofs.Statements.{ReadsTerms, no-terms, a-term, terms-length, ReadsStmt, an-empty, an-assign, a-later, a-sequence, an-if, an-if-else, a-while, a-forever, a-wait, derive-stmt}
+use Rattle.sheet.proofs.Trees.{expr-at, size-map}
+use Rattle.evaluation.specs.Evaluation.{eval}
+use Rattle.evaluation.specs.declared.Evaluated.{Evaluated}
+use Rattle.evaluation.proofs.Evaluation.{evalAt-eval}
+use Rattle.pseudocode.specs.Translation.{Instr, wait!, set!, later!, go, ifnot, translate, threadCode}
+use Rattle.pseudocode.specs.Instruction.{instructionOf}
+use Rattle.tables.specs.Holding.{Stands, Fetched, a-wait, a-set, a-later, a-go, an-ifnot}
+use Rattle.tables.proofs.Marking.{ReadAt}
+
+-- ---- an expression that was read
+
+pub stands : {ws s : List ℕ} {e : Expr} {p : ℕ} → ReadAt ws s e p → Stands s ws e p
+stands r f = ap (λ (x : Evaluated). x .value) (evalAt-eval f (r .1)) ∙ ap (eval f) (r .2)
+
+-- By its place.
+pub located-read : (s ws : List ℕ) (p : ℕ) {e : Parsed ℕ} → located s ws p ≡ ok e → ReadAt ws s (exprAt s ws (e .item)) (e .item)
+unfolding located tree
+located-read s ws p h =
+    let t = bind-ok (tree s ws p) _ h in
+    rw (← ok-injective (t .2)) (t .0, derive ws s 16 p (t .1), sym (expr-at s ws p (t .1)))
+
+-- ---- an instruction by places and the same by trees
+
+-- The variables of the terms are among the module's.
+abbrev pub Names : List ℕ → List EdgeTerm → Type 0
+Names ws ts = (k : ℕ) (other : EdgeTerm) → k < length ts → getD ts k other .variable < length ws
+
+pub data Placed (ws s : List ℕ) : Instr ℕ → Instr Expr → Type 0 where
+  waits : {ts : List EdgeTerm} → length ts ≤ 8 → Names ws ts → Placed ws s (wait! ts) (wait! ts)
+  sets : {t p : ℕ} {e : Expr} → Stands s ws e p → Placed ws s (set! t p) (set! t e)
+  laters : {t p : ℕ} {e : Expr} → Stands s ws e p → Placed ws s (later! t p) (later! t e)
+  goes : {g : ℕ} → Placed ws s (go g) (go g)
+  ifnots : {g p : ℕ} {e : Expr} → Stands s ws e p → Placed ws s (ifnot p g) (ifnot e g)
+
+pub data PlacedAll (ws s : List ℕ) : List (Instr ℕ) → List (Instr Expr) → Type 0 where
+  none : PlacedAll ws s [] []
+  more : {i : Instr ℕ} {j : Instr Expr} {is : List (Instr ℕ)} {js : List (Instr Expr)}
+      → Placed ws s i j → PlacedAll ws s is js → PlacedAll ws s (i ∷ is) (j ∷ js)
+
+module _ {ws s : List ℕ} where
+  pub placed-fetched : {i : Instr ℕ} {j : Instr Expr} → Placed ws s i j → Fetched s ws j (instructionOf i)
+  unfolding instructionOf
+  placed-fetched (waits h n) = a-wait h
+  placed-fetched (sets x) = a-set x
+  placed-fetched (laters x) = a-later x
+  placed-fetched goes = a-go
+  placed-fetched (ifnots x) = an-ifnot x
+
+  -- What is a wait by trees is that wait by places.
+  pub placed-wait : {i : Instr ℕ} {j : Instr Expr} {ts : List EdgeTerm} → Placed ws s i j → j ≡ wait! ts
+      → (i ≡ wait! ts) × (length ts ≤ 8) × Names ws ts
+  placed-wait {ts = ts} (waits {ts = us} h n) e = let q : us ≡ ts = cc in rw (← q) (refl, h, n)
+  placed-wait (sets x) e = let z : _≡_ {A = ℕ} 0 1 = cc in absurd (omega arith)
+  placed-wait (laters x) e = let z : _≡_ {A = ℕ} 0 1 = cc in absurd (omega arith)
+  placed-wait goes e = let z : _≡_ {A = ℕ} 0 1 = cc in absurd (omega arith)
+  placed-wait (ifnots x) e = let z : _≡_ {A = ℕ} 0 1 = cc in absurd (omega arith)
+
+  pub placed-at : {is : List (Instr ℕ)} {js : List (Instr Expr)} → PlacedAll ws s is js → (p : ℕ) → Placed ws s (getD is p (go 0)) (getD js p (go 0))
+  placed-at none p = goes
+  placed-at (more x xs) zero = x
+  placed-at (more x xs) (suc p) = placed-at xs p
+
+  placed-append : {is ks : List (Instr ℕ)} {js ls : List (Instr Expr)} → PlacedAll ws s is js → PlacedAll ws s ks ls
+      → PlacedAll ws s (is ++ ks) (js ++ ls)
+  placed-append none q = q
+  placed-append (more p ps) q = more p (placed-append ps q)
+
+  terms-named : {n at : ℕ} {ts : List EdgeTerm} → ReadsTerms ws s n at ts → Names ws ts
+  terms-named no-terms k other h = absurd (not-suc-le-zero h)
+  terms-named (a-term e h x l ts) zero other m = l
+  terms-named (a-term e h x l ts) (suc k) other m = terms-named ts k other (le-of-suc-le-suc m)
+
+-- ---- a statement that was read
+
+module _ (c : Scope) (s : List ℕ) where
+  abbrev pub treeAt : ℕ → Expr
+  treeAt = exprAt s (c .widths)
+
+  place-stands : (p : ℕ) {e : Parsed ℕ} → located s (c .widths) p ≡ ok e → Stands s (c .widths) (treeAt (e .item)) (e .item)
+  place-stands p h = stands (located-read s (c .widths) p h)
+
+  stmt-placed : {d p : ℕ} {b : Body ℕ} → ReadsStmt (located s) c s d p b → (n : ℕ)
+      → PlacedAll (c .widths) s (translate (b .stmt) n) (translate (mapStmt treeAt (b .stmt)) n)
+  unfolding translate mapStmt
+  stmt-placed (an-empty l m) n = none
+  stmt-placed (an-assign l m t r e w) n = more (sets (place-stands _ e)) none
+  stmt-placed (a-later l m t r e w) n = more (laters (place-stands _ e)) none
+  stmt-placed (a-sequence {a = a} l m x y) n =
+      rw (size-map treeAt (a .stmt)) (placed-append (stmt-placed x n) (stmt-placed y (n + size (a .stmt))))
+  stmt-placed (an-if {a = a} l m e x) n =
+      rw (size-map treeAt (a .stmt)) (more (ifnots (place-stands _ e)) (stmt-placed x (n + 1)))
+  stmt-placed (an-if-else {a = a} {b = b} l m e x y) n =
+      rw (size-map treeAt (a .stmt), size-map treeAt (b .stmt))
+      (more (ifnots (place-stands _ e)) (placed-append (stmt-placed x (n + 1)) (more goes (stmt-placed y (n + 2 + size (a .stmt))))))
+  stmt-placed (a-while {a = a} l m e x) n =
+      rw (size-map treeAt (a .stmt)) (more (ifnots (place-stands _ e)) (placed-append (stmt-placed x (n + 1)) (more goes none)))
+  stmt-placed (a-forever l m x) n = placed-append (stmt-placed x n) (more goes none)
+  stmt-placed (a-wait {ts = vs} m k ts w) n = more (waits {ts = vs} (omega (arith, terms-length ts, k .most)) (terms-named ts)) none
+
+  -- ---- threads
+
+  -- A thread's code by places and by trees, and its size.
+  pub record Threaded (a : Stmt ℕ) : Type 0 where
+    pub placed : PlacedAll (c .widths) s (threadCode a) (threadCode (mapStmt treeAt a))
+    pub most : size a + 1 ≤ 256
+
+  thread-placed : {d p : ℕ} {b : Body ℕ} → ReadsStmt (located s) c s d p b
+      → PlacedAll (c .widths) s (threadCode (b .stmt)) (threadCode (mapStmt treeAt (b .stmt)))
+  unfolding threadCode translate
+  thread-placed x = placed-append (stmt-placed x 0) (more goes none)
+
+  pub threads-placed : (n p : ℕ) {l : Listed (Stmt ℕ)} → readThreads (located s) c s n p ≡ ok l → (i : ℕ) → i < length (l .items)
+      → Threaded (getD (l .items) i empty)
+  unfolding readThreads
+  threads-placed zero p h i = rw (← ok-injective h) (λ l. absurd (not-suc-le-zero l))
+  threads-placed (suc n) p h i =
+      let b = bind-ok (readStmt (located s) c s 64 p) _ h in
+      let k = check-ok (leb (size (b .0 .stmt) + 1) 256) 11 p _ (b .2) in
+      let bs = bind-ok (readThreads (located s) c s n (b .0 .next)) _ (k .1) in
+      let x : Threaded (b .0 .stmt) =
+      record { placed = thread-placed (derive-stmt (located s) c s 64 p (b .1)); most = leb-true (size (b .0 .stmt) + 1) 256 (k .0) } in
+      rw (← ok-injective {a = record { items = b .0 .stmt ∷ bs .0 .items; next = bs .0 .next }} (bs .2))
+      (by (b .0 .stmt) (bs .0 .items) x (threads-placed n (b .0 .next) (bs .1)) i)
+    where
+      by : (a : Stmt ℕ) (bs : List (Stmt ℕ)) → Threaded a → ((j : ℕ) → j < length bs → Threaded (getD bs j empty)) → (j : ℕ) → j < length (a ∷ bs)
+          → Threaded (getD (a ∷ bs) j empty)
+      by a bs x y zero l = x
+      by a bs x y (suc j) l = y j (le-of-suc-le-suc l)
