@@ -1,10 +1,12 @@
-//! The sheets under tests/data with their listings.
+//! The sheets under tests/data with their listings and their Verilog.
 
 pub struct Bench {
     pub name: &'static str,
     hex: &'static str,
     /// What the listing program prints.
     pub listing: &'static str,
+    /// The module in Verilog.
+    pub verilog: &'static str,
 }
 
 macro_rules! bench {
@@ -13,6 +15,7 @@ macro_rules! bench {
             name: $name,
             hex: include_str!(concat!("../../data/", $name, ".hex")),
             listing: include_str!(concat!("../../data/", $name, ".lst")),
+            verilog: include_str!(concat!("../../data/", $name, ".v")),
         }
     };
 }

@@ -102,9 +102,9 @@ impl Writer<'_> {
         self.call(Record::Dump);
     }
 
-    /// Writes the record, makes its call, and mostly looks at the state afterwards.
+    /// Writes the record, makes its call, and looks at the state afterwards.
     fn call(&mut self, record: Record) {
-        let looks = record != Record::Dump && self.random.chance(2, 3);
+        let looks = record != Record::Dump;
         self.session.answer(&record);
         self.records.push(record);
         if looks {
