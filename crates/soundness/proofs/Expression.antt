@@ -11,6 +11,7 @@ use Rattle.sheet.specs.Reading.{ok}
 use Rattle.sheet.specs.Expression.{Expr, Parsed, tree}
 use Rattle.sheet.specs.Statement.{Scope}
 use Rattle.sheet.proofs.Expression.{Reads, a-variable, a-constant, an-unknown, a-unary, a-binary, a-conditional, derive}
+use Rattle.encoding.proofs.Expression.{tree-typed}
 use Rattle.evaluation.specs.Evaluation.{reads}
 use Rattle.evaluation.proofs.Evaluation.{eval-fits}
 use Rattle.soundness.specs.Soundness.{SoundExpr}
@@ -46,4 +47,4 @@ pub tree-sound : (c : Scope) (s : List ℕ) (p : ℕ) {q : Parsed Expr} → tree
 unfolding tree
 tree-sound c s p h =
     let r = derive (c .widths) s 16 p h in
-    record { reads-within = reads-below r; fits-width = λ f g. eval-fits f g r }
+    record { typed = tree-typed (c .widths) s p h; reads-within = reads-below r; fits-width = λ f g. eval-fits f g r }

@@ -11,6 +11,7 @@ use Rattle.sheet.specs.declared.EdgeTerm.{EdgeTerm}
 use Rattle.sheet.specs.Expression.{Expr, unknown}
 use Rattle.sheet.specs.Statement.{Scope, empty}
 use Rattle.sheet.specs.Module.{Module}
+use Rattle.encoding.specs.WellFormed.{HasWidth}
 use Rattle.evaluation.specs.Evaluation.{eval, reads}
 use Rattle.pseudocode.specs.Translation.{Instr, wait!, set!, later!, go, ifnot, threadCode}
 
@@ -20,8 +21,9 @@ use Rattle.pseudocode.specs.Translation.{Instr, wait!, set!, later!, go, ifnot,
 abbrev pub Fitting : Scope → (ℕ → Value) → Type 0
 Fitting c f = (v : ℕ) → v < length (c .widths) → fits (getD (c .widths) v 0) (f v) ≡ true
 
--- An expression that reads variables of the scope only, and gives values of width w.
+-- An expression of width w that reads variables of the scope only, and gives values of that width.
 pub record SoundExpr (c : Scope) (w : ℕ) (e : Expr) : Type 0 where
+  pub typed : HasWidth (c .widths) e w
   pub reads-within : (v : ℕ) → reads e v ≡ true → v < length (c .widths)
   pub fits-width : (f : ℕ → Value) → Fitting c f → fits w (eval f e) ≡ true
 

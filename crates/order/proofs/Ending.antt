@@ -1,0 +1,130 @@
+-- Wherever a list of calls ends, in a module that extraction accepts (`at-the-end`): the first five of the claim's sentences.
+use mathlib.Core.Path.{_≡_, refl, sym, ap, subst, _∙_}
+use mathlib.Core.Logic.{_≢_}
+use mathlib.Core.Bool.{Bool, true, false}
+use mathlib.Core.List.{List, [], _∷_}
+use Prim.Native.Nat.{ℕ, zero, suc, _+_, _^_, _≤_, _<_}
+use native.Mathlib.Omega.{arith}
+use lib.ListN.{length}
+use lib.Dec.{ltb}
+use borrow.Author.Tests.{lt-ltb}
+use Rattle.values.specs.declared.Value.{Value}
+use Rattle.values.specs.declared.Value.the-variants.{Known, Unknown}
+use Rattle.values.specs.Values.{pick, same}
+use Rattle.sheet.specs.Reading.{ok}
+use Rattle.sheet.specs.Expression.{Expr}
+use Rattle.sheet.specs.Module.{Module, read}
+use Rattle.state.specs.declared.State.{State}
+use Rattle.state.specs.State.{valueOf, placeOf}
+use Rattle.soundness.specs.Soundness.{Sound}
+use Rattle.events.specs.declared.Inputs.{Inputs}
+use Rattle.events.specs.Cycle.{variables, codeOf, instrAt, isWait, quiet}
+use Rattle.events.specs.Calls.{started, startOf, start, chooseIn, choose, plainChoice}
+use Rattle.events.specs.Steps.{Step, Instant}
+use Rattle.events.proofs.Choices.{spend-zero}
+use Rattle.events.proofs.Fits.{Fits, shaped-started, fits-started}
+use Rattle.events.proofs.Runs.{plain-refusal}
+use Rattle.nextstate.specs.Extraction.{Tables, extracted}
+use Rattle.nextstate.specs.Book.{Book, settled, fed, rise, opening, turned, turnedAll, book}
+use Rattle.threads.specs.Ruled.{Ruled}
+use Rattle.threads.specs.Alone.{riseAlone}
+use Rattle.settling.proofs.Settle.{settle-below}
+use Rattle.walking.proofs.Rising.{rise-alone}
+use Rattle.phases.specs.Phases.{instructionsUpTo, allInstructions, turnedAlone, Phase}
+use Rattle.phases.proofs.Phases.{phase-start, phase-step, phase-bound, phase-quiet, phase-low, phase-high, phase-places}
+use Rattle.order.specs.Calls.{Call, final, choices, instants, since, Cycles}
+use Rattle.order.specs.Claim.{instructionsBelow, instructions, AtTheEnd}
+use Rattle.order.proofs.Outcomes.{Standing, choose-in}
+use Rattle.order.proofs.List.{tallied, every, all-standing, to-fall}
+
+-- The sum of the threads' instructions, as the phases and as the claim name it.
+instructions-below : (m : Module Expr) (n : ℕ) → instructionsUpTo m n ≡ instructionsBelow m n
+unfolding instructionsUpTo instructionsBelow
+instructions-below m zero = refl
+instructions-below m (suc n) = rw (instructions-below m n) refl
+
+instructions-all : (m : Module Expr) → allInstructions m ≡ instructions m
+unfolding allInstructions instructions
+instructions-all m = instructions-below m (length (m .threads))
+
+module _ (s : List ℕ) (m : Module Expr) (e : read s ≡ ok m) (w : Sound m) (u : Ruled m) (T : Tables) (x : extracted m ≡ ok T) where
+  -- The book of the claim is the one that the phases speak of, wherever its places are waits.
+  pub turned-alone : (a : ℕ → Value) (b : Book) →
+      ((i : ℕ) → i < length (m .threads) → (b .places i < length (codeOf m i)) × (isWait (instrAt (codeOf m i) (b .places i)) ≡ true)) →
+      turned m T a b ≡ turnedAlone m a b
+  unfolding turned turnedAlone fed rise riseAlone
+  turned-alone a b waits =
+      let r = rise-alone m w u T x (fed m a b) waits in
+      λ i. settled m (pick (same (a 0) (Known 1)) (record { values = λ v. r .0 v i; places = λ j. r .1 j i }) (fed m a b))
+
+  low : (b : Book) (old new : State) (n : ℕ) (a : ℕ → Value) → Fits m old → Instant m old new a → a 0 ≡ Known 0 →
+      Phase m b old n → Phase m (turned m T a b) new 0
+  low b old new n a f i z p =
+      subst (λ (c : Book). Phase m c new 0) (sym (turned-alone a b (phase-places m w u b old n p)))
+      (phase-low m w u b old new n a (i .rest) p i z)
+
+  some-variables : 0 < variables m
+  unfolding variables
+  some-variables = omega (arith, w .variables, w .inputs-some)
+
+  within : (v : ℕ) → v < m .scope .inputs → v < variables m
+  unfolding variables
+  within v l = omega (arith, w .variables)
+
+  high : (b : Book) (old new : State) (n : ℕ) (a : ℕ → Value) → Fits m old → Instant m old new a → a 0 ≡ Known 1 →
+      b .values 0 ≡ Known 0 → ((v : ℕ) → v ≢ 0 → v < m .scope .inputs → a v ≡ b .values v) →
+      Phase m b old n → Phase m (turned m T a b) new 0
+  high b old new n a f i z clock same p =
+      let q = phase-quiet m w u b old n (i .rest) p .0 in
+      subst (λ (c : Book). Phase m c new 0) (sym (turned-alone a b (phase-places m w u b old n p)))
+      (phase-high m w u b old new n a (i .rest) p (q 0 some-variables ∙ clock) i z
+      (λ v ne l. same v ne l ∙ sym (q v (within v l))))
+
+  takes-in : (b : Book) (a : ℕ → Value) (v : ℕ) → a 0 ≡ Known 0 → v < m .scope .inputs → turned m T a b .values v ≡ a v
+  unfolding turned settled fed same
+  takes-in b a v z l =
+      rw z (settle-below m (λ v. pick (ltb v (m .scope .inputs)) (a v) (b .values v)) v (omega arith) ∙ rw (lt-ltb v (m .scope .inputs) l) refl)
+
+  standing-start : Standing m (started (length (m .wires)))
+  standing-start = record { shaped = shaped-started (length (m .wires)); fits = fits-started m w }
+
+  from-start : start s .state ≡ started (length (m .wires))
+  unfolding start startOf
+  from-start = rw e refl
+
+  standing : Standing m (start s .state)
+  standing = subst (Standing m) (sym from-start) standing-start
+
+  no-time : start s .state .time ≡ 0
+  unfolding started
+  no-time = ap (λ (st : State). st .time) from-start
+
+  no-count : start s .state .count ≡ 0
+  unfolding started
+  no-count = ap (λ (st : State). st .count) from-start
+
+  -- The phase at the list's end.
+  reached : (calls : List Call) → Cycles (instants s calls (start s .state)) →
+      Phase m (book m T (instants s calls (start s .state))) (final s calls (start s .state)) (since s calls (start s .state) 0)
+  unfolding book
+  reached calls cy =
+      every s m e w T (Phase m) (λ b old new c n f st p. phase-step m w u b old new n c st p) low high takes-in
+      calls (start s .state) (opening m T) 0 standing (to-fall cy)
+      (subst (λ (st : State). Phase m (opening m T) st 0) (sym from-start) (phase-start m w u T))
+
+  pub at-the-end : (calls : List Call) → Cycles (instants s calls (start s .state)) → AtTheEnd s m T calls
+  at-the-end calls cy =
+      let p = reached calls cy in
+      let b = book m T (instants s calls (start s .state)) in
+      let st = final s calls (start s .state) in
+      let n = since s calls (start s .state) 0 in
+      let tally = tallied s m e w calls (start s .state) standing in
+      let stands = all-standing s m e w calls (start s .state) standing in
+      record {
+        time = tally .time ∙ rw no-time (omega arith);
+        count = tally .count ∙ rw no-count (omega arith);
+        bound = rw (instructions-all m) at (phase-bound m w u b st n p);
+        progress = λ q room. (plainChoice m st, ap (λ r. r .number) (choose-in s m e w st stands (plainChoice m st)) ∙ plain-refusal m st w q ∙ spend-zero (st .count) room);
+        values = λ q. phase-quiet m w u b st n q p .0;
+        places = λ q. phase-quiet m w u b st n q p .1;
+      }

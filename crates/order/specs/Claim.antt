@@ -1,0 +1,98 @@
+-- Demand 3, the whole claim (document 01, "Extraction and the cycle run", its last two paragraphs). proofs/Order proves it.
+use Prim.Native.Nat.{ℕ, zero, suc, _+_, _-_, _^_, _≤_, _<_}
+use mathlib.Core.Path.{_≡_}
+use mathlib.Core.Logic.{_≢_}
+use mathlib.Core.Bool.{true, false}
+use mathlib.Core.List.{List, [], _∷_, _++_}
+use lib.ListN.{length, getD}
+use Rattle.values.specs.Planes.{valueAt}
+use Rattle.sheet.specs.Reading.{ok}
+use Rattle.sheet.specs.Expression.{Expr}
+use Rattle.sheet.specs.Module.{Module, read}
+use Rattle.state.specs.declared.State.{State}
+use Rattle.state.specs.State.{valueOf, placeOf}
+use Rattle.events.specs.declared.Inputs.{Inputs}
+use Rattle.events.specs.Cycle.{variables, codeOf, wireVariable, quiet}
+use Rattle.events.specs.Calls.{start, choose, inputOf, inputsFit}
+use Rattle.nextstate.specs.declared.Registers.{Registers}
+use Rattle.nextstate.specs.declared.Clocked.{Clocked}
+use Rattle.nextstate.specs.Extraction.{Tables, extracted, extract}
+use Rattle.nextstate.specs.Book.{Book, turned, book}
+use Rattle.nextstate.specs.CycleRun.{cycleRun}
+use Rattle.order.specs.Calls.{Call, final, choices, instants, since, SameButClock, Cycles, WholeCycles}
+
+-- "P being all threads' instructions": those of the threads below n.
+unfoldable pub instructionsBelow : Module Expr → ℕ → ℕ
+instructionsBelow m zero = 0
+instructionsBelow m (suc i) = instructionsBelow m i + length (codeOf m i)
+
+unfoldable pub instructions : Module Expr → ℕ
+instructions m = instructionsBelow m (length (m .threads))
+
+-- ---- "Wherever the list ends"
+
+module _ (s : List ℕ) (m : Module Expr) (T : Tables) where
+  -- The state reached, and the inputs of the accepted instants.
+  abbrev pub end : List Call → State
+  end calls = final s calls (start s .state)
+
+  abbrev pub fed : List Call → List Inputs
+  fed calls = instants s calls (start s .state)
+
+  pub record AtTheEnd (calls : List Call) : Type 0 where
+    -- "time and count equal the instants and choices (those in runs too) accepted"
+    pub time : end calls .time ≡ length (fed calls)
+    pub count : end calls .count ≡ choices s calls (start s .state)
+    -- "the count has risen since the last accepted instant, or the start, by at most P + 2^W, P being all threads' instructions and
+    -- W the wires"
+    pub bound : since s calls (start s .state) 0 ≤ instructions m + 2 ^ length (m .wires)
+    -- "a state that isn't quiet has a choice that is accepted unless the count is full"
+    pub progress : quiet m (end calls) ≡ false → end calls .count ≢ 4294967295 → (c : ℕ) × (choose s (end calls) c .number ≡ 0)
+    -- "a quiet one has the book's inputs, registers, places (demand 3's waits) and wires"
+    pub values : quiet m (end calls) ≡ true → (v : ℕ) → v < variables m → valueOf (end calls) v ≡ book m T (fed calls) .values v
+    pub places : quiet m (end calls) ≡ true → (i : ℕ) → i < length (m .threads) → placeOf (end calls) i ≡ book m T (fed calls) .places i
+
+-- ---- the cycle run: "handed the book's registers and places before a cycle and that cycle's inputs 1 up"
+
+module _ (m : Module Expr) where
+  pub record Handed (b : Book) (low : Inputs) (g : Registers) (a : Inputs) : Type 0 where
+    pub registers : (r : ℕ) → r < m .scope .registers → valueAt (g .value) (g .unknown) r ≡ b .values (m .scope .inputs + r)
+    pub places : (i : ℕ) → i < length (m .threads) → getD (g .places) i 0 ≡ b .places i
+    pub inputs : a .count + 1 ≡ m .scope .inputs
+    pub upper : (v : ℕ) → v + 1 < m .scope .inputs → inputOf a v ≡ inputOf low (v + 1)
+    -- Arrays as every call has them.
+    pub value-length : length (g .value) ≡ 32
+    pub unknown-length : length (g .unknown) ≡ 32
+    pub places-length : length (g .places) ≡ 8
+
+  -- "it gives the book's registers, places and wires after it"
+  pub record Gives (b : Book) (r : Clocked) : Type 0 where
+    pub accepted : r .number ≡ 0
+    pub registers : (n : ℕ) → n < m .scope .registers → valueAt (r .value) (r .unknown) n ≡ b .values (m .scope .inputs + n)
+    pub places : (i : ℕ) → i < length (m .threads) → getD (r .places) i 0 ≡ b .places i
+    pub wires : (k : ℕ) → k < length (m .wires) → valueAt (r .wire) (r .unsure) k ≡ b .values (wireVariable m k)
+
+-- Inputs that an instant of this sheet accepts (number 25 is not met).
+unfoldable pub AllFit : Module Expr → List Inputs → Type 0
+AllFit m [] = Unit {0}
+AllFit m (a ∷ l) = (inputsFit m a ≡ true) × AllFit m l
+
+-- ---- the claim, of a sheet and the tables that extraction filled for it
+
+pub record Demand3 (s ns rs : List ℕ) : Type 0 where
+  pub m : Module Expr
+  pub T : Tables
+  pub reads : read s ≡ ok m
+  pub expressions : extracted m ≡ ok T
+  -- For every list of calls from the start whose accepted instants form cycles.
+  pub list : (calls : List Call) → Cycles (instants s calls (start s .state)) → AtTheEnd s m T calls
+  -- For every cycle: after whole cycles, a low and a high instant more.
+  pub cycle :
+      (past : List Inputs) (low high : Inputs) → AllFit m past → inputsFit m low ≡ true → inputsFit m high ≡ true →
+      WholeCycles past → WholeCycles (low ∷ high ∷ []) →
+      (g : Registers) (a : Inputs) → Handed m (book m T past) low g a →
+      Gives m (book m T (past ++ (low ∷ high ∷ []))) (cycleRun s ns rs g a)
+
+-- "In a module that extraction accepts": number 0 of the public call.
+abbrev pub Order : Type 0
+Order = (s ns rs : List ℕ) → extract s ns rs .number ≡ 0 → Demand3 s (extract s ns rs .nodes) (extract s ns rs .rows)

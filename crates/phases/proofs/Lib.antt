@@ -1,0 +1,5 @@
+pub mod Agreement
+pub mod Counting
+pub mod Firing
+pub mod Resting
+pub mod Phases

@@ -1,0 +1,3 @@
+pub mod Settles
+pub mod Potential
+pub mod Plain

@@ -1,0 +1,4 @@
+pub mod Ruled
+pub mod Resting
+pub mod Alone
+pub mod View

@@ -1,0 +1,7 @@
+pub mod Folds
+pub mod Made
+pub mod Walks
+pub mod Short
+pub mod Tables
+pub mod Words
+pub mod Valid

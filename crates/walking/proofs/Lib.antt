@@ -1,0 +1,5 @@
+pub mod Growing
+pub mod Rows
+pub mod Worth
+pub mod Walking
+pub mod Rising

@@ -1,0 +1,1 @@
+// What the extracted nodes are worth: a crate of laws, without code.
