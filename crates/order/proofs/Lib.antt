@@ -5,3 +5,4 @@ pub mod Kept
 pub mod Clocking
 pub mod Giving
 pub mod Order
+pub mod PlainRun
