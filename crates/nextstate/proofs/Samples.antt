@@ -94,7 +94,8 @@ flip-flop-words = refl
 -- ---- the call: "The caller lends 16,384 words and 1,056 words; what isn't filled is set to 0."
 
 -- A sheet that is read and extracted, on lent words of the right lengths.
-pub fills : (s : List ℕ) {m : Module Expr} (T : Tables) → read s ≡ ok m → extracted m ≡ ok T → (ns rs : List ℕ) → length ns ≡ 16384 → length rs ≡ 1056 →
+pub fills : (s : List ℕ) {m : Module Expr} (T : Tables) → read s ≡ ok m → extracted m ≡ ok T →
+    (ns rs : List ℕ) → length ns ≡ 16384 → length rs ≡ 1056 →
     extract s ns rs ≡ record { number = 0; nodes = padded 16384 (allWords (T .nodes)); rows = padded 1056 (T .rows) }
 unfolding extract filled rightLengths expressions
 fills s T h g ns rs k l = rw (eq-eqb (length ns) 16384 k, eq-eqb (length rs) 1056 l, h, g)
@@ -121,13 +122,18 @@ kinds =
 
 pub words-and-back :
     (allWords kinds
-    ≡ 0 ∷ 5 ∷ 0 ∷ 0 ∷ 1 ∷ 32 ∷ 0x5678 ∷ 0x1234 ∷ 2 ∷ 8 ∷ 0 ∷ 0 ∷ 12 ∷ 7 ∷ 0 ∷ 0 ∷ 13 ∷ 7 ∷ 8 ∷ 0 ∷ 19 ∷ 7 ∷ 8 ∷ 0 ∷ 20 ∷ 6 ∷ 7 ∷ 8 ∷ 40 ∷ 6 ∷ 7 ∷ 8 ∷ [])
+    ≡ 0 ∷ 5 ∷ 0 ∷ 0 ∷ 1 ∷ 32 ∷ 0x5678 ∷ 0x1234 ∷ 2 ∷ 8 ∷ 0 ∷ 0 ∷ 12 ∷ 7 ∷ 0 ∷ 0 ∷
+    13 ∷ 7 ∷ 8 ∷ 0 ∷ 19 ∷ 7 ∷ 8 ∷ 0 ∷ 20 ∷ 6 ∷ 7 ∷ 8 ∷ 40 ∷ 6 ∷ 7 ∷ 8 ∷ [])
     × (listOf 8 (nodeAt (allWords kinds)) ≡ kinds)
 unfolding allWords nodeWords fourWords listOf nodeAt nodeFrom
 words-and-back = (refl, refl)
 
 -- Kinds that are none: each reads as a node of width 0, which no table may hold.
-pub no-kinds : (nodeFrom 3 1 1 1 ≡ anUnknown 0) × (nodeFrom 10 1 1 1 ≡ anUnknown 0) × (nodeFrom 21 1 1 1 ≡ anUnknown 0) × (nodeFrom 39 1 1 1 ≡ anUnknown 0)
+pub no-kinds :
+    (nodeFrom 3 1 1 1 ≡ anUnknown 0)
+    × (nodeFrom 10 1 1 1 ≡ anUnknown 0)
+    × (nodeFrom 21 1 1 1 ≡ anUnknown 0)
+    × (nodeFrom 39 1 1 1 ≡ anUnknown 0)
     × (nodeFrom 41 1 1 1 ≡ anUnknown 0)
 unfolding nodeFrom
 no-kinds = (refl, refl, refl, refl, refl)
@@ -196,7 +202,8 @@ wait-by-wait = refl
 
 -- "21 over 4,096 nodes": the 4,096th is taken, the next is not.
 pub node-4096 :
-    (emit (replicate 4095 (aVariable 0)) (anUnknown 1) ≡ ok (record { nodes = replicate 4095 (aVariable 0) ++ (anUnknown 1 ∷ []); node = 4095 }))
+    (emit (replicate 4095 (aVariable 0)) (anUnknown 1)
+    ≡ ok (record { nodes = replicate 4095 (aVariable 0) ++ (anUnknown 1 ∷ []); node = 4095 }))
     × (emit (replicate 4096 (aVariable 0)) (anUnknown 1) ≡ no 21 0)
 unfolding emit
 node-4096 = (refl, refl)
@@ -488,7 +495,8 @@ unfolding clocking cycleRun rightLengths
 refused-in-order = (refl, refl, refl, refl, refl, refl)
 
 -- A sheet that extraction refuses, whatever the tables hold.
-pub refused-sheet : (ns rs : List ℕ) → length ns ≡ 16384 → length rs ≡ 1056 → (g : Registers) (a : Inputs) → cycleRun plainSwapSheet ns rs g a ≡ refused 14 g
+pub refused-sheet : (ns rs : List ℕ) → length ns ≡ 16384 → length rs ≡ 1056 → (g : Registers) (a : Inputs) →
+    cycleRun plainSwapSheet ns rs g a ≡ refused 14 g
 unfolding cycleRun rightLengths clockedOr extractable reading walking
 refused-sheet ns rs h k g a = rw (eq-eqb (length ns) 16384 h, eq-eqb (length rs) 1056 k)
 

@@ -6,3 +6,4 @@ pub mod Clocking
 pub mod Giving
 pub mod Order
 pub mod PlainRun
+pub mod Watchdog

@@ -12,6 +12,7 @@ use Rattle.values.specs.Values.{holds}
 use Rattle.values.specs.Operators.{binary}
 use Rattle.values.specs.Edges.{fires}
 use Rattle.values.proofs.Samples as values
+use Rattle.sheet.specs.Reading.{no}
 use Rattle.sheet.specs.Expression.{Expr}
 use Rattle.sheet.specs.Statement.{assign, ifElse, size}
 use Rattle.pseudocode.proofs.Samples as pseudocode
@@ -20,6 +21,8 @@ use Rattle.text.proofs.Samples as text
 use Rattle.state.specs.State.{valueOf, placeOf}
 use Rattle.events.specs.Calls.{started, runIn}
 use Rattle.events.proofs.Samples as events
+use Rattle.nextstate.specs.Extraction.{expressions}
+use Rattle.nextstate.proofs.Samples as nextstate
 
 pub record Table : Type 0 where
   -- "Width 4: 15 + 1 = 0; 0 - 1 = 15."
@@ -43,6 +46,8 @@ pub record Table : Type 0 where
       (x y : ℕ) →
       map {B = Value × Value} (λ s. (valueOf s 1, valueOf s 2)) (events.reached events.swapping 5 (events.risen x y))
       ≡ replicate 6 (Known y, Known x)
+  -- "With plain assignment: 14": the same two threads by `a = b`, `b = a`, a sheet that extraction refuses.
+  pub plain-swap : expressions nextstate.plainSwapSheet ≡ no 14 0
   -- "Two pending values for one register: the second stands."
   pub second-stands : valueOf (runIn events.twice (0 ∷ 0 ∷ 255 ∷ []) (started 0) .state) 1 ≡ Known 5
   -- The flip-flop sheet and its listing.
@@ -62,6 +67,7 @@ table =
       if-else = λ e x y a b. pseudocode.sample-size e x y a b .0;
       five-again = events.five-again .4;
       swapped = λ x y. events.swapped-in-any-order x y .0;
+      plain-swap = nextstate.plain-swap .1;
       second-stands = events.second-stands .3;
       flip-flop = text.samples .0;
     }
