@@ -51,7 +51,7 @@ fn mark_conditional(sheet: &[u8], at: usize, depth: u8, k: usize, readers: &mut 
 }
 
 // Marks wire `k` at the variables of the expression at a place, with so many levels left; the place after it.
-fn mark_expr(sheet: &[u8], at: usize, depth: u8, k: usize, readers: &mut [u32; 80]) -> usize
+pub fn mark_expr(sheet: &[u8], at: usize, depth: u8, k: usize, readers: &mut [u32; 80]) -> usize
     ensures { λ r. ⌜ marking r (now (readers .exit)) ≡ markAt depth (now (sheet .entry)) k at (now (readers .entry)) ⌝ }
 {
     if depth == 0 {

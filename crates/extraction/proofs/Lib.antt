@@ -1,0 +1,12 @@
+pub mod Emitting
+pub mod Walking
+pub mod Tables
+pub mod Words
+pub mod Expressing
+pub mod Placing
+pub mod Merging
+pub mod Holding
+pub mod Walks
+pub mod Rows
+pub mod Extracting
+pub mod Samples

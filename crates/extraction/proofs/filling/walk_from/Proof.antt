@@ -1,0 +1,26 @@
+-- `filling::walk_from` meets its contract. Assumes nothing.
+use borrow.Author.Tests.{not-true, not-false}
+use Rattle.extraction.proofs.Tables.{walk-from-no, walk-from-past, walk-from-row}
+use borrow.Author.Needs.{needs}
+use Rattle.extraction.proofs.filling.walk_from.Statement.{statement}
+use Rattle.extraction.proofs.filling.walk_from.Tie as tie
+
+returns : tie.Need-returns
+returns c = walk-from-no _ _ _ _ _ _ _ _ (c .before .before .fetch .ensures) (c .before .is-wait .ensures) (not-true _ (c .if1 .taken))
+
+returns-2 : tie.Need-returns-2
+returns-2 c = walk-from-past _ _ _ _ _ _ _ _ (c .before .before .before .before .fetch .ensures) (c .before .before .before .is-wait .ensures) (not-false _ (c .before .before .if1 .left)) (c .if2 .taken)
+
+returns-3 : tie.Need-returns-3
+returns-3 c = walk-from-row _ _ _ _ _ _ _ _ (c .before .before .before .before .before .before .before .fetch .ensures) (c .before .before .before .before .before .before .is-wait .ensures) (not-false _ (c .before .before .before .before .before .if1 .left)) (c .before .before .before .if2 .left) (c .walk-row .ensures)
+
+pub walk-from-spec : {M : Type 1} → statement M
+walk-from-spec =
+    tie.close
+    (tie.spec
+    (λ c κs. search needs)
+    (λ c κs. search needs)
+    returns
+    returns-2
+    (λ c κs. search needs)
+    returns-3)

@@ -1,0 +1,19 @@
+-- `filling::walk_row` meets its contract. Assumes nothing.
+use Rattle.extraction.proofs.Tables.{walk-row-path}
+use borrow.Author.Needs.{needs}
+use Rattle.extraction.proofs.filling.walk_row.Statement.{statement}
+use Rattle.extraction.proofs.filling.walk_row.Tie as tie
+
+returns : tie.Need-returns
+returns c = walk-row-path _ _ _ _ _ _ _ _ (c .before .before .before .before .before .own-row .ensures) (c .before .before .before .before .after .ensures) (c .before .before .walk .ensures) (c .put-row .ensures)
+
+pub walk-row-spec : {M : Type 1} → statement M
+walk-row-spec =
+    tie.close
+    (tie.spec
+    (λ c κs. search needs)
+    (λ c κs. search needs)
+    (λ c κs. search needs)
+    (λ c κs. search needs)
+    (λ c. search needs)
+    returns)

@@ -1,0 +1,4 @@
+pub mod Emitting
+pub mod Walking
+pub mod Filling
+pub mod Extracting

@@ -1,0 +1,4 @@
+pub mod Writers
+pub mod Reading
+pub mod Walking
+pub mod Judging

@@ -1,0 +1,28 @@
+-- For each variable the threads that read it, as a mask: bit i is thread i.
+-- Defined for any bytes and words; proofs/Reading says that for an accepted sheet's tables they are the module's `threadReads`.
+use Prim.Native.Nat.{ℕ, zero, suc}
+use mathlib.Core.List.{List}
+use lib.ListN.{getD}
+use Rattle.pseudocode.specs.declared.Action.the-variants.{Set, Later, Go, IfNot}
+use Rattle.pseudocode.specs.declared.Instruction.{Instruction}
+use Rattle.pseudocode.specs.declared.Instruction.the-variants.{Wait, Act}
+use Rattle.pseudocode.specs.Fetching.{fetchAt}
+use Rattle.tables.specs.Readers.{atMost, markAt}
+
+-- Thread i marked at the variables of the expression that an instruction has.
+unfoldable pub markInstr : List ℕ → ℕ → Instruction → List ℕ → List ℕ
+markInstr s i (Wait t) rs = rs
+markInstr s i (Act (Set t at)) rs = markAt 16 s i at rs .readers
+markInstr s i (Act (Later t at)) rs = markAt 16 s i at rs .readers
+markInstr s i (Act (Go g)) rs = rs
+markInstr s i (Act (IfNot g at)) rs = markAt 16 s i at rs .readers
+
+-- The places below n of thread i.
+unfoldable pub markThread : List ℕ → List ℕ → ℕ → ℕ → List ℕ → List ℕ
+markThread s code i zero rs = rs
+markThread s code i (suc n) rs = markInstr s i (fetchAt s code i n) (markThread s code i n rs)
+
+-- The threads below n, of these sizes. A thread has at most 256 instructions.
+unfoldable pub readingBelow : List ℕ → List ℕ → List ℕ → ℕ → List ℕ → List ℕ
+readingBelow s code sizes zero rs = rs
+readingBelow s code sizes (suc n) rs = markThread s code n (atMost 256 (getD sizes n 0)) (readingBelow s code sizes n rs)
