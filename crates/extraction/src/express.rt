@@ -222,16 +222,7 @@ pub fn express(
             nodes,
             count,
         ),
-        0x71 => express_conditional(
-            sheet,
-            row,
-            inputs,
-            registers,
-            rest,
-            depth - 1,
-            nodes,
-            count,
-        ),
+        0x71 => express_conditional(sheet, row, inputs, registers, rest, depth - 1, nodes, count),
         _ => Expressed {
             next: at,
             node: 0,

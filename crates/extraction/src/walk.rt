@@ -140,15 +140,7 @@ fn join(written: u32, c: u16, a: Walked, b: Walked, nodes: &mut [u16; 16384]) ->
     let mut count = b.count;
     let mut r: usize = 0;
     while r < 32 {
-        let m = merge(
-            written,
-            c,
-            r,
-            a.registers[r],
-            b.registers[r],
-            nodes,
-            count,
-        );
+        let m = merge(written, c, r, a.registers[r], b.registers[r], nodes, count);
         row[r] = m.node;
         count = m.count;
         r += 1;

@@ -16,18 +16,20 @@ abbrev μ-loop : tie.MeasureT-loop
 
 loop-holds : tie.Need-loop-holds Inv-loop μ-loop
 loop-holds c =
-    let a = c .before .args in
-    (search needs,
-    threads-none (a .sheet .now) (a .code .now) (a .sizes .now) (a .inputs) (a .registers) (a .plain .now) (a .later .now)
-    (filling (a .e) (a .nodes .now) (a .rows .now)))
+    let a = c .before .args in (
+      search needs,
+      threads-none (a .sheet .now) (a .code .now) (a .sizes .now) (a .inputs) (a .registers) (a .plain .now) (a .later .now)
+          (filling (a .e) (a .nodes .now) (a .rows .now)),
+    )
 
 loop-again : tie.Need-loop-again Inv-loop μ-loop
 loop-again c =
     let a = c .before .before .before .before .before .before .before .before .before .before .args in
-    let l = c .before .before .before .before .before .before .before .before .loop in
-    (omega arith,
-    threads-turn (a .sheet .now) (a .code .now) (a .sizes .now) (a .inputs) (a .registers) (a .plain .now) (a .later .now)
-    (filling (a .e) (a .nodes .now) (a .rows .now)) (l .i) (l .inv .1) (c .before .before .before .before .both .ensures) (c .walk-thread .ensures))
+    let l = c .before .before .before .before .before .before .before .before .loop in (
+      omega arith,
+      threads-turn (a .sheet .now) (a .code .now) (a .sizes .now) (a .inputs) (a .registers) (a .plain .now) (a .later .now)
+          (filling (a .e) (a .nodes .now) (a .rows .now)) (l .i) (l .inv .1) (c .before .before .before .before .both .ensures) (c .walk-thread .ensures),
+    )
 
 returns : tie.Need-returns Inv-loop μ-loop
 returns c =
