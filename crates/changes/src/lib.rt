@@ -114,7 +114,7 @@ fn pairs_fire<'a>(
 }
 
 // Does the wait at a place of a thread fire, the values going from `before` to `value`? There may be no wait.
-pub fn fires_at<'a>(
+fn fires_at<'a>(
     sheet: &[u8],
     code: &[u16; 4096],
     i: usize,
@@ -196,7 +196,7 @@ fn fire_thread<'a>(
 }
 
 // Fires the waits of the first `threads` threads, the values going from `before` to `value`.
-pub fn fire<'a>(
+fn fire<'a>(
     sheet: &[u8],
     code: &[u16; 4096],
     threads: u8,

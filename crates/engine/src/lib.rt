@@ -83,7 +83,7 @@ fn register_of(v: u8, inputs: u8) -> usize
 }
 
 // The value of the expression that stands at a place.
-pub fn worth<'a>(
+fn worth<'a>(
     sheet: &[u8],
     widths: &[u8],
     value: &'a [u32; 80],
@@ -102,7 +102,7 @@ pub fn worth<'a>(
 
 // A later assignment: the value is held until the commit, and replaces one that its register holds already. Gives the
 // registers that hold one.
-pub fn defer(
+fn defer(
     shape: Shape,
     pending: &mut [u32; 32],
     unsure: &mut [bool; 32],
@@ -208,7 +208,7 @@ fn leg<'a>(
 }
 
 // Thread `i`, which stands at place `p`, runs an action.
-pub fn act(
+fn act(
     sheet: &[u8],
     widths: &[u8],
     code: &[u16; 4096],
@@ -286,7 +286,7 @@ pub fn act(
 }
 
 // Wire `k`: its mark is cleared, and its expression is stored.
-pub fn settle(
+fn settle(
     sheet: &[u8],
     widths: &[u8],
     code: &[u16; 4096],
@@ -408,7 +408,7 @@ fn put_pending<'a>(
 }
 
 // The commit: all values that are held are put, and then the waits fire on the whole change.
-pub fn commit<'a>(
+fn commit<'a>(
     sheet: &[u8],
     code: &[u16; 4096],
     readers: &[u32; 80],
@@ -546,7 +546,7 @@ pub fn feed<'a>(
 }
 
 // A choice of thread `i`: refused where it finds the thread at a wait, else the instruction is taken apart and run.
-pub fn take_thread(
+fn take_thread(
     sheet: &[u8],
     widths: &[u8],
     code: &[u16; 4096],
@@ -612,7 +612,7 @@ pub fn take_thread(
 }
 
 // A choice of wire `k`: refused where it isn't due.
-pub fn take_wire(
+fn take_wire(
     sheet: &[u8],
     widths: &[u8],
     code: &[u16; 4096],
@@ -664,7 +664,7 @@ pub fn take_wire(
 }
 
 // A choice of the commit: refused while an item is enabled, or where nothing is held.
-pub fn take_commit<'a>(
+fn take_commit<'a>(
     sheet: &[u8],
     code: &[u16; 4096],
     readers: &[u32; 80],
@@ -823,7 +823,7 @@ pub fn busy(marks: Marks) -> bool
 }
 
 // The lowest enabled item, else the commit.
-pub fn plain_choice(shape: Shape, marks: Marks) -> usize
+fn plain_choice(shape: Shape, marks: Marks) -> usize
     ensures { λ r. ⌜
         ((sheet widths code readers : List ℕ) (watched : List Bool) (starts value : List ℕ) (unknown : List Bool)
         (places pending : List ℕ) (unsure : List Bool)
