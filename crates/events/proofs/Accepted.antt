@@ -1,7 +1,7 @@
 -- Demand 2: the calls accept every step that the simulation cycle allows, with the state that it leaves, and no other.
 -- specs/Steps says what a step is; here the calls of specs/Calls, on a sheet's bytes, are held to it, both ways.
 -- A state is `Shaped` where its arrays have their lengths, which every state passed by value has.
-use mathlib.Core.Path.{_≡_, refl, sym, _∙_}
+use mathlib.Core.Path.{_≡_, refl}
 use mathlib.Core.Logic.{_≢_}
 use mathlib.Core.Bool.{Bool, true, false}
 use mathlib.Core.List.{List}

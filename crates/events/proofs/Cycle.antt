@@ -22,6 +22,7 @@ use Rattle.evaluation.specs.Evaluation.{reads}
 use Rattle.pseudocode.specs.Translation.{Instr, go, translate, threadCode}
 use Rattle.state.specs.declared.State.{State}
 use Rattle.state.specs.State.{Shaped, valueOf, withValue, pendingOf, withoutPending, placeOf, withPlace, isDue, withDue}
+pub use Rattle.state.proofs.Rows.{allBelow-each as all-below, each-allBelow as below-all}
 use Rattle.state.proofs.Accessors.{value-withValue-same, value-withValue-other, pending-withValue, place-withValue, due-withValue, time-withValue, count-withValue, shaped-withValue}
 use Rattle.state.proofs.Accessors.{pending-withoutPending-same, pending-withoutPending-other, value-withoutPending, place-withoutPending, due-withoutPending, time-withoutPending, count-withoutPending, shaped-withoutPending}
 use Rattle.state.proofs.Accessors.{place-withPlace-same, place-withPlace-other, value-withPlace, pending-withPlace, due-withPlace, time-withPlace, count-withPlace, shaped-withPlace}
@@ -102,22 +103,6 @@ module _ (f : ℕ → Bool) where
       by : (t : Bool) → anyBelow n f ≡ t → anyBelow n f ≡ false
       by true e = let s = some-below n e in absurd-bool (s .2) (h (s .0) (s .1))
       by false e = e
-
-  pub all-below : (n : ℕ) → allBelow n f ≡ true → (k : ℕ) → k < n → f k ≡ true
-  unfolding allBelow
-  all-below zero h k l = absurd (omega arith)
-  all-below (suc n) h k l = by (allBelow n f) refl h (below-suc n k l) (λ e s. all-below n e k s)
-    where
-      by : (t : Bool) → allBelow n f ≡ t → (t && f n) ≡ true → Below n k → (allBelow n f ≡ true → k < n → f k ≡ true) →
-          f k ≡ true
-      by true e q (at-end p) ih = rw p q
-      by true e q (before s) ih = ih e s
-      by false e q b ih = absurd-bool q refl
-
-  pub below-all : (n : ℕ) → ((k : ℕ) → k < n → f k ≡ true) → allBelow n f ≡ true
-  unfolding allBelow
-  below-all zero h = refl
-  below-all (suc n) h = rw (below-all n (λ k l. h k (omega arith))) (h n (omega arith))
 
 -- Tests that agree below n.
 pub any-same : (f g : ℕ → Bool) (n : ℕ) → ((k : ℕ) → k < n → f k ≡ g k) → anyBelow n f ≡ anyBelow n g

@@ -16,7 +16,6 @@ use Rattle.state.specs.State.{withCounters, valueOf, pendingOf, placeOf, isDue}
 use Rattle.events.specs.declared.Inputs.{Inputs}
 use Rattle.events.specs.declared.Chosen.{Chosen}
 use Rattle.events.specs.declared.Ran.{Ran}
-use Rattle.events.specs.declared.Verdict.{Verdict}
 use Rattle.events.specs.declared.Verdict.the-variants.{Quiet, Spent, Stopped}
 use Rattle.events.specs.declared.Rested.{Rested}
 use Rattle.events.specs.Cycle.{codeOf, items, allBelow, enabled, anyEnabled, isSome, anyPending, quiet, runThread, runWire, commit, feed}

@@ -16,6 +16,7 @@ use Rattle.sheet.specs.declared.EdgeTerm.{EdgeTerm}
 use Rattle.evaluation.specs.Evaluation.{eval, reads}
 use Rattle.pseudocode.specs.Translation.{Instr, wait!, set!, later!, go, ifnot, threadCode}
 use Rattle.state.specs.declared.State.{State}
+unfoldable pub use Rattle.state.specs.Saved.{allBelow}
 use Rattle.state.specs.State.{valueOf, withValue, pendingOf, withPending, withoutPending, placeOf, withPlace, isDue, withDue}
 
 -- ---- the module's parts, by number
@@ -42,15 +43,11 @@ wireExpr m k = getD (m .wires) k (unknown 1)
 unfoldable pub wireVariable : Module Expr → ℕ → ℕ
 wireVariable m k = m .scope .inputs + m .scope .registers + k
 
--- ---- some, all: does a test hold of some number below n, of every number below n?
+-- ---- some, all: does a test hold of some number below n? Of every number below n: `allBelow`, of `state`.
 
 unfoldable pub anyBelow : ℕ → (ℕ → Bool) → Bool
 anyBelow zero f = false
 anyBelow (suc n) f = anyBelow n f || f n
-
-unfoldable pub allBelow : ℕ → (ℕ → Bool) → Bool
-allBelow zero f = true
-allBelow (suc n) f = allBelow n f && f n
 
 -- ---- enabled: "A thread is enabled off a wait, a wire when due."
 

@@ -1,7 +1,6 @@
 -- By a sheet's own counts, widths and thread sizes, fitting is what the simulator's calls judge: 31 and 25.
 -- Assumes nothing.
 use mathlib.Core.Path.{_≡_, refl, ap}
-use mathlib.Core.Bool.{_&&_}
 use mathlib.Core.List.{List}
 use Prim.Native.Nat.{ℕ, _<_}
 use lib.Dec.{ltb}

@@ -1,10 +1,9 @@
 -- What a loop that looks for a number of which a test fails has shown once it has passed the numbers below `i`.
 -- Assumes nothing.
 use mathlib.Core.Path.{_≡_, refl, sym}
-use mathlib.Core.Bool.{Bool, true, false, _&&_}
+use mathlib.Core.Bool.{Bool, true, false}
 use mathlib.Core.Option.{none, some}
-use Prim.Native.Nat.{ℕ, _+_, _≤_, _<_}
-use native.Mathlib.Numerals.{add-one}
+use Prim.Native.Nat.{ℕ, _≤_, _<_}
 use native.Mathlib.Omega.{arith}
 use lib.ListN.{getD}
 use Rattle.values.specs.declared.Value.{Value}
@@ -12,30 +11,23 @@ use Rattle.values.specs.Values.{pick, fits}
 use Rattle.values.specs.Planes.{valueAt}
 use Rattle.state.specs.declared.State.{State}
 use Rattle.state.specs.State.{pendingOf}
+pub use Rattle.state.proofs.Rows.{allBelow-step as all-more}
+use Rattle.state.proofs.Rows.{allBelow-fails}
 use Rattle.events.specs.Cycle.{allBelow}
 use Rattle.events.specs.Calls.{pendingFits}
-use Rattle.events.proofs.Cycle.{absurd-bool, all-below}
 
--- ---- the test holds below i
+-- ---- the test holds below i; for one number more it is all-more
 
 module _ (f : ℕ → Bool) where
   pub all-none : allBelow 0 f ≡ true
   unfolding allBelow
   all-none = refl
 
-  pub all-more : (i : ℕ) → allBelow i f ≡ true → f i ≡ true → allBelow (i + 1) f ≡ true
-  unfolding allBelow
-  all-more i h e = rw (add-one i, h) e
-
   pub all-done : (i n : ℕ) → i ≤ n → n ≤ i → allBelow i f ≡ true → true ≡ allBelow n f
   all-done i n l g h = let e : i ≡ n = omega arith in sym (rw e at h)
 
   pub all-fails : (i n : ℕ) → i < n → f i ≡ false → false ≡ allBelow n f
-  all-fails i n l e = by (allBelow n f) refl
-    where
-      by : (t : Bool) → allBelow n f ≡ t → false ≡ t
-      by true h = absurd-bool (all-below f n h i l) e
-      by false h = refl
+  all-fails i n l e = sym (allBelow-fails f n i l e)
 
 -- ---- what a turn has found, from what its calls answered
 

@@ -1,7 +1,6 @@
 -- `fitting::inputs_fit` meets its contract. Assumes nothing.
 use borrow.Author.Needs.{needs}
 use borrow.Author.Tests.{eq-eqb, ne-eqb}
-use mathlib.Core.Bool.{_&&_}
 use Rattle.events.specs.Calls.{inputOf}
 use Rattle.fitting.specs.Fitting.{inputsFitAt}
 use Rattle.fitting.proofs.inputs_fit.Statement.{statement}

@@ -1,7 +1,6 @@
 -- `fitting::state_fits` meets its contract: the first part of 31 that fails decides. Assumes nothing.
 use borrow.Author.Needs.{needs}
 use borrow.Author.Tests.{not-true, not-false}
-use mathlib.Core.Bool.{_&&_}
 use mathlib.Core.Path.{sym, _∙_}
 use Rattle.fitting.specs.Fitting.{stateFitsAt}
 use Rattle.fitting.proofs.Planes.{values-judged, places-judged, marks-judged, pending-judged}
