@@ -1,8 +1,8 @@
 -- Laws of a choice: its number, and what it leaves, by the tests of the code.
-use mathlib.Core.Path.{_≡_, refl, sym, ap, _∙_}
+use mathlib.Core.Path.{_≡_, refl, ap, _∙_}
 use Prim.Native.Nat.{ℕ, _+_, _-_, _≤_, _<_}
 use native.Mathlib.Omega.{arith}
-use mathlib.Core.Bool.{Bool, true, false, not, _||_, or-true}
+use mathlib.Core.Bool.{Bool, true, false, _||_, or-true}
 use mathlib.Core.List.{List}
 use lib.ListN.{getD}
 use lib.Dec.{ltb, eqb}
@@ -21,16 +21,6 @@ use Rattle.changes.proofs.Firing.{placed-past}
 use Rattle.engine.specs.Live.{Plan, Live, live}
 use Rattle.engine.specs.Acting.{act, settle, commit}
 use Rattle.engine.specs.Acting.{Taken, taken, unless, takeInstr, takeThread, takeWire, takeCommit, take}
-
--- ---- a test that is turned round
-
-pub not-true : (b : Bool) → not b ≡ true → b ≡ false
-not-true true e = sym e
-not-true false e = refl
-
-pub not-false : (b : Bool) → not b ≡ false → b ≡ true
-not-false true e = refl
-not-false false e = sym e
 
 -- ---- unless
 

@@ -6,9 +6,10 @@ use mathlib.Core.Path.{_≡_, sym, ap, _∙_}
 use Rattle.engine.specs.Live.{planOf, standing}
 use Rattle.engine.specs.Acting.{Taken, take}
 use Rattle.engine.specs.Running.{runPlain}
-use Rattle.engine.proofs.Taking.{not-true, not-false, take-room}
+use Rattle.engine.proofs.Taking.{take-room}
 use Rattle.engine.proofs.Running.{ahead, plain-whole, plain-on, plain-off, plain-end, plain-quiet}
 use borrow.Author.Needs.{needs}
+use borrow.Author.Tests.{not-true, not-false}
 use Rattle.engine.proofs.run_plain.Statement.{statement}
 use Rattle.engine.proofs.run_plain.Tie as tie
 

@@ -1,8 +1,9 @@
 -- `engine::take_commit` meets its contract: refused while an item is enabled, or where nothing is held.
 use mathlib.Core.Path.{sym, _∙_}
 use Rattle.engine.specs.Live.{planOf, standing}
-use Rattle.engine.proofs.Taking.{not-true, not-false, commit-thread, commit-wire, commit-none, commit-full, commit-all}
+use Rattle.engine.proofs.Taking.{commit-thread, commit-wire, commit-none, commit-full, commit-all}
 use borrow.Author.Needs.{needs}
+use borrow.Author.Tests.{not-true, not-false}
 use Rattle.engine.proofs.take_commit.Statement.{statement}
 use Rattle.engine.proofs.take_commit.Tie as tie
 

@@ -3,8 +3,9 @@ use mathlib.Core.Path.{sym, ap, _∙_}
 use Rattle.masks.specs.Masks.{bits}
 use Rattle.changes.specs.Scene.{scene}
 use Rattle.engine.specs.Live.{planOf}
-use Rattle.engine.proofs.Taking.{not-true, not-false, wire-off, wire-full, wire-on}
+use Rattle.engine.proofs.Taking.{wire-off, wire-full, wire-on}
 use borrow.Author.Needs.{needs}
+use borrow.Author.Tests.{not-true, not-false}
 use Rattle.engine.proofs.take_wire.Statement.{statement}
 use Rattle.engine.proofs.take_wire.Tie as tie
 
