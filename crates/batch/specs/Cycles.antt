@@ -6,15 +6,11 @@ use mathlib.Core.List.{List, [], _∷_}
 use lib.ListN.{length, getD}
 use lib.Dec.{eqb}
 use Rattle.values.specs.Values.{pick}
-use Rattle.sheet.specs.Reading.{Res, ok, no}
-use Rattle.sheet.specs.Expression.{Expr}
-use Rattle.sheet.specs.Module.{Module, read}
+use Rattle.sheet.specs.Module.{read}
 use Rattle.state.specs.declared.State.{State}
 use Rattle.events.specs.declared.Inputs.{Inputs}
-use Rattle.events.specs.declared.Chosen.{Chosen}
 use Rattle.events.specs.declared.Verdict.{Verdict}
 use Rattle.events.specs.declared.Verdict.the-variants.{Quiet, Spent, Stopped}
-use Rattle.events.specs.declared.Rested.{Rested}
 use Rattle.events.specs.Calls.{judged, instant, runPlain}
 use Rattle.batch.specs.declared.Cycled.{Cycled}
 
