@@ -43,7 +43,7 @@ fn wide_word(w: u16) -> usize
 }
 
 // At most eight.
-fn eight(n: u8) -> u8
+pub fn eight(n: u8) -> u8
     ensures { λ r. ⌜ r ≡ eight n ⌝ }
 {
     if n < 8 { n } else { 8 }

@@ -11,18 +11,11 @@ ghost use Rattle.changes.specs.Changes.{eight};
 ghost use Rattle.engine.specs.Live.{planOf, standing};
 ghost use Rattle.simulator.specs.Filled.{readyBelow, unpacked, packed};
 
-// At most eight.
-fn eight(n: u8) -> u8
-    ensures { λ r. ⌜ r ≡ eight n ⌝ }
-{
-    if n < 8 { n } else { 8 }
-}
-
 // The threads that stand off a wait.
 fn ready(sheet: &[u8], code: &[u16; 4096], places: &[u8; 8], threads: u8) -> u32
     ensures { λ r. ⌜ bits r ≡ readyBelow (now (sheet .entry)) (now (code .entry)) (now (places .entry)) (eight threads) ⌝ }
 {
-    let n = eight(threads);
+    let n = changes::eight(threads);
     let mut m: u32 = 0;
     let mut i: u8 = 0;
     while i < n {

@@ -11,8 +11,6 @@ use Rattle.simulator.specs.Filled.{readyBelow}
 use Rattle.simulator.proofs.Unpacked.{ready-none, ready-off, ready-on, eight-most}
 use Rattle.simulator.proofs.packing.ready.Statement.{statement}
 use Rattle.simulator.proofs.packing.ready.Tie as tie
-use Rattle.simulator.proofs.packing.ready.Reads as reads
-use Rattle.simulator.proofs.packing.ready.Lts as lts
 
 abbrev Inv-loop : tie.InvT-loop
 Inv-loop sheet code places threads n m₀ i₀ m i = (i ≤ n) × (bits m ≡ readyBelow sheet code places i)
