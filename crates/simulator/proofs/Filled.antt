@@ -14,7 +14,7 @@ use Rattle.state.specs.State.{Shaped}
 use Rattle.events.specs.declared.Inputs.{Inputs}
 use Rattle.events.specs.declared.Chosen.{Chosen}
 use Rattle.events.specs.declared.Ran.{Ran}
-use Rattle.events.specs.declared.Verdict.the-variants.{Quiet, Spent, Stopped}
+use Rattle.events.specs.declared.Verdict.the-variants.{Stopped}
 use Rattle.events.specs.declared.Rested.{Rested}
 use Rattle.events.specs.Cycle.{quiet, feed}
 use Rattle.events.specs.Calls.{stateFits, inputOf, inputsFit, spend, answer, timed, chooseIn, runIn, runBy, plainChoice, instantRefusal, instantIn}

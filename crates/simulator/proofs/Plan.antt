@@ -1,26 +1,24 @@
 -- The tables that are filled from a sheet that was accepted are those of its module. Assumes nothing.
 use mathlib.Core.Path.{_≡_, refl, sym, ap, _∙_}
 use mathlib.Core.List.{List}
-use Prim.Native.Nat.{ℕ, _+_, _-_, _≤_, _<_}
+use Prim.Native.Nat.{ℕ, _+_, _-_, _≤_}
 use native.Mathlib.Omega.{arith}
-use lib.ListN.{length, getD, take, drop, replicate, length-map, length-replicate}
+use lib.ListN.{length, take, drop, replicate, length-map, length-replicate}
 use lib.Dec.{leb, eqb}
-use Rattle.sheet.specs.Reading.{Res, ok}
+use Rattle.sheet.specs.Reading.{ok}
 use Rattle.sheet.specs.Expression.{Expr, exprAt, located}
 use Rattle.sheet.specs.Statement.{mapStmt}
 use Rattle.sheet.specs.Module.{Module, mapModule, Head, Sheet, readHead, readWires, readThreads, readSheet, read}
 use Rattle.sheet.specs.Answers.{layoutOf}
 use Rattle.sheet.specs.declared.Layout.{Layout}
 use Rattle.sheet.proofs.Reading.{bind-ok, check-ok, ok-injective}
-use Rattle.sheet.proofs.Sections.{wires-count, Headed, headed}
+use Rattle.sheet.proofs.Sections.{wires-count, headed}
 use Rattle.sheet.proofs.Trees.{trees}
 use Rattle.soundness.proofs.Soundness.{sound}
 use Rattle.events.specs.Cycle.{codeOf}
 use Rattle.fitting.proofs.Fitting.{Sizes}
-use Rattle.tables.specs.Readers.{atMost}
 use Rattle.tables.specs.Holding.{Holding}
 use Rattle.tables.proofs.Holding.{module-same, holding-filled}
-use Rattle.engine.specs.Live.{Plan}
 use Rattle.refinement.specs.Refinement.{PlanOf}
 use Rattle.simulator.specs.Filled.{shapeOf, widthsEnd, compiled, readersOf, watchedOf, filled}
 

@@ -1,17 +1,16 @@
 -- What a sheet's reader answers, and document 01's reading of modules: every call goes by it first. Assumes nothing.
-use mathlib.Core.Path.{_≡_, refl, sym, ap, _∙_}
+use mathlib.Core.Path.{_≡_, refl}
 use mathlib.Core.List.{List}
-use Prim.Native.Nat.{ℕ, zero, suc, _≤_}
-use lib.ListN.{length, length-map}
+use Prim.Native.Nat.{ℕ, _≤_}
+use lib.ListN.{length-map}
 use Rattle.sheet.specs.Reading.{Res, ok, no}
-use Rattle.sheet.specs.Expression.{Expr, exprAt, located}
-use Rattle.sheet.specs.Module.{Module, Sheet, mapModule, readSheet, read}
+use Rattle.sheet.specs.Expression.{exprAt, located}
+use Rattle.sheet.specs.Module.{Sheet, mapModule, readSheet, read}
 use Rattle.sheet.specs.Answers.{sheetAnswer, layoutOf, blank}
 use Rattle.sheet.specs.declared.SheetRead.{SheetRead}
 use Rattle.sheet.proofs.Numbers.{numbered-no, located-numbered, sheet-numbered}
 use Rattle.sheet.proofs.Trees.{read-located, mapRes, trees}
 use Rattle.state.specs.declared.State.{State}
-use Rattle.events.specs.declared.Chosen.{Chosen}
 use Rattle.events.specs.Calls.{started, startOf, start}
 
 -- ---- a sheet is accepted, with its layout, or refused with a number from 1 on

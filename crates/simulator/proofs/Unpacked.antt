@@ -20,7 +20,7 @@ use Rattle.state.specs.State.{placeOf, withCounters}
 use Rattle.events.specs.Cycle.{current, threadEnabled}
 use Rattle.changes.specs.Scene.{scene}
 use Rattle.changes.specs.Changes.{waiting, eight}
-use Rattle.engine.specs.Live.{Plan, Live, live}
+use Rattle.engine.specs.Live.{Plan, live}
 use Rattle.refinement.specs.Refinement.{readyIn, sceneOf, liveOf, PlanOf}
 use Rattle.refinement.proofs.Kept.{Kept}
 use Rattle.refinement.proofs.Ready.{length-ready, ready-thread, ready-past}

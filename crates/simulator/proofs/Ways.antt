@@ -3,18 +3,13 @@ use mathlib.Core.Path.{_≡_, refl, sym, ap, _∙_}
 use mathlib.Core.Bool.{Bool, true, false, not}
 use mathlib.Core.List.{List}
 use Prim.Native.Nat.{ℕ, _+_}
-use lib.Dec.{eqb}
 use borrow.Author.Tests.{not-true, not-false, eq-eqb, ne-eqb}
-use Rattle.values.specs.Values.{pick}
 use Rattle.values.specs.Planes.{valueAt}
 use Rattle.masks.specs.Masks.{bits}
 use Rattle.state.specs.declared.State.{State}
 use Rattle.events.specs.declared.Inputs.{Inputs}
-use Rattle.events.specs.declared.Chosen.{Chosen}
-use Rattle.events.specs.declared.Ran.{Ran}
 use Rattle.events.specs.declared.Verdict.{Verdict}
 use Rattle.events.specs.declared.Verdict.the-variants.{Quiet, Spent, Stopped}
-use Rattle.events.specs.declared.Rested.{Rested}
 use Rattle.events.specs.Calls.{spend, answer, inputOf}
 use Rattle.fitting.specs.Fitting.{stateFitsAt, inputsFitAt}
 use Rattle.changes.specs.declared.Marks.{Marks}

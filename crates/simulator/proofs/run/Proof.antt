@@ -1,9 +1,7 @@
 -- `simulator::run` meets its contract: each way through the code is a law of proofs/Answers. Assumes nothing.
 use borrow.Author.Needs.{needs}
-use Prim.Native.Nat.{_≤_}
 use native.Mathlib.Omega.{arith}
 use Rattle.state.proofs.Accessors.{shaped-good}
-use Rattle.simulator.specs.Filled.{widthsEnd}
 use Rattle.simulator.proofs.Plan.{widths-start}
 use Rattle.simulator.proofs.Answers.{run-refused, run-accepted, widths-end-inside}
 use Rattle.simulator.proofs.run.Statement.{statement}
@@ -20,12 +18,17 @@ part-widths-start c = omega (arith, c .widths-end .ensures, widths-start (c .bef
 
 part-widths-end : tie.Need-part-widths-end
 part-widths-end c =
-    omega (arith, c .widths-end .ensures, widths-end-inside _ _ (c .before .before .before .before .before .before .before .before .read .ensures) (c .before .before .before .before .before .before .before .before .before .before .before .args .st) (c .before .before .before .before .before .before .if1 .left))
+    let a = c .before .before .before .before .before .before in
+    omega (arith, c .widths-end .ensures, widths-end-inside _ _ (a .before .before .read .ensures) (a .if1 .left))
 
 returns-2 : tie.Need-returns-2
 returns-2 c =
-    let f = c .before .before .before .before .before .before .before .before .before .before .fill .ensures in
-    run-accepted _ _ (c .before .before .before .before .before .before .before .before .before .before .before .before .before .before .before .before .before .read .ensures) (c .before .before .before .before .before .before .before .before .before .before .before .before .before .before .before .before .before .before .before .before .args .st) (c .before .before .before .before .before .before .before .before .before .before .before .before .before .before .before .if1 .left) (shaped-good (c .before .before .before .before .before .before .before .before .before .before .before .before .before .before .before .before .before .before .before .before .args .st) (c .before .before .before .before .before .before .before .before .before .before .before .before .before .before .before .before .before .before .before .before .good .1 .0)) _ _ _ _ _ _ (c .before .before .before .before .before .before .before .before .before .widths-end .ensures)
+    let w = c .before .before .before .before .before .before .before .before .before in
+    let f = w .before .fill .ensures in
+    let a = w .before .before .before .before .before .before in
+    let p = a .before .before .before .before .before in
+    run-accepted _ _ (a .before .before .read .ensures) (p .args .st) (a .if1 .left)
+    (shaped-good (p .args .st) (p .good .1 .0)) _ _ _ _ _ _ (w .widths-end .ensures)
     (c .before .before .before .before .before .before .shape-of .ensures) (f .0) (f .1 .0) (f .1 .1 .0) (f .1 .1 .1) _ _ (c .run .ensures)
 
 pub run-spec : {M : Type 1} → statement M
