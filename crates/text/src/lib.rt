@@ -24,7 +24,7 @@ pub struct Printed {
 // ---- bytes, words and numbers
 
 // A byte, past the end none.
-pub fn put_byte(b: u8, text: &mut [u8; 65536], pos: usize) -> usize
+fn put_byte(b: u8, text: &mut [u8; 65536], pos: usize) -> usize
     ensures { λ r. ⌜ filled (now (text .exit)) r ≡ puts (filled (now (text .entry)) pos) (b ∷ []) ⌝ }
 {
     if pos < 65536 {
@@ -35,7 +35,7 @@ pub fn put_byte(b: u8, text: &mut [u8; 65536], pos: usize) -> usize
 }
 
 // A word.
-pub fn put_word(word: &[u8], text: &mut [u8; 65536], pos: usize) -> usize
+fn put_word(word: &[u8], text: &mut [u8; 65536], pos: usize) -> usize
     ensures { λ r. ⌜ filled (now (text .exit)) r ≡ puts (filled (now (text .entry)) pos) (now (word .entry)) ⌝ }
 {
     let mut p = pos;
@@ -48,7 +48,7 @@ pub fn put_word(word: &[u8], text: &mut [u8; 65536], pos: usize) -> usize
 }
 
 // A number in decimal.
-pub fn put_decimal(n: usize, text: &mut [u8; 65536], pos: usize) -> usize
+fn put_decimal(n: usize, text: &mut [u8; 65536], pos: usize) -> usize
     ensures { λ r. ⌜ filled (now (text .exit)) r ≡ puts (filled (now (text .entry)) pos) (decimal n) ⌝ }
 {
     if n < 10 {
@@ -121,7 +121,7 @@ fn print_operands(
 }
 
 // The expression at a place of the sheet, with so many levels left.
-pub fn print_expr(sheet: &[u8], at: usize, depth: u8, text: &mut [u8; 65536], pos: usize) -> Printed
+fn print_expr(sheet: &[u8], at: usize, depth: u8, text: &mut [u8; 65536], pos: usize) -> Printed
     ensures { λ r. ⌜ Prints (shownAt depth (now (sheet .entry)) at)
         (filled (now (text .entry)) pos) r (now (text .exit)) ⌝ }
 {
@@ -212,7 +212,7 @@ fn term_at(t: EdgeTerms, k: u8) -> EdgeTerm
 }
 
 // The pairs of a wait.
-pub fn print_terms(t: EdgeTerms, text: &mut [u8; 65536], pos: usize) -> usize
+fn print_terms(t: EdgeTerms, text: &mut [u8; 65536], pos: usize) -> usize
     ensures { λ r. ⌜ filled (now (text .exit)) r ≡ puts (filled (now (text .entry)) pos) (showTerms (termList t)) ⌝ }
 {
     let n = term_count(t);
