@@ -1,13 +1,14 @@
 -- The ways through specs/Emitting. Assumes nothing.
 use mathlib.Core.Path.{_≡_, refl, sym, ap, _∙_}
 use mathlib.Core.List.{List}
-use Prim.Native.Nat.{ℕ, zero, suc, _+_, _-_, _*_, _/_, _%_, _≤_, _<_}
+use Prim.Native.Nat.{ℕ, zero, suc, _+_, _-_, _/_, _%_, _≤_, _<_}
 use native.Mathlib.Numerals.{sub-one}
 use borrow.Author.Tests.{lt-ltb, le-ltb, ne-eqb}
 use lib.ListN.{length, getD, List·getD-eq-default}
 use Rattle.sheet.specs.Reading.{wordOf}
 use Rattle.extraction.specs.declared.Expressed.{Expressed}
-use Rattle.extraction.specs.Emitting.{putNode, emitWords, emitCount, Expression, expression, expressed, made, unmade, heldAt, unaryAt, binaryAt, conditionalAt, nodeAt, expressAt}
+use Rattle.extraction.specs.Emitting.{putNode, emitWords, emitCount, Expression, expression, expressed, made}
+use Rattle.extraction.specs.Emitting.{unmade, heldAt, unaryAt, binaryAt, conditionalAt, nodeAt, expressAt}
 
 -- ---- one node more
 
@@ -28,6 +29,13 @@ module _ (n : ℕ) where
     pub words-full : 4096 ≤ n → emitWords n k a b c l ≡ l
     unfolding emitWords
     words-full h = simp (le-ltb n 4096 h)
+
+-- ---- a constant: its words are the halves of its number
+
+pub constant-path : (next n o : ℕ) (s : List ℕ) (p : ℕ) (l : List ℕ) {x : Expression} {v a b c : ℕ} → v ≡ wordOf s p → a ≡ o → b ≡ v % 65536 → c ≡ v / 65536
+    → x ≡ made next n 1 a b c l → x ≡ made next n 1 o (wordOf s p % 65536) (wordOf s p / 65536) l
+constant-path next n o s p l v a b c e =
+    e ∙ (λ i. made next n 1 (a i) (b i) (c i) l) ∙ (λ i. made next n 1 o (v i % 65536) (v i / 65536) l)
 
 -- ---- heldAt
 
@@ -94,9 +102,9 @@ node-none held operand s m o p n l a b c d e f =
 -- ---- expressAt: no level left, no byte left, and each node
 
 module _ (held : ℕ → ℕ) (s : List ℕ) (p n : ℕ) (l : List ℕ) where
-  pub express-deep : (d : ℕ) → d ≡ 0 → expressAt held d s p n l ≡ expression (expressed p 0 n) l
+  pub express-deep : (d : ℕ) {r : Expressed} → d ≡ 0 → r ≡ expressed p 0 n → expression r l ≡ expressAt held d s p n l
   unfolding expressAt unmade
-  express-deep d e = rw e refl
+  express-deep d e f = rw e (λ i. expression (f i) l)
 
   pub express-node : (d : ℕ) {m o : ℕ} → (d ≡ 0 → ⊥) → getD s p 0 ≡ m → o ≡ getD s (p + 1) 0
       → expressAt held d s p n l ≡ nodeAt held (expressAt held (d - 1) s) s m o p n l
@@ -104,9 +112,9 @@ module _ (held : ℕ → ℕ) (s : List ℕ) (p n : ℕ) (l : List ℕ) where
   express-node zero h e f = absurd (h refl)
   express-node (suc d) h e f = rw (sub-one, e, f) refl
 
-  pub express-end : (d : ℕ) → (d ≡ 0 → ⊥) → length s ≤ p → expressAt held d s p n l ≡ expression (expressed p 0 n) l
+  pub express-end : (d : ℕ) {r : Expressed} → (d ≡ 0 → ⊥) → length s ≤ p → r ≡ expressed p 0 n → expression r l ≡ expressAt held d s p n l
   unfolding nodeAt unmade
-  express-end d h g = express-node d h (List·getD-eq-default s 0 g) refl
+  express-end d h g f = (λ i. expression (f i) l) ∙ sym (express-node d h (List·getD-eq-default s 0 g) refl)
 
   module _ (d : ℕ) (deep : d ≡ 0 → ⊥) where
     pub at-variable : {o r : ℕ} → getD s p 0 ≡ 0x02 → o ≡ getD s (p + 1) 0 → r ≡ held o
@@ -114,10 +122,10 @@ module _ (held : ℕ → ℕ) (s : List ℕ) (p n : ℕ) (l : List ℕ) where
     unfolding nodeAt
     at-variable m e h = ap (λ (r : ℕ). expression (expressed (p + 2) r n) l) h ∙ sym (express-node d deep m e)
 
-    pub at-constant : {o a b c : ℕ} {x : Expression} → getD s p 0 ≡ 0x0C → o ≡ getD s (p + 1) 0 → a ≡ o → b ≡ wordOf s (p + 2) % 65536
-        → c ≡ wordOf s (p + 2) / 65536 → x ≡ made (p + 6) n 1 a b c l → x ≡ expressAt held d s p n l
+    pub at-constant : {o : ℕ} {x : Expression} → getD s p 0 ≡ 0x0C → o ≡ getD s (p + 1) 0
+        → x ≡ made (p + 6) n 1 o (wordOf s (p + 2) % 65536) (wordOf s (p + 2) / 65536) l → x ≡ expressAt held d s p n l
     unfolding nodeAt
-    at-constant m e f g h x = x ∙ (λ i. made (p + 6) n 1 (f i) (g i) (h i) l) ∙ sym (express-node d deep m e)
+    at-constant m e x = x ∙ sym (express-node d deep m e)
 
     pub at-unknown : {o a : ℕ} {x : Expression} → getD s p 0 ≡ 0x04 → o ≡ getD s (p + 1) 0 → a ≡ o → x ≡ made (p + 2) n 2 a 0 0 l
         → x ≡ expressAt held d s p n l
@@ -139,7 +147,9 @@ module _ (held : ℕ → ℕ) (s : List ℕ) (p n : ℕ) (l : List ℕ) where
     unfolding nodeAt
     at-conditional m e x = x ∙ sym (express-node d deep m e)
 
-    pub at-none : {m o : ℕ} → getD s p 0 ≡ m → o ≡ getD s (p + 1) 0 → (m ≡ 0x02 → ⊥) → (m ≡ 0x0C → ⊥) → (m ≡ 0x04 → ⊥)
-        → (m ≡ 0x11 → ⊥) → (m ≡ 0x31 → ⊥) → (m ≡ 0x71 → ⊥) → expression (expressed p 0 n) l ≡ expressAt held d s p n l
+    pub at-none : {m o : ℕ} {r : Expressed} → getD s p 0 ≡ m → o ≡ getD s (p + 1) 0 → (m ≡ 0x02 → ⊥) → (m ≡ 0x0C → ⊥) → (m ≡ 0x04 → ⊥)
+        → (m ≡ 0x11 → ⊥) → (m ≡ 0x31 → ⊥) → (m ≡ 0x71 → ⊥) → r ≡ expressed p 0 n → expression r l ≡ expressAt held d s p n l
     unfolding unmade
-    at-none {m} {o} e f a b c x y z = sym (express-node d deep e f ∙ node-none held (expressAt held (d - 1) s) s m o p n l a b c x y z)
+    at-none {m} {o} e f a b c x y z g =
+        (λ i. expression (g i) l)
+        ∙ sym (express-node d deep e f ∙ node-none held (expressAt held (d - 1) s) s m o p n l a b c x y z)

@@ -1,19 +1,19 @@
 -- Where the reader accepted an expression, the code's nodes for it are nextstate's `express` of its tree, in words. Assumes nothing.
-use mathlib.Core.Path.{_≡_, refl, sym, ap, _∙_}
+use mathlib.Core.Path.{_≡_, refl, sym, _∙_}
 use mathlib.Core.Bool.{Bool, true, false}
 use mathlib.Core.List.{List, [], _∷_, _++_}
-use Prim.Native.Nat.{ℕ, zero, suc, _+_, _-_, _*_, _/_, _%_, _≤_, _<_}
+use Prim.Native.Nat.{ℕ, _+_, _/_, _%_, _≤_}
 use native.Mathlib.Omega.{arith}
 use lib.Dec.{ltb}
 use lib.ListN.{length, length-append}
-use borrow.Author.Tests.{ltb-true, ltb-false, lt-ltb, le-ltb}
-use Rattle.values.specs.Values.{pick}
+use borrow.Author.Tests.{ltb-true, ltb-false}
 use Rattle.sheet.specs.Reading.{Res, ok, no, _>>=_, _>>_, check}
 use Rattle.sheet.specs.Expression.{Expr, Parsed}
 use Rattle.sheet.proofs.Expression.{Reads, a-variable, a-constant, an-unknown, a-unary, a-binary, a-conditional}
 use Rattle.nextstate.specs.Nodes.{Node, aConstant, anUnknown, aUnary, aBinary, aConditional, fourWords, nodeWords}
 use Rattle.nextstate.specs.Walk.{Emitted, emit, express}
-use Rattle.extraction.specs.Emitting.{emitWords, emitCount, Expression, expression, expressed, made, unaryAt, binaryAt, conditionalAt, nodeAt, expressAt}
+use Rattle.extraction.specs.Emitting.{emitWords, emitCount, Expression, expression, expressed, made}
+use Rattle.extraction.specs.Emitting.{unaryAt, binaryAt, conditionalAt, nodeAt, expressAt}
 use Rattle.extraction.proofs.Emitting.{count-more, count-full}
 use Rattle.extraction.proofs.Words.{tableOf, table-more}
 

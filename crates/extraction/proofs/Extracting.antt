@@ -1,44 +1,41 @@
 -- Extraction's answers on an accepted sheet and on a refused one: each way through `fill`, `expressions` and `extract` is a law.
 -- Assumes nothing.
 use mathlib.Core.Path.{_≡_, refl, sym, ap, _∙_}
-use mathlib.Core.Bool.{Bool, true, false, _&&_}
+use mathlib.Core.Bool.{Bool, true, false}
 use mathlib.Core.List.{List}
-use Prim.Native.Nat.{ℕ, zero, suc, _+_, _≤_, _<_}
+use Prim.Native.Nat.{ℕ, suc, _+_, _≤_, _<_}
 use native.Mathlib.Nat.{le-refl}
 use native.Mathlib.Omega.{arith}
-use lib.Dec.{ltb, eqb}
-use lib.ListN.{length, getD, replicate, length-map, length-replicate}
+use lib.ListN.{length, replicate, length-map, length-replicate}
 use borrow.Author.Tests.{ltb-false, eq-eqb, ne-eqb}
 use Rattle.values.specs.Values.{pick}
 use Rattle.sheet.specs.declared.Layout.{Layout}
 use Rattle.sheet.specs.declared.SheetRead.{SheetRead}
-use Rattle.sheet.specs.Reading.{Res, ok, no, _>>=_, _>>_, check}
+use Rattle.sheet.specs.Reading.{Res, ok, no}
 use Rattle.sheet.specs.Expression.{Expr, located, exprAt}
-use Rattle.sheet.specs.Statement.{mapStmt, empty}
+use Rattle.sheet.specs.Statement.{mapStmt}
 use Rattle.sheet.specs.Module.{Module, mapModule, Sheet, readSheet, read}
-use Rattle.sheet.specs.Answers.{sheetAnswer, layoutOf, startsOf}
+use Rattle.sheet.specs.Answers.{sheetAnswer, layoutOf}
 use Rattle.sheet.proofs.Numbers.{numbered-no, located-numbered, sheet-numbered}
 use Rattle.sheet.proofs.Trees.{read-located, mapRes, trees}
-use Rattle.soundness.specs.Soundness.{Sound}
 use Rattle.soundness.proofs.Soundness.{sound}
 use Rattle.pseudocode.specs.Compiling.{compileAt}
 use Rattle.events.specs.Cycle.{codeOf}
-use Rattle.tables.specs.Readers.{atMost, readersBelow, watchedBelow}
-use Rattle.tables.specs.Holding.{Holding}
+use Rattle.tables.specs.Readers.{atMost, readersBelow}
 use Rattle.tables.proofs.Readers.{atMost-same}
 use Rattle.tables.proofs.Holding.{module-same, holding-filled}
 use Rattle.rules.specs.Writers.{plainBelow, laterBelow}
 use Rattle.rules.specs.Judging.{ruleAt}
 use Rattle.rules.proofs.Writing.{plain-law, later-law}
 use Rattle.rules.proofs.Rules.{rule-law}
-use Rattle.nextstate.specs.Rules.{twoWriters, bothWays, plainlyShared, otherWait, startsRunning, runsAway, clockRead, readsUpward, manyWaits, waitsBelow, rule}
-use Rattle.nextstate.specs.Nodes.{allWords, padded}
+use Rattle.nextstate.specs.Rules.{twoWriters, bothWays, plainlyShared, otherWait, startsRunning, runsAway}
+use Rattle.nextstate.specs.Rules.{clockRead, readsUpward, manyWaits, waitsBelow, rule}
 use Rattle.nextstate.specs.Extraction.{Tables, threadsBelow, extracted, expressions, Extracted, filled, rightLengths, extract}
 use Rattle.extraction.specs.declared.Extent.{Extent}
 use Rattle.extraction.specs.Filling.{Filling, filling, extent, variablesBelow, threadsBelowAt}
 use Rattle.extraction.specs.Extracting.{fillAt, Answers}
 use Rattle.extraction.proofs.Placing.{fetched}
-use Rattle.extraction.proofs.Rows.{Filled, Fills, spilled, threads-filled}
+use Rattle.extraction.proofs.Rows.{Fills, spilled, threads-filled}
 use Rattle.extraction.proofs.Rows as the-rows
 
 -- ---- fill

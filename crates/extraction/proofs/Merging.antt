@@ -1,28 +1,27 @@
 -- Two legs joined: a branch node for each register that the thread writes, as nextstate's `merge` makes them. Assumes nothing.
 use mathlib.Core.Path.{_≡_, refl, sym, ap, _∙_}
 use mathlib.Core.Bool.{Bool, true, false}
-use mathlib.Core.List.{List, [], _∷_, _++_, append-assoc}
-use Prim.Native.Nat.{ℕ, zero, suc, _+_, _-_, _*_, _≤_, _<_}
+use mathlib.Core.List.{List, [], _∷_, _++_}
+use Prim.Native.Nat.{ℕ, zero, suc, _+_, _≤_, _<_}
 use native.Mathlib.Omega.{arith}
 use lib.Dec.{ltb}
-use lib.ListN.{length, getD, set, drop, length-append, drop-of-length-le}
+use lib.ListN.{length, getD, set, drop, length-append}
 use lib.Seq.{set-at, append-snoc, drop-cons}
-use borrow.Author.Tests.{ltb-true, ltb-false}
 use Rattle.values.specs.Values.{pick}
-use Rattle.sheet.specs.Reading.{Res, ok, no, _>>=_, _>>_, check}
+use Rattle.sheet.specs.Reading.{Res, ok, no, _>>=_}
 use Rattle.sheet.specs.Expression.{Expr}
 use Rattle.sheet.specs.Module.{Module}
 use Rattle.sheet.proofs.Reading.{check-ok, ok-injective}
 use Rattle.masks.specs.Masks.{bits}
 use Rattle.nextstate.specs.Rules.{writes}
-use Rattle.nextstate.specs.Nodes.{Node, aBranch, fourWords, nodeWords}
+use Rattle.nextstate.specs.Nodes.{Node, aBranch, nodeWords}
 use Rattle.nextstate.specs.Walk as the-walk
 use Rattle.nextstate.specs.Walk.{Emitted, emit}
 use Rattle.extraction.specs.declared.Walked.{Walked}
 use Rattle.extraction.specs.Emitting.{emitWords, emitCount, Expression, expression, expressed, made}
-use Rattle.extraction.specs.Walking.{Walking, walking, walked, Merging, merging, merged, mergeNode, mergeOne, mergeBelow, joinAt}
+use Rattle.extraction.specs.Walking.{Walking, walking, walked, merging, merged, mergeNode, mergeOne, mergeBelow, joinAt}
 use Rattle.extraction.proofs.Words.{tableOf}
-use Rattle.extraction.proofs.Expressing.{Holds, Full, Outcome, fine, full, emit-outcome}
+use Rattle.extraction.proofs.Expressing.{Outcome, fine, full, emit-outcome}
 
 -- ---- a row: the next item in place
 

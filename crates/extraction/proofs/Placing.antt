@@ -1,15 +1,15 @@
 -- The instruction that is fetched at a place of an accepted sheet's code is the one of the translation, and its expression was
 -- read where the code says. Assumes nothing.
-use mathlib.Core.Path.{_≡_, refl, sym, ap, _∙_, subst}
+use mathlib.Core.Path.{_≡_, ap, _∙_, subst}
 use mathlib.Core.List.{List, [], _∷_, _++_}
-use Prim.Native.Nat.{ℕ, zero, suc, _+_, _≤_, _<_}
+use Prim.Native.Nat.{ℕ, zero, suc, _+_, _<_}
 use native.Mathlib.Nat.{not-suc-le-zero, le-of-suc-le-suc}
 use native.Mathlib.Omega.{arith}
 use lib.ListN.{length, getD, length-map, List·getD-map}
 use lib.Dec.{leb, eqb}
 use Rattle.sheet.specs.declared.EdgeTerm.{EdgeTerm}
 use Rattle.sheet.specs.Reading.{ok}
-use Rattle.sheet.specs.Expression.{Expr, Parsed, located, exprAt}
+use Rattle.sheet.specs.Expression.{Expr, located, exprAt}
 use Rattle.sheet.specs.Statement.{Stmt, empty, size, mapStmt, Scope, Body, readStmt}
 use Rattle.sheet.specs.Module.{Module, mapModule, Listed, readHead, readWires, readThreads, Sheet, readSheet, read}
 use Rattle.sheet.proofs.Reading.{bind-ok, check-ok, ok-injective}
@@ -46,7 +46,7 @@ data Placed (ws s : List ℕ) : List (Instr ℕ) → List (Instr Expr) → Type 
       → Fetched ws s j (instructionOf i) → Placed ws s is js → Placed ws s (i ∷ is) (j ∷ js)
 
 module _ {ws s : List ℕ} where
-  waits : (ts : List EdgeTerm) → Fetched ws s (wait! ts) (instructionOf {- a place -} (wait! ts))
+  waits : (ts : List EdgeTerm) → Fetched ws s (wait! ts) (instructionOf (wait! ts))
   unfolding instructionOf
   waits ts = a-wait!
 

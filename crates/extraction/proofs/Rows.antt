@@ -7,9 +7,9 @@ use Prim.Native.Nat.{ℕ, zero, suc, _+_, _-_, _*_, _≤_, _<_}
 use native.Mathlib.Nat.{le-refl}
 use native.Mathlib.Omega.{arith}
 use lib.Dec.{ltb}
-use lib.ListN.{length, getD, set, take, replicate, length-append, length-take}
+use lib.ListN.{length, getD, set, take, replicate, length-append}
 use lib.Seq.{take-suc, take-all, length-take-le}
-use borrow.Author.Tests.{ltb-true, ltb-false, lt-ltb, le-ltb}
+use borrow.Author.Tests.{ltb-true, ltb-false, lt-ltb}
 use Rattle.values.specs.Values.{pick}
 use Rattle.sheet.specs.Reading.{Res, ok, no, _>>=_}
 use Rattle.sheet.specs.Expression.{Expr}
@@ -18,7 +18,7 @@ use Rattle.sheet.specs.Module.{Module}
 use Rattle.soundness.specs.Soundness.{SoundInstr, sound-wait, sound-set, sound-later, sound-go, sound-ifnot, SoundCode, Sound}
 use Rattle.masks.specs.Masks.{bits, mask, either}
 use Rattle.masks.proofs.Masks.{length-bits, bits-mask, length-either, getD-either}
-use Rattle.pseudocode.specs.Translation.{Instr, wait!, set!, later!, go, ifnot}
+use Rattle.pseudocode.specs.Translation.{Instr}
 use Rattle.pseudocode.specs.declared.Instruction.{Instruction}
 use Rattle.pseudocode.specs.Filling.{after}
 use Rattle.pseudocode.specs.Fetching.{fetchAt}
@@ -28,18 +28,19 @@ use Rattle.state.proofs.Rows.{length-listOf}
 use Rattle.events.specs.Cycle as cycle
 use Rattle.events.specs.Cycle.{codeOf, instrAt, isWait}
 use Rattle.nextstate.specs.Rules.{sets, defers, writes, one, waitsBefore, waitsBelow}
-use Rattle.nextstate.specs.Nodes.{Node, aVariable, nodeWords, allWords, padded}
+use Rattle.nextstate.specs.Nodes.{aVariable, nodeWords, allWords, padded}
 use Rattle.nextstate.specs.Walk as the-walk
-use Rattle.nextstate.specs.Walk.{ownRows, walk}
+use Rattle.nextstate.specs.Walk.{ownRows}
 use Rattle.nextstate.specs.Extraction.{Tables, walkFrom, walksBelow, threadsBelow, variableNodes}
 use Rattle.extraction.specs.declared.Thread.{Thread}
 use Rattle.extraction.specs.declared.Walked.{Walked}
-use Rattle.extraction.specs.Walking.{ownAt, Walking, walking, walked, walkAt}
-use Rattle.extraction.specs.Filling.{variablesBelow, rowBelow, putRow, Filling, filling, extent, waits, walkRow, walkFromAt, walksBelowAt, threadAt, threadsBelowAt}
+use Rattle.extraction.specs.Walking.{ownAt, Walking, walked, walkAt}
+use Rattle.extraction.specs.Filling.{variablesBelow, rowBelow, putRow, Filling, filling, extent}
+use Rattle.extraction.specs.Filling.{waits, walkRow, walkFromAt, walksBelowAt, threadAt, threadsBelowAt}
 use Rattle.extraction.proofs.Words.{put-one, tableOf, table-more}
 use Rattle.extraction.proofs.Placing.{Fetched, a-wait!, a-set!, a-later!, a-go, an-ifnot, AllFetched}
-use Rattle.extraction.proofs.Holding.{rowsOf, own-same, length-own}
-use Rattle.extraction.proofs.Walks.{Arrives, Ends, arrives, too-many, thread, Long, walk-stays, walks}
+use Rattle.extraction.proofs.Holding.{own-same, length-own}
+use Rattle.extraction.proofs.Walks.{Ends, arrives, too-many, Long, walk-stays, walks}
 
 -- ---- one node for each variable
 

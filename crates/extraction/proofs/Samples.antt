@@ -23,7 +23,8 @@ use Rattle.nextstate.specs.Walk.{emit, express, ownRow, ownRows, heldNode, land
 use Rattle.nextstate.specs.Extraction.{variableNodes, walkFrom, walksBelow, threadsBelow}
 use Rattle.extraction.specs.Emitting.{putNode, emitWords, emitCount, made, unmade, heldAt, nodeAt, expressAt}
 use Rattle.extraction.specs.Walking.{fillBelow, ownNode, ownAt, putAt, landAt, ended, waitAt, assignAt, actAt, visitAt, walkAt}
-use Rattle.extraction.specs.Filling.{variablesBelow, rowBelow, putRow, filling, extent, waits, walkRow, walkFromAt, walksBelowAt, threadAt, threadsBelowAt}
+use Rattle.extraction.specs.Filling.{variablesBelow, rowBelow, putRow, filling, extent, waits}
+use Rattle.extraction.specs.Filling.{walkRow, walkFromAt, walksBelowAt, threadAt, threadsBelowAt}
 
 -- ---- "Flip-flop sheet (hex): `02 01 00 01 01 08 08 0C 10 01 01 00 23 02 02 01`."
 

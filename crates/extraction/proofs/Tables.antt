@@ -1,8 +1,8 @@
 -- The ways through specs/Filling. Assumes nothing.
-use mathlib.Core.Path.{_≡_, refl, sym, ap, _∙_}
+use mathlib.Core.Path.{_≡_, refl, ap, _∙_}
 use mathlib.Core.Bool.{Bool, true, false}
 use mathlib.Core.List.{List, [], _∷_}
-use Prim.Native.Nat.{ℕ, zero, suc, _+_, _*_, _≤_, _<_}
+use Prim.Native.Nat.{ℕ, _+_, _*_, _≤_, _<_}
 use native.Mathlib.Numerals.{add-one}
 use borrow.Author.Tests.{lt-ltb, le-ltb}
 use lib.ListN.{getD, set}
@@ -14,8 +14,9 @@ use Rattle.extraction.specs.declared.Thread.{Thread}
 use Rattle.extraction.specs.declared.Walked.{Walked}
 use Rattle.extraction.specs.declared.Extent.{Extent}
 use Rattle.extraction.specs.Emitting.{emitWords}
-use Rattle.extraction.specs.Walking.{ownAt, walkAt, Walking, walking}
-use Rattle.extraction.specs.Filling.{variablesBelow, rowBelow, putRow, Filling, filling, extent, waits, walkRow, walkFromAt, walksBelowAt, threadAt, threadsBelowAt}
+use Rattle.extraction.specs.Walking.{ownAt, walkAt, walking}
+use Rattle.extraction.specs.Filling.{variablesBelow, rowBelow, putRow, Filling, filling, extent}
+use Rattle.extraction.specs.Filling.{waits, walkRow, walkFromAt, walksBelowAt, threadAt, threadsBelowAt}
 
 -- ---- variablesBelow
 

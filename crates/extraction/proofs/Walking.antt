@@ -1,15 +1,13 @@
 -- The ways through specs/Walking. Assumes nothing.
 use mathlib.Core.Path.{_≡_, refl, sym, ap, _∙_}
-use mathlib.Core.Bool.{Bool, true, false}
-use mathlib.Core.List.{List, [], _∷_}
-use Prim.Native.Nat.{ℕ, zero, suc, _+_, _-_, _*_, _%_, _≤_, _<_}
+use mathlib.Core.Bool.{true, false}
+use mathlib.Core.List.{List, []}
+use Prim.Native.Nat.{ℕ, zero, suc, _+_, _-_, _%_, _≤_, _<_}
 use native.Mathlib.Numerals.{add-one, sub-one}
 use borrow.Author.Tests.{lt-ltb, le-ltb}
-use lib.ListN.{length, getD, set}
-use Rattle.values.specs.Values.{pick}
+use lib.ListN.{getD, set}
 use Rattle.masks.specs.Masks.{bits}
 use Rattle.pseudocode.specs.declared.Action.{Action}
-use Rattle.pseudocode.specs.declared.Action.the-variants.{Set, Later, Go, IfNot}
 use Rattle.pseudocode.specs.declared.EdgeTerms.{EdgeTerms}
 use Rattle.pseudocode.specs.declared.Instruction.{Instruction}
 use Rattle.pseudocode.specs.declared.Instruction.the-variants.{Wait, Act}
@@ -19,8 +17,9 @@ use Rattle.extraction.specs.declared.Expressed.{Expressed}
 use Rattle.extraction.specs.declared.Thread.{Thread}
 use Rattle.extraction.specs.declared.Merged.{Merged}
 use Rattle.extraction.specs.declared.Walked.{Walked}
-use Rattle.extraction.specs.Emitting.{emitWords, emitCount, Expression, expression, heldAt, expressAt}
-use Rattle.extraction.specs.Walking.{fillBelow, ownNode, putAt, landAt, Walking, walking, walked, Merging, merging, merged, mergeNode, mergeOne, mergeBelow, joinAt}
+use Rattle.extraction.specs.Emitting.{emitWords, emitCount, expression, heldAt, expressAt}
+use Rattle.extraction.specs.Walking.{fillBelow, ownNode, putAt, landAt, Walking, walking, walked}
+use Rattle.extraction.specs.Walking.{merging, merged, mergeNode, mergeOne, mergeBelow, joinAt}
 use Rattle.extraction.specs.Walking.{ended, waitAt, assignAt, branchAt, actAt, visitAt, walkAt}
 
 -- ---- ownNode, putAt

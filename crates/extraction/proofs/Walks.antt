@@ -1,36 +1,35 @@
 -- The code's walk is nextstate's `walk`, in words, for a thread of an accepted sheet. Assumes nothing.
 use mathlib.Core.Path.{_≡_, refl, sym, ap, _∙_}
-use mathlib.Core.Bool.{Bool, true, false}
-use mathlib.Core.List.{List, [], _∷_, _++_, append-nil}
-use Prim.Native.Nat.{ℕ, zero, suc, _+_, _-_, _*_, _/_, _%_, _≤_, _<_}
+use mathlib.Core.Bool.{false}
+use mathlib.Core.List.{List, _++_, append-nil}
+use Prim.Native.Nat.{ℕ, zero, suc, _+_, _-_, _/_, _%_, _≤_, _<_}
 use native.Mathlib.Omega.{arith}
-use lib.ListN.{length, getD, set, drop, length-set, drop-of-length-le}
+use lib.ListN.{length, getD, set, length-set, drop-of-length-le}
 use borrow.Author.Tests.{le-ltb}
 use Rattle.sheet.specs.Reading.{Res, ok, no, _>>=_}
 use Rattle.sheet.specs.Expression.{Expr}
 use Rattle.sheet.specs.Module.{Module}
-use Rattle.soundness.specs.Soundness.{SoundTarget, SoundInstr, sound-wait, sound-set, sound-later, sound-go, sound-ifnot, SoundCode}
+use Rattle.soundness.specs.Soundness.{SoundInstr, sound-set, sound-later, sound-go, sound-ifnot, SoundCode}
 use Rattle.masks.specs.Masks.{bits}
-use Rattle.pseudocode.specs.Translation.{Instr, wait!, set!, later!, go, ifnot}
+use Rattle.pseudocode.specs.Translation.{Instr, set!, later!, ifnot}
 use Rattle.pseudocode.specs.declared.Instruction.{Instruction}
-use Rattle.pseudocode.specs.Filling.{after}
 use Rattle.pseudocode.specs.Fetching.{fetchAt}
 use Rattle.pseudocode.proofs.Filling.{after-in}
 use Rattle.events.specs.Cycle.{codeOf, instrAt}
 use Rattle.nextstate.specs.Rules.{defers, writes}
 use Rattle.nextstate.specs.Nodes.{Node, aConstant, aBranch, fourWords, nodeWords}
 use Rattle.nextstate.specs.Walk as the-walk
-use Rattle.nextstate.specs.Walk.{Emitted, emit, express, Held, heldNode, landed, merge, visit, walk}
+use Rattle.nextstate.specs.Walk.{Emitted, emit, Held, heldNode, landed, merge, visit, walk}
 use Rattle.tables.proofs.Marking.{ReadAt}
 use Rattle.extraction.specs.declared.Thread.{Thread}
 use Rattle.extraction.specs.declared.Walked.{Walked}
-use Rattle.extraction.specs.Emitting.{emitWords, emitCount, Expression, expression, expressed, made, expressAt}
-use Rattle.extraction.specs.Walking.{putAt, landAt, Walking, walking, walked, mergeBelow, joinAt, ended, waitAt, assignAt, branchAt, actAt, visitAt, walkAt}
+use Rattle.extraction.specs.Emitting.{emitWords, emitCount, Expression, made}
+use Rattle.extraction.specs.Walking.{putAt, Walking, walking, walked, joinAt, ended, waitAt, assignAt, branchAt, actAt, visitAt, walkAt}
 use Rattle.extraction.proofs.Emitting.{count-full}
 use Rattle.extraction.proofs.Words.{tableOf}
-use Rattle.extraction.proofs.Expressing.{Holds, Full, Outcome, fine, full, emit-outcome, express-full, express-outcome}
+use Rattle.extraction.proofs.Expressing.{Outcome, fine, full, emit-outcome, express-outcome}
 use Rattle.extraction.proofs.Placing.{Fetched, a-wait!, a-set!, a-later!, a-go, an-ifnot}
-use Rattle.extraction.proofs.Merging.{emit-number, branch-outcome, Merges, Merged, all, over, merge-below, join-full}
+use Rattle.extraction.proofs.Merging.{emit-number, branch-outcome, Merged, all, over, merge-below, join-full}
 use Rattle.extraction.proofs.Holding.{rowsOf, put-current, put-later, held-nodes, landed-same, length-landed}
 
 -- ---- what the code leaves, beside what the definition says

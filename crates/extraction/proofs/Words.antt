@@ -1,12 +1,13 @@
 -- Nodes and rows in words: one more is stored behind those that a table holds. Assumes nothing.
 use mathlib.Core.Path.{_≡_, refl, sym, ap, _∙_}
 use mathlib.Core.List.{List, [], _∷_, _++_, append-assoc, append-nil}
-use Prim.Native.Nat.{ℕ, zero, suc, _+_, _-_, _*_, _/_, _%_, _≤_, _<_}
+use Prim.Native.Nat.{ℕ, suc, _+_, _-_, _*_, _≤_, _<_}
 use native.Mathlib.Numerals.{add-one}
 use native.Mathlib.Omega.{arith}
 use lib.ListN.{length, getD, set, take, drop, length-append, replicate, drop-of-length-le}
 use lib.Seq.{set-at, append-snoc, drop-cons, take-suc, take-all, length-take-le}
-use Rattle.nextstate.specs.Nodes.{Node, aVariable, aConstant, anUnknown, aUnary, aBinary, aConditional, aBranch, fourWords, nodeWords, allWords, padded}
+use Rattle.nextstate.specs.Nodes.{Node, aVariable, aConstant, anUnknown, aUnary, aBinary}
+use Rattle.nextstate.specs.Nodes.{aConditional, aBranch, fourWords, nodeWords, allWords, padded}
 use Rattle.extraction.specs.Emitting.{putNode, emitWords}
 use Rattle.extraction.proofs.Emitting.{words-more}
 

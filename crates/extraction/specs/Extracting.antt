@@ -1,4 +1,5 @@
--- The whole of extraction as the code makes it, from a sheet that was read; and what it answers.
+-- The whole of extraction as the code makes it, from a sheet that was read, and what it answers. proofs/Extracting ties it to
+-- nextstate's `expressions` and `extract`.
 use Prim.Native.Nat.{ℕ, _+_, _≤_}
 use mathlib.Core.Path.{_≡_}
 use mathlib.Core.List.{List}

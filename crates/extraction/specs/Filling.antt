@@ -1,5 +1,5 @@
 -- The node table and the rows of a whole sheet, as the code fills them: on bytes, code words and tables of any contents.
--- proofs/Filling ties them to nextstate's `extracted`.
+-- proofs/Rows ties them to nextstate's `threadsBelow`.
 use Prim.Native.Nat.{ℕ, zero, suc, _+_, _*_}
 use mathlib.Core.Bool.{Bool, true, false}
 use mathlib.Core.List.{List, [], _∷_}

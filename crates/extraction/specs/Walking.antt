@@ -1,8 +1,8 @@
 -- The walk from a wait to the next, as the code makes it: on bytes, code words and a node table of any contents.
--- proofs/Walking ties it to nextstate's `walk`.
+-- proofs/Walks ties it to nextstate's `walk`.
 use Prim.Native.Nat.{ℕ, zero, suc, _+_, _-_, _%_}
-use mathlib.Core.Bool.{Bool, true, false}
-use mathlib.Core.List.{List, [], _∷_}
+use mathlib.Core.Bool.{false}
+use mathlib.Core.List.{List, []}
 use lib.ListN.{getD, set, replicate}
 use lib.Dec.{ltb}
 use Rattle.values.specs.Values.{pick}

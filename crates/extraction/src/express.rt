@@ -4,7 +4,9 @@ use sheet::byte_at;
 use sheet::word_at;
 ghost use mathlib.Core.Path.{_≡_};
 ghost use Prim.Native.Nat.{_/_, _%_};
-ghost use Rattle.extraction.specs.Emitting.{emitWords, emitCount, expression, made, unmade, heldAt, unaryAt, binaryAt, conditionalAt, expressAt};
+ghost use Rattle.sheet.specs.Reading.{wordOf};
+ghost use Rattle.extraction.specs.Emitting.{emitWords, emitCount, expression, expressed, made, unmade};
+ghost use Rattle.extraction.specs.Emitting.{heldAt, unaryAt, binaryAt, conditionalAt, expressAt};
 
 // A word as a place.
 fn wide(w: u16) -> usize
@@ -95,6 +97,44 @@ fn held_node(row: &[u16; 32], inputs: u8, registers: u8, v: u8) -> u16
     row[i]
 }
 
+// Where no expression stands.
+fn unmade(at: usize, count: u16) -> Expressed
+    ensures { λ r. ⌜ r ≡ expressed at 0 count ⌝ }
+{
+    Expressed {
+        next: at,
+        node: 0,
+        count,
+    }
+}
+
+// A constant of a width; its number at a place.
+fn express_constant(
+    sheet: &[u8],
+    width: u8,
+    at: usize,
+    next: usize,
+    nodes: &mut [u16; 16384],
+    count: u16,
+) -> Expressed
+    ensures { λ r. ⌜
+        expression r (now (nodes .exit))
+        ≡ made next count 1 width (wordOf (now (sheet .entry)) at % 65536) (wordOf (now (sheet .entry)) at / 65536)
+        (now (nodes .entry))
+        ⌝ }
+{
+    let n = word_at(sheet, at);
+    make(
+        nodes,
+        count,
+        1,
+        word(width),
+        low_half(n),
+        high_half(n),
+        next,
+    )
+}
+
 // A unary operator; its operand at a place.
 fn express_unary(
     sheet: &[u8],
@@ -107,7 +147,11 @@ fn express_unary(
     nodes: &mut [u16; 16384],
     count: u16,
 ) -> Expressed
-    ensures { λ r. ⌜ expression r (now (nodes .exit)) ≡ unaryAt (expressAt (heldAt (now (row .entry)) inputs registers) depth (now (sheet .entry))) op at count (now (nodes .entry)) ⌝ }
+    ensures { λ r. ⌜
+        expression r (now (nodes .exit))
+        ≡ unaryAt (expressAt (heldAt (now (row .entry)) inputs registers) depth (now (sheet .entry))) op at count
+        (now (nodes .entry))
+        ⌝ }
 {
     let a = express(sheet, row, inputs, registers, at, depth, nodes, count);
     make(nodes, a.count, 10 + word(op), a.node, 0, 0, a.next)
@@ -125,7 +169,11 @@ fn express_binary(
     nodes: &mut [u16; 16384],
     count: u16,
 ) -> Expressed
-    ensures { λ r. ⌜ expression r (now (nodes .exit)) ≡ binaryAt (expressAt (heldAt (now (row .entry)) inputs registers) depth (now (sheet .entry))) op at count (now (nodes .entry)) ⌝ }
+    ensures { λ r. ⌜
+        expression r (now (nodes .exit))
+        ≡ binaryAt (expressAt (heldAt (now (row .entry)) inputs registers) depth (now (sheet .entry))) op at count
+        (now (nodes .entry))
+        ⌝ }
 {
     let a = express(sheet, row, inputs, registers, at, depth, nodes, count);
     let b = express(sheet, row, inputs, registers, a.next, depth, nodes, a.count);
@@ -143,7 +191,11 @@ fn express_conditional(
     nodes: &mut [u16; 16384],
     count: u16,
 ) -> Expressed
-    ensures { λ r. ⌜ expression r (now (nodes .exit)) ≡ conditionalAt (expressAt (heldAt (now (row .entry)) inputs registers) depth (now (sheet .entry))) at count (now (nodes .entry)) ⌝ }
+    ensures { λ r. ⌜
+        expression r (now (nodes .exit))
+        ≡ conditionalAt (expressAt (heldAt (now (row .entry)) inputs registers) depth (now (sheet .entry))) at count
+        (now (nodes .entry))
+        ⌝ }
 {
     let c = express(sheet, row, inputs, registers, at, depth, nodes, count);
     let a = express(sheet, row, inputs, registers, c.next, depth, nodes, c.count);
@@ -162,71 +214,32 @@ pub fn express(
     nodes: &mut [u16; 16384],
     count: u16,
 ) -> Expressed
-    ensures { λ r. ⌜ expression r (now (nodes .exit)) ≡ expressAt (heldAt (now (row .entry)) inputs registers) depth (now (sheet .entry)) at count (now (nodes .entry)) ⌝ }
+    ensures { λ r. ⌜
+        expression r (now (nodes .exit))
+        ≡ expressAt (heldAt (now (row .entry)) inputs registers) depth (now (sheet .entry)) at count (now (nodes .entry))
+        ⌝ }
 {
     if depth == 0 {
-        return Expressed {
-            next: at,
-            node: 0,
-            count,
-        };
+        return unmade(at, count);
     }
     if sheet.len() <= at {
-        return Expressed {
-            next: at,
-            node: 0,
-            count,
-        };
+        return unmade(at, count);
     }
     let map = sheet[at];
-    let field = byte_at(sheet, at + 1);
+    let op = byte_at(sheet, at + 1);
     let rest = at + 2;
+    let less = depth - 1;
     match map {
         0x02 => Expressed {
             next: rest,
-            node: held_node(row, inputs, registers, field),
+            node: held_node(row, inputs, registers, op),
             count,
         },
-        0x0C => {
-            let n = word_at(sheet, rest);
-            make(
-                nodes,
-                count,
-                1,
-                word(field),
-                low_half(n),
-                high_half(n),
-                at + 6,
-            )
-        }
-        0x04 => make(nodes, count, 2, word(field), 0, 0, rest),
-        0x11 => express_unary(
-            sheet,
-            row,
-            inputs,
-            registers,
-            field,
-            rest,
-            depth - 1,
-            nodes,
-            count,
-        ),
-        0x31 => express_binary(
-            sheet,
-            row,
-            inputs,
-            registers,
-            field,
-            rest,
-            depth - 1,
-            nodes,
-            count,
-        ),
-        0x71 => express_conditional(sheet, row, inputs, registers, rest, depth - 1, nodes, count),
-        _ => Expressed {
-            next: at,
-            node: 0,
-            count,
-        },
+        0x0C => express_constant(sheet, op, rest, at + 6, nodes, count),
+        0x04 => make(nodes, count, 2, word(op), 0, 0, rest),
+        0x11 => express_unary(sheet, row, inputs, registers, op, rest, less, nodes, count),
+        0x31 => express_binary(sheet, row, inputs, registers, op, rest, less, nodes, count),
+        0x71 => express_conditional(sheet, row, inputs, registers, rest, less, nodes, count),
+        _ => unmade(at, count),
     }
 }

@@ -58,7 +58,10 @@ fn walk_row(
     e: Extent,
 ) -> Extent
     requires { ⌜ e .rows < 32 ⌝ }
-    ensures { λ r. ⌜ filling r (now (nodes .exit)) (now (rows .exit)) ≡ walkRow (now (sheet .entry)) (now (code .entry)) t size place (filling e (now (nodes .entry)) (now (rows .entry))) ⌝ }
+    ensures { λ r. ⌜
+        filling r (now (nodes .exit)) (now (rows .exit))
+        ≡ walkRow (now (sheet .entry)) (now (code .entry)) t size place (filling e (now (nodes .entry)) (now (rows .entry)))
+        ⌝ }
 {
     let own = own_row(t.inputs, t.registers);
     let held = [own, own];
@@ -82,7 +85,11 @@ fn walk_from(
     rows: &mut [u16; 1056],
     e: Extent,
 ) -> Extent
-    ensures { λ r. ⌜ filling r (now (nodes .exit)) (now (rows .exit)) ≡ walkFromAt (now (sheet .entry)) (now (code .entry)) t size place (filling e (now (nodes .entry)) (now (rows .entry))) ⌝ }
+    ensures { λ r. ⌜
+        filling r (now (nodes .exit)) (now (rows .exit))
+        ≡ walkFromAt (now (sheet .entry)) (now (code .entry)) t size place
+        (filling e (now (nodes .entry)) (now (rows .entry)))
+        ⌝ }
 {
     let i = pseudocode::fetch(sheet, code, t.number, place);
     if !is_wait(i) {
@@ -104,7 +111,11 @@ fn walk_thread(
     rows: &mut [u16; 1056],
     e: Extent,
 ) -> Extent
-    ensures { λ r. ⌜ filling r (now (nodes .exit)) (now (rows .exit)) ≡ walksBelowAt (now (sheet .entry)) (now (code .entry)) t size size (filling e (now (nodes .entry)) (now (rows .entry))) ⌝ }
+    ensures { λ r. ⌜
+        filling r (now (nodes .exit)) (now (rows .exit))
+        ≡ walksBelowAt (now (sheet .entry)) (now (code .entry)) t size size
+        (filling e (now (nodes .entry)) (now (rows .entry)))
+        ⌝ }
 {
     let mut x = e;
     let mut place: usize = 0;
@@ -137,7 +148,11 @@ pub fn walk_threads(
     e: Extent,
 ) -> Extent
     requires { ⌜ threads < 9 ⌝ }
-    ensures { λ r. ⌜ filling r (now (nodes .exit)) (now (rows .exit)) ≡ threadsBelowAt (now (sheet .entry)) (now (code .entry)) (now (sizes .entry)) inputs registers (now (plain .entry)) (now (later .entry)) threads (filling e (now (nodes .entry)) (now (rows .entry))) ⌝ }
+    ensures { λ r. ⌜
+        filling r (now (nodes .exit)) (now (rows .exit))
+        ≡ threadsBelowAt (now (sheet .entry)) (now (code .entry)) (now (sizes .entry)) inputs registers (now (plain .entry))
+        (now (later .entry)) threads (filling e (now (nodes .entry)) (now (rows .entry)))
+        ⌝ }
 {
     let mut x = e;
     let mut i: usize = 0;

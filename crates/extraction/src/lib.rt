@@ -73,7 +73,11 @@ fn fill(
     nodes: &mut [u16; 16384],
     rows: &mut [u16; 1056],
 ) -> Extent
-    ensures { λ r. ⌜ filling r (now (nodes .exit)) (now (rows .exit)) ≡ fillAt (now (sheet .entry)) layout (now (code .entry)) (now (sizes .entry)) (now (nodes .entry)) (now (rows .entry)) ⌝ }
+    ensures { λ r. ⌜
+        filling r (now (nodes .exit)) (now (rows .exit))
+        ≡ fillAt (now (sheet .entry)) layout (now (code .entry)) (now (sizes .entry)) (now (nodes .entry))
+        (now (rows .entry))
+        ⌝ }
 {
     let mut plain = [0u32; 8];
     let mut later = [0u32; 8];

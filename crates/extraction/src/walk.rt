@@ -14,7 +14,8 @@ ghost use lib.ListN.{getD};
 ghost use Rattle.values.specs.Values.{pick};
 ghost use Rattle.masks.specs.Masks.{bits};
 ghost use Rattle.pseudocode.specs.Filling.{after};
-ghost use Rattle.extraction.specs.Walking.{ownNode, ownAt, putAt, landAt, walking, merging, mergeNode, joinAt, ended, waitAt, assignAt, branchAt, actAt, walkAt};
+ghost use Rattle.extraction.specs.Walking.{ownNode, ownAt, putAt, landAt, walking, merging, mergeNode};
+ghost use Rattle.extraction.specs.Walking.{joinAt, ended, waitAt, assignAt, branchAt, actAt, walkAt};
 
 // A byte as a place.
 fn wide(b: u8) -> usize
@@ -198,7 +199,11 @@ fn walk_assign(
     nodes: &mut [u16; 16384],
     count: u16,
 ) -> Walked
-    ensures { λ r. ⌜ walking r (now (nodes .exit)) ≡ assignAt (now (sheet .entry)) t (walkAt (now (sheet .entry)) (now (code .entry)) t fuel) k target at place held count (now (nodes .entry)) ⌝ }
+    ensures { λ r. ⌜
+        walking r (now (nodes .exit))
+        ≡ assignAt (now (sheet .entry)) t (walkAt (now (sheet .entry)) (now (code .entry)) t fuel) k target at place held
+        count (now (nodes .entry))
+        ⌝ }
 {
     let row = held[0];
     let x = express(sheet, &row, t.inputs, t.registers, at, 16, nodes, count);
@@ -219,7 +224,11 @@ fn walk_branch(
     nodes: &mut [u16; 16384],
     count: u16,
 ) -> Walked
-    ensures { λ r. ⌜ walking r (now (nodes .exit)) ≡ branchAt (now (sheet .entry)) t (walkAt (now (sheet .entry)) (now (code .entry)) t fuel) goal at place held count (now (nodes .entry)) ⌝ }
+    ensures { λ r. ⌜
+        walking r (now (nodes .exit))
+        ≡ branchAt (now (sheet .entry)) t (walkAt (now (sheet .entry)) (now (code .entry)) t fuel) goal at place held count
+        (now (nodes .entry))
+        ⌝ }
 {
     let row = held[0];
     let x = express(sheet, &row, t.inputs, t.registers, at, 16, nodes, count);
@@ -240,7 +249,11 @@ fn walk_action(
     nodes: &mut [u16; 16384],
     count: u16,
 ) -> Walked
-    ensures { λ r. ⌜ walking r (now (nodes .exit)) ≡ actAt (now (sheet .entry)) t (walkAt (now (sheet .entry)) (now (code .entry)) t fuel) place held count (now (nodes .entry)) action ⌝ }
+    ensures { λ r. ⌜
+        walking r (now (nodes .exit))
+        ≡ actAt (now (sheet .entry)) t (walkAt (now (sheet .entry)) (now (code .entry)) t fuel) place held count
+        (now (nodes .entry)) action
+        ⌝ }
 {
     match action {
         Action::Set { target, at } => walk_assign(
@@ -287,7 +300,10 @@ pub fn walk(
     nodes: &mut [u16; 16384],
     count: u16,
 ) -> Walked
-    ensures { λ r. ⌜ walking r (now (nodes .exit)) ≡ walkAt (now (sheet .entry)) (now (code .entry)) t fuel place held count (now (nodes .entry)) ⌝ }
+    ensures { λ r. ⌜
+        walking r (now (nodes .exit))
+        ≡ walkAt (now (sheet .entry)) (now (code .entry)) t fuel place held count (now (nodes .entry))
+        ⌝ }
 {
     if fuel == 0 {
         return ended(held, count);

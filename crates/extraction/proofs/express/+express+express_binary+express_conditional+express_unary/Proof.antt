@@ -1,7 +1,7 @@
 -- An expression's nodes are made by four functions that call each other; each meets its contract.
 -- The measure goes by the depth: an expression of depth d hands its operands on at depth d - 1. Assumes nothing.
-use Prim.Native.Nat.{_+_, _*_, _%_, _/_}
-use mathlib.Core.Path.{_≡_, refl, sym, ap, _∙_}
+use Prim.Native.Nat.{_+_, _*_}
+use mathlib.Core.Path.{refl}
 use Rattle.extraction.proofs.Emitting.{unary-path, binary-path, conditional-path, express-deep, express-end}
 use Rattle.extraction.proofs.Emitting.{at-variable, at-constant, at-unknown, at-unary, at-binary, at-conditional, at-none}
 use Prim.Native.Nat.{ℕ, _<_}
@@ -19,13 +19,12 @@ use Rattle.extraction.proofs.express.+express+express_binary+express_co
 use Rattle.extraction.proofs.express.express_unary.Reads as express-unary
 use Rattle.extraction.proofs.express.express_unary.Kinds as express-unary-kinds
 use Rattle.extraction.proofs.express.+express+express_binary+express_conditional+express_unary.Lts-express_unary as express-unary-lts
+use Rattle.extraction.proofs.express.express_constant.Reads as express-constant-reads
 use Rattle.extraction.proofs.express.held_node.Reads as held-node-reads
-use Rattle.extraction.proofs.express.high_half.Reads as high-half-reads
-use Rattle.extraction.proofs.express.low_half.Reads as low-half-reads
 use Rattle.extraction.proofs.express.make.Reads as make-reads
+use Rattle.extraction.proofs.express.unmade.Reads as unmade-reads
 use Rattle.extraction.proofs.express.word.Reads as word-reads
 use Rattle.sheet.proofs.byte_at.Reads as byte-at-reads
-use Rattle.sheet.proofs.word_at.Reads as word-at-reads
 use Rattle.extraction.proofs.express.+express+express_binary+express_conditional+express_unary.{statement}
 use Rattle.extraction.proofs.express.+express+express_binary+express_conditional+express_unary.Tie.{close}
 use borrow.Author.Needs.{needs}
@@ -69,18 +68,16 @@ express-unary-below t = and 3 express-unary-kinds.ps (falls 3 express-unary-kind
 -- What express calls.
 abbrev express-calls : ℕ → express-lts.Claims
 express-calls t = (
+  unmade-reads.Asked,
+  unmade-reads.Learnt,
   byte-at-reads.Asked,
   byte-at-reads.Learnt,
   held-node-reads.Asked,
   held-node-reads.Learnt,
-  word-at-reads.Asked,
-  word-at-reads.Learnt,
+  express-constant-reads.Asked,
+  express-constant-reads.Learnt,
   word-reads.Asked,
   word-reads.Learnt,
-  low-half-reads.Asked,
-  low-half-reads.Learnt,
-  high-half-reads.Asked,
-  high-half-reads.Learnt,
   make-reads.Asked,
   make-reads.Learnt,
   express-unary-below t,
@@ -123,39 +120,72 @@ express-unary-calls t = (
 )
 
 express-returns : (t : ℕ) → express-lts.Need-returns (express-calls t) (express-at t) express.Post
-express-returns t c = sym (express-deep _ _ _ _ _ _ (c .if1 .taken))
+express-returns t c = express-deep _ _ _ _ _ _ (c .before .if1 .taken) (c .unmade .ensures)
 
 express-returns-2 : (t : ℕ) → express-lts.Need-returns-2 (express-calls t) (express-at t) express.Post
-express-returns-2 t c = sym (express-end _ _ _ _ _ _ (c .before .if1 .left) (c .if2 .taken))
+express-returns-2 t c = express-end _ _ _ _ _ _ (c .before .before .if1 .left) (c .before .if2 .taken) (c .unmade2 .ensures)
 
 express-returns-3 : (t : ℕ) → express-lts.Need-returns-3 (express-calls t) (express-at t) express.Post
-express-returns-3 t c = at-variable _ _ _ _ _ _ (c .before .before .before .before .before .if1 .left) (c .before .match .keys1) (c .before .before .byte-at .ensures) (c .held-node .ensures)
+express-returns-3 t c =
+    let b1 = c .before .before in
+    let b2 = b1 .before .before .before in
+    at-variable _ _ _ _ _ _ (b2 .if1 .left) (c .before .match .keys1) (b1 .byte-at .ensures) (c .held-node .ensures)
 
 express-returns-4 : (t : ℕ) → express-lts.Need-returns-4 (express-calls t) (express-at t) express.Post
-express-returns-4 t c = at-constant _ _ _ _ _ _ (c .before .before .before .before .before .before .before .before .before .before .if1 .left) (c .before .before .before .before .before .before .match .keys2) (c .before .before .before .before .before .before .before .byte-at .ensures) (c .before .before .before .word .ensures) (c .before .before .low-half .ensures ∙ ap (λ (n : ℕ). n % 65536) (c .before .before .before .before .before .word-at .ensures)) (c .before .high-half .ensures ∙ ap (λ (n : ℕ). n / 65536) (c .before .before .before .before .before .word-at .ensures)) (c .make .ensures)
+express-returns-4 t c =
+    let b1 = c .before .before in
+    let b2 = b1 .before in
+    let b3 = b2 .before .before .before in
+    at-constant _ _ _ _ _ _ (b3 .if1 .left) (b1 .match .keys2) (b2 .byte-at .ensures) (c .express-constant .ensures)
 
 express-returns-5 : (t : ℕ) → express-lts.Need-returns-5 (express-calls t) (express-at t) express.Post
-express-returns-5 t c = at-unknown _ _ _ _ _ _ (c .before .before .before .before .before .before .before .if1 .left) (c .before .before .before .match .keys3) (c .before .before .before .before .byte-at .ensures) (c .before .word2 .ensures) (c .make2 .ensures)
+express-returns-5 t c =
+    let b1 = c .before .before .before in
+    let b2 = b1 .before in
+    let b3 = b2 .before .before .before in
+    at-unknown _ _ _ _ _ _ (b3 .if1 .left) (b1 .match .keys3) (b2 .byte-at .ensures) (c .before .word .ensures) (c .make .ensures)
 
 express-returns-6 : (t : ℕ) → express-lts.Need-returns-6 (express-calls t) (express-at t) express.Post
-express-returns-6 t c = at-unary _ _ _ _ _ _ (c .before .before .before .before .before .before .if1 .left) (c .before .before .match .keys4) (c .before .before .before .byte-at .ensures) (c .express-unary .ensures)
+express-returns-6 t c =
+    let b1 = c .before .before in
+    let b2 = b1 .before in
+    let b3 = b2 .before .before .before in
+    at-unary _ _ _ _ _ _ (b3 .if1 .left) (b1 .match .keys4) (b2 .byte-at .ensures) (c .express-unary .ensures)
 
 express-returns-7 : (t : ℕ) → express-lts.Need-returns-7 (express-calls t) (express-at t) express.Post
-express-returns-7 t c = at-binary _ _ _ _ _ _ (c .before .before .before .before .before .before .if1 .left) (c .before .before .match .keys5) (c .before .before .before .byte-at .ensures) (c .express-binary .ensures)
+express-returns-7 t c =
+    let b1 = c .before .before in
+    let b2 = b1 .before in
+    let b3 = b2 .before .before .before in
+    at-binary _ _ _ _ _ _ (b3 .if1 .left) (b1 .match .keys5) (b2 .byte-at .ensures) (c .express-binary .ensures)
 
 express-returns-8 : (t : ℕ) → express-lts.Need-returns-8 (express-calls t) (express-at t) express.Post
-express-returns-8 t c = at-conditional _ _ _ _ _ _ (c .before .before .before .before .before .before .if1 .left) (c .before .before .match .keys6) (c .before .before .before .byte-at .ensures) (c .express-conditional .ensures)
+express-returns-8 t c =
+    let b1 = c .before .before in
+    let b2 = b1 .before in
+    let b3 = b2 .before .before .before in
+    at-conditional _ _ _ _ _ _ (b3 .if1 .left) (b1 .match .keys6) (b2 .byte-at .ensures) (c .express-conditional .ensures)
 
 express-returns-9 : (t : ℕ) → express-lts.Need-returns-9 (express-calls t) (express-at t) express.Post
 express-returns-9 t c =
-    let r = c .match .rest in
-    at-none _ _ _ _ _ _ (c .before .before .before .before .if1 .left) refl (c .before .byte-at .ensures) (r .0 .0 .0 .0 .0 .1) (r .0 .0 .0 .0 .1) (r .0 .0 .0 .1) (r .0 .0 .1) (r .0 .1) (r .1)
+    let b1 = c .before .before in
+    let b2 = b1 .before .before .before in
+    let r = c .before .match .rest in
+    at-none _ _ _ _ _ _ (b2 .if1 .left) refl (b1 .byte-at .ensures) (r .0 .0 .0 .0 .0 .1) (r .0 .0 .0 .0 .1) (r .0 .0 .0 .1) (r .0 .0 .1)
+    (r .0 .1) (r .1) (c .unmade3 .ensures)
 
 express-binary-returns : (t : ℕ) → express-binary-lts.Need-returns (express-binary-calls t) (express-binary-at t) express-binary.Post
-express-binary-returns t c = binary-path _ _ _ _ _ (c .before .before .before .before .before .express .ensures) (c .before .before .before .express2 .ensures) (c .before .word .ensures) (c .make .ensures)
+express-binary-returns t c =
+    let b1 = c .before .before .before in
+    let b2 = b1 .before .before in
+    binary-path _ _ _ _ _ (b2 .express .ensures) (b1 .express2 .ensures) (c .before .word .ensures) (c .make .ensures)
 
 express-conditional-returns : (t : ℕ) → express-conditional-lts.Need-returns (express-conditional-calls t) (express-conditional-at t) express-conditional.Post
-express-conditional-returns t c = conditional-path _ _ _ _ (c .before .before .before .before .before .before .express .ensures) (c .before .before .before .before .express2 .ensures) (c .before .before .express3 .ensures) (c .make .ensures)
+express-conditional-returns t c =
+    let b1 = c .before .before in
+    let b2 = b1 .before .before in
+    let b3 = b2 .before .before in
+    conditional-path _ _ _ _ (b3 .express .ensures) (b2 .express2 .ensures) (b1 .express3 .ensures) (c .make .ensures)
 
 express-unary-returns : (t : ℕ) → express-unary-lts.Need-returns (express-unary-calls t) (express-unary-at t) express-unary.Post
 express-unary-returns t c = unary-path _ _ _ _ _ (c .before .before .before .express .ensures) (c .before .word .ensures) (c .make .ensures)
@@ -164,26 +194,23 @@ pub +express+express-binary+express-conditional+express-unary-spec : {M : Type 1
 +express+express-binary+express-conditional+express-unary-spec =
     close μ-express μ-express-binary μ-express-conditional μ-express-unary
     (λ t. express-lts.spec (express-calls t) (express-at t) express.Post
+    (λ c κs. search needs)
     (express-returns t)
+    (λ c κs. search needs)
     (express-returns-2 t)
     (λ c. search needs)
     (λ c. search needs)
     (λ c κs. search needs)
     (λ c. search needs)
-    (λ c κs. search needs)
-    (λ c κs. search needs)
-    (λ c κs. search needs)
-    (λ c κs. search needs)
-    (λ c κs. search needs)
-    (λ c. search needs)
-    (λ c κs. search needs)
-    (λ c κs. search needs)
-    (λ c κs. search needs)
     (λ c. search needs)
     (λ c κs. search needs)
     (λ c. search needs)
     (λ c κs. search needs)
-    (λ c. search needs)
+    (λ c κs. search needs)
+    (λ c κs. search needs)
+    (λ c κs. search needs)
+    (λ c κs. search needs)
+    (λ c κs. search needs)
     (λ c κs. search needs)
     (express-returns-3 t)
     (express-returns-4 t)

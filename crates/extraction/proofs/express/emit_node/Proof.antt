@@ -1,5 +1,5 @@
 -- `express::emit_node` meets its contract. Assumes nothing.
-use mathlib.Core.Path.{_≡_, refl, sym, _∙_}
+use mathlib.Core.Path.{refl, sym}
 use Rattle.extraction.specs.Emitting.{putNode}
 use Rattle.extraction.proofs.Emitting.{count-more, count-full, words-more, words-full}
 use borrow.Author.Needs.{needs}
@@ -12,7 +12,8 @@ returns c = (sym (count-full _ (c .if1 .taken)), sym (words-full _ _ _ _ _ _ (c 
 returns-2 : tie.Need-returns-2
 unfolding putNode
 returns-2 c =
-    let a = c .before .before .args in
+    let b1 = c .before .before in
+    let a = b1 .args in
     let h = c .before .if1 .left in
     (sym (count-more (a .count) h), rw (words-more (a .count) (a .kind) (a .a) (a .b) (a .c) (a .nodes .now) h, c .wide .ensures) refl)
 

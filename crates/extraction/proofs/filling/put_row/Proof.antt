@@ -1,6 +1,6 @@
 -- `filling::put_row` meets its contract. The loop's invariant: the registers below `k` are stored. Assumes nothing.
 use mathlib.Core.Path.{_≡_, refl, ap, _∙_}
-use Prim.Native.Nat.{ℕ, _-_, _*_, _≤_}
+use Prim.Native.Nat.{ℕ, _-_, _≤_}
 use native.Mathlib.Omega.{arith}
 use Rattle.extraction.specs.Filling.{rowBelow}
 use Rattle.extraction.proofs.Tables.{row-none, row-turn, put-row-path}
@@ -25,7 +25,8 @@ loop-again c =
 
 returns : tie.Need-returns Inv-loop μ-loop
 returns c =
-    let a = c .before .before .args in
+    let b1 = c .before .before in
+    let a = b1 .args in
     let l = c .before .loop in
     let e : l .k ≡ 32 = omega arith in
     put-row-path (a .r) (a .t3) (a .rows .now) refl (l .inv .1 ∙ ap (λ (n : ℕ). rowBelow (a .r) (a .t3 .registers) n (a .rows .now)) e)

@@ -5,7 +5,11 @@ use Rattle.extraction.proofs.filling.walk_row.Statement.{statement}
 use Rattle.extraction.proofs.filling.walk_row.Tie as tie
 
 returns : tie.Need-returns
-returns c = walk-row-path _ _ _ _ _ _ _ _ (c .before .before .before .before .before .own-row .ensures) (c .before .before .before .before .after .ensures) (c .before .before .walk .ensures) (c .put-row .ensures)
+returns c =
+    let b1 = c .before .before in
+    let b2 = b1 .before .before in
+    let b3 = b2 .before in
+    walk-row-path _ _ _ _ _ _ _ _ (b3 .own-row .ensures) (b2 .after .ensures) (b1 .walk .ensures) (c .put-row .ensures)
 
 pub walk-row-spec : {M : Type 1} → statement M
 walk-row-spec =

@@ -9,7 +9,8 @@ use Rattle.extraction.proofs.filling.walk_thread.Statement.{statement}
 use Rattle.extraction.proofs.filling.walk_thread.Tie as tie
 
 abbrev Inv-loop : tie.InvT-loop
-Inv-loop sheet code t size nodes₀ rows₀ x₀ place₀ nodes rows x place = (place ≤ size) × (filling x nodes rows ≡ walksBelowAt sheet code t size place (filling x₀ nodes₀ rows₀))
+Inv-loop sheet code t size nodes₀ rows₀ x₀ place₀ nodes rows x place =
+    (place ≤ size) × (filling x nodes rows ≡ walksBelowAt sheet code t size place (filling x₀ nodes₀ rows₀))
 
 abbrev μ-loop : tie.MeasureT-loop
 μ-loop sheet code t size nodes₀ rows₀ x₀ place₀ nodes rows x place = size - place
@@ -21,14 +22,17 @@ loop-holds c =
 
 loop-again : tie.Need-loop-again Inv-loop μ-loop
 loop-again c =
-    let a = c .before .before .before .before .before .before .args in
-    let l = c .before .before .before .before .loop in
+    let b1 = c .before .before .before .before in
+    let b2 = b1 .before .before in
+    let a = b2 .args in
+    let l = b1 .loop in
     let x = filling (a .e) (a .nodes .now) (a .rows .now) in
     (omega arith, walks-turn (a .sheet .now) (a .code .now) (a .t) (a .size) x (l .place) (l .inv .1) (c .walk-from .ensures))
 
 returns : tie.Need-returns Inv-loop μ-loop
 returns c =
-    let a = c .before .before .before .args in
+    let b1 = c .before .before .before in
+    let a = b1 .args in
     let l = c .before .loop in
     let e : l .place ≡ a .size = omega arith in
     l .inv .1

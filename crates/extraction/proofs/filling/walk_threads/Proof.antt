@@ -9,7 +9,8 @@ use Rattle.extraction.proofs.filling.walk_threads.Statement.{statement}
 use Rattle.extraction.proofs.filling.walk_threads.Tie as tie
 
 abbrev Inv-loop : tie.InvT-loop
-Inv-loop sheet code sizes inputs registers plain later threads nodes₀ rows₀ x₀ i₀ nodes rows x i = (i ≤ threads) × (filling x nodes rows ≡ threadsBelowAt sheet code sizes inputs registers plain later i (filling x₀ nodes₀ rows₀))
+Inv-loop sheet code sizes inputs registers plain later threads nodes₀ rows₀ x₀ i₀ nodes rows x i =
+    (i ≤ threads) × (filling x nodes rows ≡ threadsBelowAt sheet code sizes inputs registers plain later i (filling x₀ nodes₀ rows₀))
 
 abbrev μ-loop : tie.MeasureT-loop
 μ-loop sheet code sizes inputs registers plain later threads nodes₀ rows₀ x₀ i₀ nodes rows x i = threads - i
@@ -24,11 +25,14 @@ loop-holds c =
 
 loop-again : tie.Need-loop-again Inv-loop μ-loop
 loop-again c =
-    let a = c .before .before .before .before .before .before .before .before .before .before .args in
-    let l = c .before .before .before .before .before .before .before .before .loop in (
+    let b1 = c .before .before .before .before in
+    let b2 = b1 .before .before .before .before in
+    let b3 = b2 .before .before in
+    let a = b3 .args in
+    let l = b2 .loop in (
       omega arith,
       threads-turn (a .sheet .now) (a .code .now) (a .sizes .now) (a .inputs) (a .registers) (a .plain .now) (a .later .now)
-          (filling (a .e) (a .nodes .now) (a .rows .now)) (l .i) (l .inv .1) (c .before .before .before .before .both .ensures) (c .walk-thread .ensures),
+          (filling (a .e) (a .nodes .now) (a .rows .now)) (l .i) (l .inv .1) (b1 .both .ensures) (c .walk-thread .ensures),
     )
 
 returns : tie.Need-returns Inv-loop μ-loop

@@ -125,10 +125,20 @@ walk-returns-2 : (t : ℕ) → walk-lts.Need-returns-2 (walk-calls t) (walk-at t
 walk-returns-2 t c = walk-full _ _ _ _ _ _ _ _ (c .before .before .if1 .left) (c .before .if2 .taken) (c .ended2 .ensures)
 
 walk-returns-3 : (t : ℕ) → walk-lts.Need-returns-3 (walk-calls t) (walk-at t) walk.Post
-walk-returns-3 t c = walk-wait _ _ _ _ _ _ _ _ (c .before .before .before .before .before .before .if1 .left) (c .before .before .before .before .before .if2 .left) _ (c .before .before .before .before .fetch .ensures) (c .before .before .enum-told .given .1) (c .rest .ensures)
+walk-returns-3 t c =
+    let b1 = c .before .before in
+    let b2 = b1 .before .before in
+    let b3 = b2 .before in
+    let b4 = b3 .before in
+    walk-wait _ _ _ _ _ _ _ _ (b4 .if1 .left) (b3 .if2 .left) _ (b2 .fetch .ensures) (b1 .enum-told .given .1) (c .rest .ensures)
 
 walk-returns-4 : (t : ℕ) → walk-lts.Need-returns-4 (walk-calls t) (walk-at t) walk.Post
-walk-returns-4 t c = walk-act _ _ _ _ _ _ _ _ (c .before .before .before .before .before .before .before .if1 .left) (c .before .before .before .before .before .before .if2 .left) _ (c .before .before .before .before .before .fetch .ensures) (c .before .before .before .i .given .1) (c .walk-action .ensures)
+walk-returns-4 t c =
+    let b1 = c .before .before .before in
+    let b2 = b1 .before .before in
+    let b3 = b2 .before in
+    let b4 = b3 .before in
+    walk-act _ _ _ _ _ _ _ _ (b4 .if1 .left) (b3 .if2 .left) _ (b2 .fetch .ensures) (b1 .i .given .1) (c .walk-action .ensures)
 
 walk-action-returns : (t : ℕ) → walk-action-lts.Need-returns (walk-action-calls t) (walk-action-at t) walk-action.Post
 unfolding actAt
@@ -147,10 +157,21 @@ unfolding actAt
 walk-action-returns-4 t c = rw (c .before .before .before .action4 .given .1) (c .walk-branch .ensures)
 
 walk-assign-returns : (t : ℕ) → walk-assign-lts.Need-returns (walk-assign-calls t) (walk-assign-at t) walk-assign.Post
-walk-assign-returns t c = assign-path _ _ _ _ _ _ _ _ _ _ (c .before .before .before .before .before .express .ensures) (c .before .before .after .ensures) (c .before .before .before .before .register-of .ensures) (c .before .before .before .put .ensures) (c .walk .ensures)
+walk-assign-returns t c =
+    let b1 = c .before .before in
+    let b2 = b1 .before in
+    let b3 = b2 .before in
+    let b4 = b3 .before in
+    assign-path _ _ _ _ _ _ _ _ _ _ (b4 .express .ensures) (b1 .after .ensures) (b3 .register-of .ensures) (b2 .put .ensures)
+    (c .walk .ensures)
 
 walk-branch-returns : (t : ℕ) → walk-branch-lts.Need-returns (walk-branch-calls t) (walk-branch-at t) walk-branch.Post
-walk-branch-returns t c = branch-path _ _ _ _ _ _ _ _ _ (c .before .before .before .before .before .before .before .express .ensures) (c .before .before .before .before .before .before .after .ensures) (c .before .before .before .before .walk .ensures) (c .before .before .walk2 .ensures) (c .join .ensures)
+walk-branch-returns t c =
+    let b1 = c .before .before in
+    let b2 = b1 .before .before in
+    let b3 = b2 .before .before in
+    let b4 = b3 .before in
+    branch-path _ _ _ _ _ _ _ _ _ (b4 .express .ensures) (b3 .after .ensures) (b2 .walk .ensures) (b1 .walk2 .ensures) (c .join .ensures)
 
 pub +walk+walk-action+walk-assign+walk-branch-spec : {M : Type 1} → statement M
 +walk+walk-action+walk-assign+walk-branch-spec =

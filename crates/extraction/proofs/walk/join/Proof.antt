@@ -1,6 +1,5 @@
 -- `walk::join` meets its contract. The loop's invariant: the registers below `r` are merged. Assumes nothing.
 use mathlib.Core.Path.{_≡_, ap, _∙_}
-use mathlib.Core.List.{List}
 use Prim.Native.Nat.{ℕ, _-_, _≤_}
 use native.Mathlib.Omega.{arith}
 use Rattle.extraction.specs.Walking.{walking, walked, mergeBelow}

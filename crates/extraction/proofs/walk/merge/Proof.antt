@@ -6,7 +6,10 @@ use Rattle.extraction.proofs.walk.merge.Statement.{statement}
 use Rattle.extraction.proofs.walk.merge.Tie as tie
 
 returns : tie.Need-returns
-returns c = merge-written _ _ _ _ _ _ _ (sym (c .before .before .if1 .taken) ∙ c .before .before .before .has .ensures) (c .emit-node .ensures .0) (c .emit-node .ensures .1)
+returns c =
+    let b1 = c .before .before in
+    let b2 = b1 .before in
+    merge-written _ _ _ _ _ _ _ (sym (b1 .if1 .taken) ∙ b2 .has .ensures) (c .emit-node .ensures .0) (c .emit-node .ensures .1)
 
 returns-2 : tie.Need-returns-2
 returns-2 c = merge-other _ _ _ _ _ _ _ (sym (c .if1 .left) ∙ c .before .has .ensures)
