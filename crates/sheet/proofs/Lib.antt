@@ -8,3 +8,5 @@ pub mod Nodes
 pub mod Forms
 pub mod Sections
 pub mod Samples
+pub mod Walks
+pub mod Stages

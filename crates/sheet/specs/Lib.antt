@@ -4,3 +4,4 @@ pub mod Statement
 pub mod Module
 pub mod Answers
 pub mod Parts
+pub mod Reader

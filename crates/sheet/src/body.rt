@@ -1,5 +1,6 @@
 // What follows the head of a sheet: the wires' expressions, the threads' statements, and nothing more.
 use super::ExprRead;
+use super::HeadRead;
 use super::Layout;
 use super::PlaceRead;
 use super::SheetRead;
@@ -10,12 +11,12 @@ use super::expr::located;
 use super::stmt::read_stmt;
 ghost use mathlib.Core.Path.{_≡_};
 ghost use Prim.Native.Nat.{_+_, _≤_};
-ghost use lib.ListN.{length};
-ghost use Rattle.sheet.specs.Reading.{ok, no};
+ghost use Rattle.sheet.specs.Reading.{no};
 ghost use Rattle.sheet.specs.Expression.{located};
-ghost use Rattle.sheet.specs.Module.{readHead, readWires, readThreads, readSheet};
+ghost use Rattle.sheet.specs.Module.{readWires, readThreads};
 ghost use Rattle.sheet.specs.Answers.{sheetAnswer};
-ghost use Rattle.sheet.specs.Parts.{scopeOf, headOf, placeAnswer, wiresAnswer};
+ghost use Rattle.sheet.specs.Parts.{scopeOf, placeAnswer, wiresAnswer};
+ghost use Rattle.sheet.specs.Reader.{headRead, wiresFrom, wiresRead, threadsFrom, rowEnd, finishedOf};
 
 // The wires' expressions: each has its wire's width.
 fn read_wires(
@@ -114,28 +115,95 @@ pub fn refused(number: u8, place: usize) -> SheetRead
     }
 }
 
-// The rest of a sheet whose head was read.
-pub fn read_body(sheet: &[u8], inputs: u8, registers: u8, wires: u8, threads: u8) -> SheetRead
-    requires { ⌜ (length (now sheet) ≤ 8192) × (readHead (now sheet) ≡ ok (headOf (now sheet) inputs registers wires threads)) ⌝ }
-    ensures { λ r. ⌜ r ≡ sheetAnswer (readSheet (located (now (sheet .entry))) (now (sheet .entry))) ⌝ }
+// The wires' expressions from a place on, behind the head of this sheet.
+pub fn wires_after(sheet: &[u8], at: usize, head: HeadRead) -> WiresRead
+    requires { ⌜ head ≡ headRead (now sheet) ⌝ }
+    ensures { λ r. ⌜ r ≡ wiresAnswer (wiresFrom (now (sheet .entry)) at) ⌝ }
 {
-    let first = 4 + (inputs as usize) + (registers as usize) + (wires as usize);
-    let widths = &sheet[4..first];
-    let row = read_wires(sheet, widths, inputs, registers, wires, first);
+    match head {
+        HeadRead::Refused { number, place } => WiresRead {
+            read: PlaceRead::Refused { number, place },
+            starts: [0usize; 32],
+        },
+        HeadRead::Read {
+            inputs,
+            registers,
+            wires,
+            threads: _,
+        } => {
+            let first = 4 + (inputs as usize) + (registers as usize) + (wires as usize);
+            let widths = &sheet[4..first];
+            read_wires(sheet, widths, inputs, registers, wires, at)
+        }
+    }
+}
+
+// Where the wires' expressions end.
+pub fn row_end(row: WiresRead) -> usize
+    ensures { λ r. ⌜ r ≡ rowEnd row ⌝ }
+{
     let read = row.read;
-    let starts = row.starts;
-    let body = match read {
+    match read {
         PlaceRead::At(next) => next,
+        PlaceRead::Refused {
+            number: _,
+            place: _,
+        } => 0,
+    }
+}
+
+// The threads' statements from a place on, behind the head and the wires of this sheet.
+pub fn threads_after(sheet: &[u8], at: usize, head: HeadRead, row: WiresRead) -> PlaceRead
+    requires { ⌜ (head ≡ headRead (now sheet)) × (row ≡ wiresAnswer (wiresRead (now sheet))) ⌝ }
+    ensures { λ r. ⌜ r ≡ placeAnswer (threadsFrom (now (sheet .entry)) at) ⌝ }
+{
+    let read = row.read;
+    if let PlaceRead::Refused { number, place } = read {
+        return PlaceRead::Refused { number, place };
+    }
+    match head {
+        HeadRead::Refused { number, place } => PlaceRead::Refused { number, place },
+        HeadRead::Read {
+            inputs,
+            registers,
+            wires,
+            threads,
+        } => {
+            let first = 4 + (inputs as usize) + (registers as usize) + (wires as usize);
+            let widths = &sheet[4..first];
+            read_threads(sheet, widths, inputs, registers, threads, at)
+        }
+    }
+}
+
+// The answer, once everything was read: the threads end where the sheet does.
+pub fn finished(
+    head: HeadRead,
+    row: WiresRead,
+    body: usize,
+    threads: PlaceRead,
+    size: usize,
+) -> SheetRead
+    ensures { λ r. ⌜ r ≡ finishedOf head row body threads size ⌝ }
+{
+    let end = match threads {
+        PlaceRead::At(end) => end,
         PlaceRead::Refused { number, place } => {
             return refused(number, place);
         }
     };
-    match read_threads(sheet, widths, inputs, registers, threads, body) {
-        PlaceRead::Refused { number, place } => refused(number, place),
-        PlaceRead::At(end) => {
-            if end != sheet.len() {
-                return refused(10, end);
-            }
+    if end != size {
+        return refused(10, end);
+    }
+    match head {
+        HeadRead::Refused { number, place } => refused(number, place),
+        HeadRead::Read {
+            inputs,
+            registers,
+            wires,
+            threads,
+        } => {
+            let starts = row.starts;
             let layout = Layout {
                 inputs,
                 registers,

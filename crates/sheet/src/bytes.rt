@@ -1,10 +1,13 @@
 // Bytes of a sheet: plain, within limits, and four as a number.
 use super::ByteRead;
+use super::WordRead;
 ghost use mathlib.Core.Path.{_≡_};
-ghost use lib.ListN.{getD};
-ghost use Rattle.sheet.specs.Reading.{within, word, wordOf};
+ghost use Prim.Native.Nat.{_-_};
+ghost use lib.ListN.{length, getD};
+ghost use Rattle.sheet.specs.Reading.{within, word, wordOf, wordAt};
 ghost use Rattle.sheet.specs.Expression.{variableAt};
 ghost use Rattle.sheet.specs.Parts.{byteAnswer};
+ghost use Rattle.sheet.specs.Reader.{wordAnswer};
 
 // The byte at a place, 0 past the end.
 pub fn byte_at(s: &[u8], at: usize) -> u8
@@ -33,6 +36,27 @@ pub fn word_at(s: &[u8], at: usize) -> u32
         byte_at(s, at + 2),
         byte_at(s, at + 3),
     )
+}
+
+// The number at a place: all four bytes are read before it is judged.
+pub(crate) fn read_word(sheet: &[u8], at: usize) -> WordRead
+    ensures { λ r. ⌜ r ≡ wordAnswer (wordAt (now (sheet .entry)) at) ⌝ }
+{
+    if left_of(sheet, at) < 4 {
+        return WordRead::Refused {
+            number: 2,
+            place: sheet.len(),
+        };
+    }
+    WordRead::Word(word_at(sheet, at))
+}
+
+// How many bytes a place has before it ends.
+pub(crate) fn left_of(sheet: &[u8], at: usize) -> usize
+    ensures { λ r. ⌜ r ≡ length (now (sheet .entry)) - at ⌝ }
+{
+    let end = sheet.len();
+    if end <= at { 0 } else { end - at }
 }
 
 // A byte from low to high; outside, the number is met at that byte.

@@ -5,8 +5,9 @@ use super::WidthsRead;
 use super::bytes::read_within;
 ghost use mathlib.Core.Path.{_≡_};
 ghost use Prim.Native.Nat.{_-_};
-ghost use Rattle.sheet.specs.Module.{readWidths, readHead};
-ghost use Rattle.sheet.specs.Parts.{widthsAnswer, headAnswer};
+ghost use Rattle.sheet.specs.Module.{readWidths};
+ghost use Rattle.sheet.specs.Parts.{widthsAnswer};
+ghost use Rattle.sheet.specs.Reader.{countsFrom, widthsFrom, headEnd};
 
 // The widths from a place up to another.
 fn read_widths(sheet: &[u8], first: usize, end: usize) -> WidthsRead
@@ -23,39 +24,41 @@ fn read_widths(sheet: &[u8], first: usize, end: usize) -> WidthsRead
     WidthsRead::Fine
 }
 
-// The counts, the clock's width and the other widths.
-pub fn read_head(sheet: &[u8]) -> HeadRead
-    ensures { λ r. ⌜ r ≡ headAnswer (readHead (now (sheet .entry))) ⌝ }
+// The counts and the clock's width from a place on, in a sheet that isn't too long.
+pub fn read_counts(sheet: &[u8], at: usize) -> HeadRead
+    ensures { λ r. ⌜ r ≡ countsFrom (now (sheet .entry)) at ⌝ }
 {
-    let inputs = match read_within(sheet, 0, 1, 16, 3) {
-        ByteRead::Byte(b) => b,
-        ByteRead::Refused { number, place } => {
-            return HeadRead::Refused { number, place };
-        }
-    };
-    let registers = match read_within(sheet, 1, 1, 32, 3) {
-        ByteRead::Byte(b) => b,
-        ByteRead::Refused { number, place } => {
-            return HeadRead::Refused { number, place };
-        }
-    };
-    let wires = match read_within(sheet, 2, 0, 32, 3) {
-        ByteRead::Byte(b) => b,
-        ByteRead::Refused { number, place } => {
-            return HeadRead::Refused { number, place };
-        }
-    };
-    let threads = match read_within(sheet, 3, 1, 8, 3) {
-        ByteRead::Byte(b) => b,
-        ByteRead::Refused { number, place } => {
-            return HeadRead::Refused { number, place };
-        }
-    };
-    if let ByteRead::Refused { number, place } = read_within(sheet, 4, 1, 1, 4) {
-        return HeadRead::Refused { number, place };
+    if 8192 < sheet.len() {
+        return HeadRead::Refused {
+            number: 1,
+            place: 8192,
+        };
     }
-    let end = 4 + (inputs as usize) + (registers as usize) + (wires as usize);
-    if let WidthsRead::Refused { number, place } = read_widths(sheet, 5, end) {
+    let inputs = match read_within(sheet, at, 1, 16, 3) {
+        ByteRead::Byte(b) => b,
+        ByteRead::Refused { number, place } => {
+            return HeadRead::Refused { number, place };
+        }
+    };
+    let registers = match read_within(sheet, at + 1, 1, 32, 3) {
+        ByteRead::Byte(b) => b,
+        ByteRead::Refused { number, place } => {
+            return HeadRead::Refused { number, place };
+        }
+    };
+    let wires = match read_within(sheet, at + 2, 0, 32, 3) {
+        ByteRead::Byte(b) => b,
+        ByteRead::Refused { number, place } => {
+            return HeadRead::Refused { number, place };
+        }
+    };
+    let threads = match read_within(sheet, at + 3, 1, 8, 3) {
+        ByteRead::Byte(b) => b,
+        ByteRead::Refused { number, place } => {
+            return HeadRead::Refused { number, place };
+        }
+    };
+    if let ByteRead::Refused { number, place } = read_within(sheet, at + 4, 1, 1, 4) {
         return HeadRead::Refused { number, place };
     }
     HeadRead::Read {
@@ -63,5 +66,33 @@ pub fn read_head(sheet: &[u8]) -> HeadRead
         registers,
         wires,
         threads,
+    }
+}
+
+// The other widths, from a place up to where the counts say that the head ends.
+pub fn widths_after(sheet: &[u8], at: usize, counts: HeadRead) -> HeadRead
+    ensures { λ r. ⌜ r ≡ widthsFrom (now (sheet .entry)) at counts ⌝ }
+{
+    match read_widths(sheet, at, head_end(counts)) {
+        WidthsRead::Refused { number, place } => HeadRead::Refused { number, place },
+        WidthsRead::Fine => counts,
+    }
+}
+
+// Where a head with these counts ends; a refused one has no widths.
+pub fn head_end(head: HeadRead) -> usize
+    ensures { λ r. ⌜ r ≡ headEnd head ⌝ }
+{
+    match head {
+        HeadRead::Refused {
+            number: _,
+            place: _,
+        } => 0,
+        HeadRead::Read {
+            inputs,
+            registers,
+            wires,
+            threads: _,
+        } => 4 + (inputs as usize) + (registers as usize) + (wires as usize),
     }
 }

@@ -3,6 +3,7 @@ mod body;
 pub mod bytes;
 mod expr;
 mod head;
+mod scan;
 mod stmt;
 
 pub use bytes::byte_at;
@@ -19,9 +20,21 @@ pub struct EdgeTerm {
     pub variable: u8,
 }
 
+// The sheet's bytes together with the next place in them.
+pub struct Reader<'a> {
+    pub sheet: &'a [u8],
+    pub at: usize,
+}
+
 // A byte that was read, or a refusal's number and place.
 pub enum ByteRead {
     Byte(u8),
+    Refused { number: u8, place: usize },
+}
+
+// A number of four bytes that was read, or a refusal's number and place.
+pub enum WordRead {
+    Word(u32),
     Refused { number: u8, place: usize },
 }
 
@@ -92,20 +105,16 @@ pub struct SheetRead {
     pub layout: Layout,
 }
 
-// The whole sheet.
+// The whole sheet: one Reader over it reads the counts, the widths, the wires and the threads, each from its
+// place on. What a part finds goes on to the next; the first refusal is the answer.
 pub fn read(sheet: &[u8]) -> SheetRead
     ensures { λ r. ⌜ r ≡ sheetAnswer (readSheet (located (now (sheet .entry))) (now (sheet .entry))) ⌝ }
 {
-    if 8192 < sheet.len() {
-        return body::refused(1, 8192);
-    }
-    match head::read_head(sheet) {
-        HeadRead::Refused { number, place } => body::refused(number, place),
-        HeadRead::Read {
-            inputs,
-            registers,
-            wires,
-            threads,
-        } => body::read_body(sheet, inputs, registers, wires, threads),
-    }
+    let start = scan::over(sheet);
+    let counts = scan::counts(start);
+    let head = scan::widths(scan::moved(start, 5), counts);
+    let row = scan::wires(scan::moved(start, head::head_end(head)), head);
+    let behind = scan::moved(start, body::row_end(row));
+    let body = scan::threads(behind, head, row);
+    body::finished(head, row, scan::place(behind), body, scan::left(start))
 }

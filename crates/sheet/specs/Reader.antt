@@ -1,0 +1,117 @@
+-- What the Reader's functions give. A Reader is the sheet's bytes together with the next place in them.
+use Prim.Native.Nat.{ℕ, _+_, _-_}
+use mathlib.Core.List.{List}
+use lib.ListN.{length}
+use lib.Dec.{leb, eqb}
+use denote.Ref.{RefT}
+use Rattle.values.specs.Values.{pick}
+use Rattle.sheet.specs.Reading.{Res, ok, no, _>>=_, _>>_, check, within}
+use Rattle.sheet.specs.Expression.{located}
+use Rattle.sheet.specs.Statement.{Stmt}
+use Rattle.sheet.specs.Module.{Listed, Head, readWidths, readHead, readWires, readThreads}
+use Rattle.sheet.specs.Answers.{sheetAnswer}
+use Rattle.sheet.specs.Parts.{headAnswer}
+use Rattle.sheet.specs.declared.Reader.{Reader}
+use Rattle.sheet.specs.declared.WordRead as WordRead
+use Rattle.sheet.specs.declared.HeadRead as HeadRead
+use Rattle.sheet.specs.declared.PlaceRead as PlaceRead
+use Rattle.sheet.specs.declared.WiresRead.{WiresRead}
+use Rattle.sheet.specs.declared.SheetRead.{SheetRead}
+
+-- The Reader of a sheet, at a place.
+abbrev pub readerAt : RefT (List ℕ) → ℕ → Reader
+readerAt sheet p = record { sheet = sheet; at = p }
+
+-- ---- a number of four bytes
+
+unfoldable pub wordAnswer : Res ℕ → WordRead.WordRead
+wordAnswer (ok v) = WordRead.the-variants.Word v
+wordAnswer (no n p) = WordRead.the-variants.Refused n p
+
+-- ---- the counts, from a place on
+
+-- "At most 8,192 bytes" is judged before anything is read.
+unfoldable pub sized : List ℕ → Res (Unit {0})
+sized s = check (leb (length s) 8192) 1 8192
+
+unfoldable pub readCounts : List ℕ → ℕ → Res HeadRead.HeadRead
+readCounts s p = do
+  sized s
+  i ← within 1 16 3 s p
+  r ← within 1 32 3 s (p + 1)
+  w ← within 0 32 3 s (p + 2)
+  t ← within 1 8 3 s (p + 3)
+  c ← within 1 1 4 s (p + 4)
+  ok (HeadRead.the-variants.Read i r w t)
+
+unfoldable pub countsAnswer : Res HeadRead.HeadRead → HeadRead.HeadRead
+countsAnswer (ok h) = h
+countsAnswer (no n p) = HeadRead.the-variants.Refused n p
+
+abbrev pub countsFrom : List ℕ → ℕ → HeadRead.HeadRead
+countsFrom s p = countsAnswer (readCounts s p)
+
+-- ---- the widths, from a place up to where the head ends
+
+-- The place behind a head; a refused one has none, and no widths are read.
+unfoldable pub headEnd : HeadRead.HeadRead → ℕ
+headEnd (HeadRead.the-variants.Read i r w t) = 4 + i + r + w
+headEnd (HeadRead.the-variants.Refused n p) = 0
+
+unfoldable pub judged : HeadRead.HeadRead → Res (List ℕ) → HeadRead.HeadRead
+judged h (ok ws) = h
+judged h (no n p) = HeadRead.the-variants.Refused n p
+
+abbrev pub widthsFrom : List ℕ → ℕ → HeadRead.HeadRead → HeadRead.HeadRead
+widthsFrom s p h = judged h (readWidths (headEnd h - p) s p)
+
+-- ---- the head of a sheet
+
+unfoldable pub sheetHead : List ℕ → Res Head
+sheetHead s = do
+  sized s
+  readHead s
+
+abbrev pub headRead : List ℕ → HeadRead.HeadRead
+headRead s = headAnswer (sheetHead s)
+
+-- ---- the wires, from a place on
+
+unfoldable pub wiresFrom : List ℕ → ℕ → Res (Listed ℕ)
+wiresFrom s p = do
+  h ← sheetHead s
+  readWires (located s) (h .scope) s (h .wires) (h .scope .inputs + h .scope .registers) p
+
+-- Those of the sheet stand behind its head.
+unfoldable pub wiresRead : List ℕ → Res (Listed ℕ)
+wiresRead s = wiresFrom s (headEnd (headRead s))
+
+unfoldable pub placeEnd : PlaceRead.PlaceRead → ℕ
+placeEnd (PlaceRead.the-variants.At p) = p
+placeEnd (PlaceRead.the-variants.Refused n p) = 0
+
+abbrev pub rowEnd : WiresRead → ℕ
+rowEnd row = placeEnd (row .read)
+
+-- ---- the threads, from a place on
+
+unfoldable pub threadsFrom : List ℕ → ℕ → Res (Listed (Stmt ℕ))
+threadsFrom s p = do
+  es ← wiresRead s
+  h ← sheetHead s
+  readThreads (located s) (h .scope) s (h .threads) p
+
+-- ---- the answer: what was read, the place of the first thread, what the threads gave, and the sheet's length
+
+unfoldable pub finishedOf : HeadRead.HeadRead → WiresRead → ℕ → PlaceRead.PlaceRead → ℕ → SheetRead
+finishedOf head row body (PlaceRead.the-variants.Refused n p) size = sheetAnswer (no n p)
+finishedOf head row body (PlaceRead.the-variants.At e) size = pick (eqb e size) (made head) (sheetAnswer (no 10 e))
+  where
+    made : HeadRead.HeadRead → SheetRead
+    made (HeadRead.the-variants.Refused n p) = sheetAnswer (no n p)
+    made (HeadRead.the-variants.Read i r w t) =
+        record {
+          number = 0;
+          place = 0;
+          layout = record { inputs = i; registers = r; wires = w; threads = t; starts = row .starts; body = body };
+        }
