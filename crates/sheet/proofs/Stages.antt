@@ -1,20 +1,24 @@
 -- The ways through the stages of reading, one law for each, and that the stages together are the reading of the sheet.
 use mathlib.Core.Path.{_≡_, refl, sym, ap, _∙_}
-use Prim.Native.Nat.{ℕ, _+_, _-_, _≤_, _<_}
+use Prim.Native.Nat.{ℕ, _+_, _-_, _≤_, _<_, _^_}
 use native.Mathlib.Omega.{arith}
 use mathlib.Core.List.{List, _∷_}
 use mathlib.Core.Bool.{Bool, true, false}
 use lib.ListN.{length, take, drop, replicate}
-use lib.Dec.{leb, eqb}
+use lib.Dec.{ltb, leb, eqb}
 use borrow.Author.Tests.{le-leb, lt-leb, leb-true, leb-false, eq-eqb, ne-eqb, eqb-true, eqb-false}
 use Rattle.sheet.specs.Reading.{Res, ok, no, _>>=_, _>>_, check, within, wordOf, wordAt}
-use Rattle.sheet.specs.Expression.{located}
+use Rattle.values.specs.Values.{pick, fits}
+use Rattle.values.specs.declared.Value.the-variants.{Known}
+use Rattle.sheet.specs.Expression.{Expr, constant, Parsed, aConstant, node, located}
 use Rattle.sheet.specs.Statement.{Stmt}
 use Rattle.sheet.specs.Module.{Listed, Head, readWidths, readHead, readWires, readThreads, readSheet}
-use Rattle.sheet.specs.Answers.{startsOf, layoutOf, sheetAnswer}
-use Rattle.sheet.specs.Parts.{scopeOf, headAnswer, headOf, placeAnswer, filled, wiresAnswer}
-use Rattle.sheet.specs.Reader.{wordAnswer, sized, readCounts, countsAnswer, countsFrom, headEnd, judged, widthsFrom, sheetHead, headRead, wiresFrom, wiresRead, placeEnd, rowEnd, threadsFrom, finishedOf}
+use Rattle.sheet.specs.Answers.{exprAnswer, startsOf, layoutOf, sheetAnswer}
+use Rattle.sheet.specs.Parts.{byteAnswer, scopeOf, headAnswer, headOf, placeAnswer, filled, wiresAnswer}
+use Rattle.sheet.specs.Reader.{wordAnswer, constantFrom, constantAt, sized, readCounts, countsAnswer, countsFrom, headEnd, judged, widthsFrom, sheetHead, headRead, wiresFrom, wiresRead, placeEnd, rowEnd, threadsFrom, finishedOf}
+use Rattle.sheet.specs.declared.ByteRead as ByteRead
 use Rattle.sheet.specs.declared.WordRead as WordRead
+use Rattle.sheet.specs.declared.ExprRead as ExprRead
 use Rattle.sheet.specs.declared.HeadRead as HeadRead
 use Rattle.sheet.specs.declared.PlaceRead as PlaceRead
 use Rattle.sheet.specs.declared.WiresRead.{WiresRead}
@@ -32,6 +36,46 @@ module _ (s : List ℕ) (p n : ℕ) (left : n ≡ length s - p) where
   pub word-made : {v : ℕ} → 4 ≤ n → v ≡ wordOf s p → WordRead.the-variants.Word v ≡ wordAnswer (wordAt s p)
   unfolding wordAnswer wordAt
   word-made h e = let l : 4 ≤ length s - p = omega arith in rw (le-leb 4 (length s - p) l, e)
+
+-- ---- a constant
+
+module _ (place next : ℕ) {width : ByteRead.ByteRead} (value : WordRead.WordRead) where
+  pub constant-no-width : {n p : ℕ} → width ≡ ByteRead.the-variants.Refused n p → ExprRead.the-variants.Refused n p ≡ constantFrom place next width value
+  unfolding constantFrom
+  constant-no-width e = rw e
+
+  module _ {w : ℕ} (e : width ≡ ByteRead.the-variants.Byte w) where
+    pub constant-no-value : {n p : ℕ} → value ≡ WordRead.the-variants.Refused n p → ExprRead.the-variants.Refused n p ≡ constantFrom place next width value
+    unfolding constantFrom
+    constant-no-value f = rw (e, f)
+
+    module _ {v : ℕ} (f : value ≡ WordRead.the-variants.Word v) where
+      pub constant-fits : fits w (Known v) ≡ true → ExprRead.the-variants.Read next w ≡ constantFrom place next width value
+      unfolding constantFrom fits
+      constant-fits t = rw (e, f, t)
+
+      pub constant-wide : fits w (Known v) ≡ false → ExprRead.the-variants.Refused 6 place ≡ constantFrom place next width value
+      unfolding constantFrom fits
+      constant-wide t = rw (e, f, t)
+
+-- A width and a value are the constant.
+pub constant-stages : (operand : ℕ → Res (Parsed Expr)) (ws s : List ℕ) (p : ℕ)
+    → constantAt s (p + 1) (p + 2) (p + 6) ≡ exprAnswer (node operand ws s p aConstant)
+unfolding constantFrom byteAnswer wordAnswer exprAnswer node
+constant-stages operand ws s p = by (within 1 32 6 s (p + 1)) (wordAt s (p + 2))
+  where
+    judge : (b : Bool) (w v : ℕ)
+        → pick b (ExprRead.the-variants.Read (p + 6) w) (ExprRead.the-variants.Refused 6 (p + 2))
+        ≡ exprAnswer (check b 6 (p + 2) >> ok (record { item = constant w v; width = w; next = p + 6 }))
+    judge true w v = refl
+    judge false w v = refl
+
+    by : (x y : Res ℕ)
+        → constantFrom (p + 2) (p + 6) (byteAnswer x) (wordAnswer y)
+        ≡ exprAnswer (x >>= λ w. y >>= λ v. check (ltb v (2 ^ w)) 6 (p + 2) >> ok (record { item = constant w v; width = w; next = p + 6 }))
+    by (no n q) y = refl
+    by (ok w) (no n q) = refl
+    by (ok w) (ok v) = judge (ltb v (2 ^ w)) w v
 
 -- ---- the counts
 

@@ -1,18 +1,20 @@
 -- What the Reader's functions give. A Reader is the sheet's bytes together with the next place in them.
-use Prim.Native.Nat.{ℕ, _+_, _-_}
+use Prim.Native.Nat.{ℕ, _+_, _-_, _^_}
 use mathlib.Core.List.{List}
 use lib.ListN.{length}
-use lib.Dec.{leb, eqb}
+use lib.Dec.{ltb, leb, eqb}
 use denote.Ref.{RefT}
 use Rattle.values.specs.Values.{pick}
-use Rattle.sheet.specs.Reading.{Res, ok, no, _>>=_, _>>_, check, within}
+use Rattle.sheet.specs.Reading.{Res, ok, no, _>>=_, _>>_, check, within, wordAt}
 use Rattle.sheet.specs.Expression.{located}
 use Rattle.sheet.specs.Statement.{Stmt}
 use Rattle.sheet.specs.Module.{Listed, Head, readWidths, readHead, readWires, readThreads}
 use Rattle.sheet.specs.Answers.{sheetAnswer}
-use Rattle.sheet.specs.Parts.{headAnswer}
+use Rattle.sheet.specs.Parts.{byteAnswer, headAnswer}
 use Rattle.sheet.specs.declared.Reader.{Reader}
+use Rattle.sheet.specs.declared.ByteRead as ByteRead
 use Rattle.sheet.specs.declared.WordRead as WordRead
+use Rattle.sheet.specs.declared.ExprRead as ExprRead
 use Rattle.sheet.specs.declared.HeadRead as HeadRead
 use Rattle.sheet.specs.declared.PlaceRead as PlaceRead
 use Rattle.sheet.specs.declared.WiresRead.{WiresRead}
@@ -27,6 +29,17 @@ readerAt sheet p = record { sheet = sheet; at = p }
 unfoldable pub wordAnswer : Res ℕ → WordRead.WordRead
 wordAnswer (ok v) = WordRead.the-variants.Word v
 wordAnswer (no n p) = WordRead.the-variants.Refused n p
+
+-- ---- a constant: what its width and its value gave; the value's place, and the next
+
+unfoldable pub constantFrom : ℕ → ℕ → ByteRead.ByteRead → WordRead.WordRead → ExprRead.ExprRead
+constantFrom place next (ByteRead.the-variants.Refused n p) value = ExprRead.the-variants.Refused n p
+constantFrom place next (ByteRead.the-variants.Byte w) (WordRead.the-variants.Refused n p) = ExprRead.the-variants.Refused n p
+constantFrom place next (ByteRead.the-variants.Byte w) (WordRead.the-variants.Word v) =
+    pick (ltb v (2 ^ w)) (ExprRead.the-variants.Read next w) (ExprRead.the-variants.Refused 6 place)
+
+abbrev pub constantAt : List ℕ → ℕ → ℕ → ℕ → ExprRead.ExprRead
+constantAt s width value next = constantFrom value next (byteAnswer (within 1 32 6 s width)) (wordAnswer (wordAt s value))
 
 -- ---- the counts, from a place on
 

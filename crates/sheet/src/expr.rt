@@ -1,10 +1,11 @@
 // Expressions of a sheet: one function for each kind of node.
 use super::ByteRead;
 use super::ExprRead;
+use super::WordRead;
 use super::bytes::byte_at;
 use super::bytes::read_name;
 use super::bytes::read_within;
-use super::bytes::word_at;
+use super::scan;
 use values::Value;
 ghost use mathlib.Core.Path.{_≡_};
 ghost use Prim.Native.Nat.{_<_};
@@ -12,6 +13,7 @@ ghost use lib.ListN.{length};
 ghost use Rattle.sheet.specs.Expression.{readExpr, located, aVariable, aConstant, anUnknown, aUnary, aBinary, aConditional};
 ghost use Rattle.sheet.specs.Answers.{exprAnswer};
 ghost use Rattle.sheet.specs.Parts.{nodeAnswer};
+ghost use Rattle.sheet.specs.Reader.{constantFrom, constantAt};
 
 // A variable: its number. (No operand is read here, nor in a constant: any number of levels serves.)
 fn read_variable(sheet: &[u8], widths: &[u8], at: usize) -> ExprRead
@@ -27,38 +29,48 @@ fn read_variable(sheet: &[u8], widths: &[u8], at: usize) -> ExprRead
     }
 }
 
+// A constant, once its width and its value were read: the value is judged at its place.
+fn constant_from(place: usize, next: usize, width: ByteRead, value: WordRead) -> ExprRead
+    ensures { λ r. ⌜ r ≡ constantFrom place next width value ⌝ }
+{
+    let bits = match width {
+        ByteRead::Byte(b) => b,
+        ByteRead::Refused { number, place: at } => {
+            return ExprRead::Refused { number, place: at };
+        }
+    };
+    let known = match value {
+        WordRead::Word(v) => v,
+        WordRead::Refused { number, place: at } => {
+            return ExprRead::Refused { number, place: at };
+        }
+    };
+    if values::fits(bits, Value::Known(known)) {
+        ExprRead::Read { next, width: bits }
+    } else {
+        ExprRead::Refused { number: 6, place }
+    }
+}
+
+// A constant whose width and whose value stand at these places: a Reader takes the byte and the number.
+fn constant_at(sheet: &[u8], width: usize, value: usize, next: usize) -> ExprRead
+    ensures { λ r. ⌜ r ≡ constantAt (now (sheet .entry)) width value next ⌝ }
+{
+    let start = scan::over(sheet);
+    constant_from(
+        value,
+        next,
+        scan::byte(scan::moved(start, width), 1, 32, 6),
+        scan::word(scan::moved(start, value)),
+    )
+}
+
 // A constant: its width and its value.
 fn read_constant(sheet: &[u8], widths: &[u8], at: usize) -> ExprRead
     requires { ⌜ at < length (now sheet) ⌝ }
     ensures { λ r. ⌜ r ≡ nodeAnswer 0 (now (widths .entry)) (now (sheet .entry)) at aConstant ⌝ }
 {
-    let read = read_within(sheet, at + 1, 1, 32, 6);
-    let width = match read {
-        ByteRead::Byte(b) => b,
-        ByteRead::Refused { number, place } => {
-            return ExprRead::Refused { number, place };
-        }
-    };
-    let end = sheet.len();
-    let first = at + 2;
-    if end - first < 4 {
-        return ExprRead::Refused {
-            number: 2,
-            place: end,
-        };
-    }
-    let value = word_at(sheet, first);
-    if values::fits(width, Value::Known(value)) {
-        ExprRead::Read {
-            next: at + 6,
-            width,
-        }
-    } else {
-        ExprRead::Refused {
-            number: 6,
-            place: first,
-        }
-    }
+    constant_at(sheet, at + 1, at + 2, at + 6)
 }
 
 // An unknown constant: its width.
