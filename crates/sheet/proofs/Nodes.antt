@@ -1,16 +1,13 @@
 -- The ways through the reader of expressions: one law for each.
-use mathlib.Core.Path.{_≡_, refl, sym, ap, _∙_}
+use mathlib.Core.Path.{_≡_, refl}
 use Prim.Native.Nat.{ℕ, zero, suc, _+_, _-_, _≤_, _<_}
 use native.Mathlib.Numerals.{sub-one}
 use mathlib.Core.List.{List}
-use mathlib.Core.Bool.{true, false}
 use lib.ListN.{length, getD}
-use borrow.Author.Tests.{le-leb, lt-leb, eq-eqb, ne-eqb}
-use Rattle.values.specs.declared.Value.the-variants.{Known}
-use Rattle.values.specs.Values.{fits}
+use borrow.Author.Tests.{eq-eqb, ne-eqb}
 use Rattle.values.specs.Operators.{unaryWidth, binaryWidth}
-use Rattle.sheet.specs.Reading.{Res, ok, no, _>>=_, within, wordOf, wordAt}
-use Rattle.sheet.specs.Expression.{Expr, variable, constant, unknown, unary, binary, conditional, Parsed, Kind, aVariable, aConstant, anUnknown, aUnary, aBinary, aConditional, kindOf, variableAt, node, readExpr, tree, located}
+use Rattle.sheet.specs.Reading.{Res, ok, no, _>>=_, within}
+use Rattle.sheet.specs.Expression.{Expr, variable, unknown, unary, binary, conditional, Parsed, Kind, aVariable, anUnknown, aUnary, aBinary, aConditional, kindOf, variableAt, node, readExpr, tree, located}
 use Rattle.sheet.specs.Answers.{exprAnswer}
 use Rattle.sheet.proofs.Reading.{byte-at, byte-end, bind-ok, ok-injective}
 use Rattle.sheet.proofs.Expression.{derive, reads-after}
@@ -56,25 +53,6 @@ module _ (operand : ℕ → Res (Parsed Expr)) (ws s : List ℕ) (p : ℕ) where
       → node operand ws s p aVariable ≡ ok (record { item = variable v; width = getD ws v 0; next = p + 2 })
   unfolding node
   variable-made v = simp v
-
-  pub constant-width : {n q : ℕ} → within 1 32 6 s (p + 1) ≡ no n q → node operand ws s p aConstant ≡ no n q
-  unfolding node
-  constant-width w = simp w
-
-  pub constant-short : {w : ℕ} → within 1 32 6 s (p + 1) ≡ ok w → length s - (p + 2) < 4
-      → node operand ws s p aConstant ≡ no 2 (length s)
-  unfolding node wordAt
-  constant-short w h = simp (w, lt-leb _ _ h)
-
-  pub constant-wide : {w v : ℕ} → within 1 32 6 s (p + 1) ≡ ok w → 4 ≤ length s - (p + 2) → v ≡ wordOf s (p + 2) → fits w (Known v) ≡ false
-      → node operand ws s p aConstant ≡ no 6 (p + 2)
-  unfolding node wordAt fits
-  constant-wide w h v f = simp (w, le-leb _ _ h, ← v, f)
-
-  pub constant-made : {w v : ℕ} → within 1 32 6 s (p + 1) ≡ ok w → 4 ≤ length s - (p + 2) → v ≡ wordOf s (p + 2) → fits w (Known v) ≡ true
-      → node operand ws s p aConstant ≡ ok (record { item = constant w v; width = w; next = p + 6 })
-  unfolding node wordAt fits
-  constant-made w h v f = simp (w, le-leb _ _ h, ← v, f)
 
   pub unknown-width : {n q : ℕ} → within 1 32 6 s (p + 1) ≡ no n q → node operand ws s p anUnknown ≡ no n q
   unfolding node

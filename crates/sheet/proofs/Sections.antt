@@ -3,13 +3,12 @@ use mathlib.Core.Path.{_≡_, refl, sym, ap, _∙_}
 use Prim.Native.Nat.{ℕ, zero, suc, _+_, _-_, _≤_, _<_}
 use native.Mathlib.Omega.{arith}
 use native.Mathlib.Numerals.{add-one, sub-one}
-use mathlib.Core.List.{List, [], _∷_}
-use mathlib.Core.Bool.{Bool, true, false}
+use mathlib.Core.List.{List, _∷_}
 use lib.ListN.{length, getD, take, drop, set, replicate}
 use lib.Dec.{leb, eqb}
-use lib.Seq.{sets, drop-cons}
+use lib.Seq.{drop-cons}
 use borrow.Author.Tests.{le-leb, lt-leb, eq-eqb, ne-eqb}
-use Rattle.sheet.specs.Reading.{Res, ok, no, _>>=_, _>>_, check, within}
+use Rattle.sheet.specs.Reading.{Res, ok, no, _>>=_, _>>_, within}
 use Rattle.sheet.specs.Expression.{Parsed, located}
 use Rattle.sheet.specs.Statement.{Stmt, Scope, Body, size, readStmt}
 use Rattle.sheet.specs.Module.{Listed, Head, Sheet, readWidths, readHead, readWires, readThreads, readSheet}
@@ -20,7 +19,7 @@ use Rattle.sheet.specs.declared.HeadRead as HeadRead
 use Rattle.sheet.specs.declared.PlaceRead as PlaceRead
 use Rattle.sheet.specs.declared.WiresRead.{WiresRead}
 use Rattle.sheet.specs.declared.SheetRead.{SheetRead}
-use Rattle.sheet.proofs.Reading.{ok-injective, bind-ok, check-ok, Within, within-ok}
+use Rattle.sheet.proofs.Reading.{ok-injective, bind-ok, check-ok, within-ok}
 
 -- ---- one of the turns that are left
 
@@ -194,58 +193,10 @@ module _ {A : Type 0} where
 
 -- ---- readHead
 
-pub answer-head-refused : {x : Res Head} {n p : ℕ} → x ≡ no n p → HeadRead.the-variants.Refused n p ≡ headAnswer x
-unfolding headAnswer
-answer-head-refused h = rw h
-
-pub answer-head : {x : Res Head} {h : Head} → x ≡ ok h
-    → HeadRead.the-variants.Read (h .scope .inputs) (h .scope .registers) (h .wires) (h .threads) ≡ headAnswer x
-unfolding headAnswer
-answer-head h = rw h
-
 pub head-refused : {x : Res Head} {r : HeadRead.HeadRead} {n p : ℕ} → r ≡ headAnswer x → r ≡ HeadRead.the-variants.Refused n p → x ≡ no n p
 unfolding headAnswer
 head-refused {x = ok h} p q = cc
 head-refused {x = no m a} p q = cc
-
-module _ (s : List ℕ) where
-  pub head-inputs : {n p : ℕ} → within 1 16 3 s 0 ≡ no n p → readHead s ≡ no n p
-  unfolding readHead
-  head-inputs i = simp i
-
-  pub head-registers : {i n p : ℕ} → within 1 16 3 s 0 ≡ ok i → within 1 32 3 s 1 ≡ no n p → readHead s ≡ no n p
-  unfolding readHead
-  head-registers i r = simp (i, r)
-
-  pub head-wires : {i r n p : ℕ} → within 1 16 3 s 0 ≡ ok i → within 1 32 3 s 1 ≡ ok r → within 0 32 3 s 2 ≡ no n p → readHead s ≡ no n p
-  unfolding readHead
-  head-wires i r w = simp (i, r, w)
-
-  pub head-threads : {i r w n p : ℕ} → within 1 16 3 s 0 ≡ ok i → within 1 32 3 s 1 ≡ ok r → within 0 32 3 s 2 ≡ ok w → within 1 8 3 s 3 ≡ no n p
-      → readHead s ≡ no n p
-  unfolding readHead
-  head-threads i r w t = simp (i, r, w, t)
-
-  pub head-clock : {i r w t n p : ℕ} → within 1 16 3 s 0 ≡ ok i → within 1 32 3 s 1 ≡ ok r → within 0 32 3 s 2 ≡ ok w → within 1 8 3 s 3 ≡ ok t
-      → within 1 1 4 s 4 ≡ no n p → readHead s ≡ no n p
-  unfolding readHead
-  head-clock i r w t c = simp (i, r, w, t, c)
-
-  pub head-widths : {i r w t c n p : ℕ} → within 1 16 3 s 0 ≡ ok i → within 1 32 3 s 1 ≡ ok r → within 0 32 3 s 2 ≡ ok w → within 1 8 3 s 3 ≡ ok t
-      → within 1 1 4 s 4 ≡ ok c → readWidths (4 + i + r + w - 5) s 5 ≡ no n p → readHead s ≡ no n p
-  unfolding readHead
-  head-widths {i} {r} {w} hi hr hw ht hc e =
-      let n : 4 + i + r + w - 5 ≡ i + r + w - 1 = omega arith in
-      simp (hi, hr, hw, ht, hc, rw n at e)
-
-  pub head-made : {i r w t c : ℕ} {ws : List ℕ} → within 1 16 3 s 0 ≡ ok i → within 1 32 3 s 1 ≡ ok r → within 0 32 3 s 2 ≡ ok w
-      → within 1 8 3 s 3 ≡ ok t → within 1 1 4 s 4 ≡ ok c → readWidths (4 + i + r + w - 5) s 5 ≡ ok ws
-      → readHead s
-      ≡ ok (record { scope = record { inputs = i; registers = r; widths = c ∷ ws }; wires = w; threads = t; next = 4 + (i + r + w) })
-  unfolding readHead
-  head-made {i} {r} {w} hi hr hw ht hc e =
-      let n : 4 + i + r + w - 5 ≡ i + r + w - 1 = omega arith in
-      simp (hi, hr, hw, ht, hc, rw n at e)
 
 -- The clock's width and the others are one part of the sheet.
 all-widths : (s : List ℕ) (n : ℕ) {c : ℕ} {ws : List ℕ} → 0 < n → 4 < length s → getD s 4 0 ≡ c → ws ≡ take (n - 1) (drop 5 s)

@@ -13,7 +13,7 @@ use Rattle.values.specs.declared.Value.the-variants.{Known}
 use Rattle.sheet.specs.Expression.{Expr, constant, Parsed, aConstant, node, located}
 use Rattle.sheet.specs.Statement.{Stmt}
 use Rattle.sheet.specs.Module.{Listed, Head, readWidths, readHead, readWires, readThreads, readSheet}
-use Rattle.sheet.specs.Answers.{exprAnswer, startsOf, layoutOf, sheetAnswer}
+use Rattle.sheet.specs.Answers.{exprAnswer, startsOf, sheetAnswer}
 use Rattle.sheet.specs.Parts.{byteAnswer, scopeOf, headAnswer, headOf, placeAnswer, filled, wiresAnswer}
 use Rattle.sheet.specs.Reader.{wordAnswer, constantFrom, constantAt, sized, readCounts, countsAnswer, countsFrom, headEnd, judged, widthsFrom, sheetHead, headRead, wiresFrom, wiresRead, placeEnd, rowEnd, threadsFrom, finishedOf}
 use Rattle.sheet.specs.declared.ByteRead as ByteRead
@@ -24,7 +24,7 @@ use Rattle.sheet.specs.declared.PlaceRead as PlaceRead
 use Rattle.sheet.specs.declared.WiresRead.{WiresRead}
 use Rattle.sheet.specs.declared.SheetRead.{SheetRead}
 use Rattle.sheet.proofs.Reading.{check-ok}
-use Rattle.sheet.proofs.Sections.{Headed, headed, head-read, sheet-long, sheet-head, body-wires, body-threads, body-over, body-made, answer-sheet, wires-count, threads-count}
+use Rattle.sheet.proofs.Sections.{headed, head-read, sheet-long, sheet-head, body-wires, body-threads, body-over, body-made, answer-sheet, wires-count, threads-count}
 
 -- ---- a number of four bytes; n bytes are left
 

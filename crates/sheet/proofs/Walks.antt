@@ -19,7 +19,7 @@ use base.Fml.{Lft, Fml}
 use prog.Wp.{Heap, Env, Calls, Loops}
 use ghost.Atoms.{Atoms, sem}
 use contract.Lifetimes.{Lfts}
-use contract.Monad.{fact, factI, fact-use}
+use contract.Monad.{fact}
 use types.Kit.{Given, Item, ‵, raw, _⊛_, given, some, later, Post, runs, lands, Seq, _$_, _∵_, !, qed, by, move, drop, use0, use1, use2, split, learn, pick, fsplit, fjoin, rewrite, await, done}
 use types.Run.{Opds}
 use sound.WpLaws.{FmC}
@@ -36,7 +36,7 @@ use denote.Struct.Declared.{Declared}
 use denote.Struct.Laws as LL
 use denote.Struct.Rest.{all-own, ownAt, rest, own-open, own-out}
 use denote.Struct.Values.{Values}
-use denote.Triple.Statement.{Contract, Triple}
+use denote.Triple.Statement.{Triple}
 use denote.Triple.Call.{calls-at}
 use denote.Triple.Entry.{Res, alive}
 use denote.Triple.Spec.{tripleOf}

@@ -53,7 +53,7 @@ use Rattle.sheet.proofs.PlaceRead.Laws as Place′
 use Rattle.sheet.proofs.SheetRead as Answer
 use Rattle.sheet.proofs.SheetRead.Laws as Answer′
 use Rattle.sheet.proofs.Stages.{head-stages, wires-stage, all-left, stages}
-use Rattle.sheet.proofs.Walks.{Row, Sheet, sheetVal, Own, reader-typed, over-asks, hands, lends, shows-plain, answers}
+use Rattle.sheet.proofs.Walks.{Sheet, sheetVal, Own, reader-typed, over-asks, hands, lends, shows-plain, answers}
 use Rattle.sheet.proofs.scan.over as over
 use Rattle.sheet.proofs.scan.over.Symbol as over-def
 use Rattle.sheet.proofs.scan.over.Symbol.{name as #over}
