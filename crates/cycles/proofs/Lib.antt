@@ -1,0 +1,14 @@
+pub mod Cells
+pub mod Planes
+pub mod Passes
+pub mod Places
+pub mod Turns
+pub mod Settling
+pub mod Working
+pub mod Rows
+pub mod Taking
+pub mod Handing
+pub mod Clocking
+pub mod Judging
+pub mod Sheets
+pub mod Masks

@@ -1,0 +1,14 @@
+-- `cycles::calls::refused` meets its contract. Assumes nothing.
+use borrow.Author.Needs.{needs}
+use mathlib.Core.Path.{refl}
+use Rattle.nextstate.specs.CycleRun.{refused}
+use Rattle.cycles.proofs.calls.refused.Statement.{statement}
+use Rattle.cycles.proofs.calls.refused.Tie as tie
+
+returns : tie.Need-returns
+unfolding refused
+returns c = refl
+
+pub refused-spec : {M : Type 1} → statement M
+refused-spec =
+    tie.close (tie.spec returns)

@@ -1,0 +1,21 @@
+-- `cycles::checking::entry_at` meets its contract. Assumes nothing.
+use borrow.Author.Needs.{needs}
+use Rattle.cycles.specs.Checking.{entryAt}
+use Rattle.cycles.proofs.checking.entry_at.Statement.{statement}
+use Rattle.cycles.proofs.checking.entry_at.Tie as tie
+
+returns : tie.Need-returns
+unfolding entryAt
+returns c = rw (c .word-at .ensures, c .before .before .wide .ensures, c .before .wide2 .ensures)
+
+pub entry-at-spec : {M : Type 1} → statement M
+entry-at-spec =
+    tie.close
+    (tie.spec
+    (λ c κs. search needs)
+    (λ c κs. search needs)
+    (λ c. search needs)
+    (λ c. search needs)
+    (λ c. search needs)
+    (λ c κs. search needs)
+    returns)

@@ -1,0 +1,33 @@
+-- `cycles::running::keep_register` meets its contract. Assumes nothing.
+use borrow.Author.Needs.{needs}
+use mathlib.Core.Path.{ap, _∙_}
+use Rattle.values.specs.Planes.{valueAt}
+use Rattle.cycles.specs.Running.{planes}
+use Rattle.cycles.proofs.Turns.{keep-on, keep-off}
+use Rattle.cycles.proofs.running.keep_register.Statement.{statement}
+use Rattle.cycles.proofs.running.keep_register.Tie as tie
+
+returns : tie.Need-returns
+returns c =
+    let a = c .before .before .before .before .before .before .before .before .before .before .args in
+    let f = valueAt (a .value .now) (a .unknown .now) in
+    keep-on _ f (a .inputs) (planes (a .kept .now) (a .unsure .now)) (a .r) (c .before .before .before .before .before .before .before .before .has .result) (rw (c .before .before .before .before .before .before .before .before .before .place .ensures) at (c .before .before .before .before .before .before .before .before .has .ensures)) (c .before .before .before .before .before .before .before .before .before .place .result) (c .before .before .before .value-at .result) _ (c .before .before .before .before .before .before .before .if1 .taken)
+    (c .before .before .before .before .before .before .before .before .before .place .ensures) (rw (c .before .before .before .before .before .before .before .before .before .place .ensures, c .before .before .before .before .place2 .ensures) at (c .before .before .before .value-at .ensures)) (c .put-kept .ensures)
+
+returns-2 : tie.Need-returns-2
+returns-2 c =
+    let a = c .before .before .before .args in
+    keep-off _ _ _ _ (a .r) (c .before .has .result) (rw (c .before .before .place .ensures) at (c .before .has .ensures)) (c .if1 .left)
+
+pub keep-register-spec : {M : Type 1} → statement M
+keep-register-spec =
+    tie.close
+    (tie.spec
+    (λ c κs. search needs)
+    (λ c κs. search needs)
+    (λ c κs. search needs)
+    (λ c. search needs)
+    (λ c κs. search needs)
+    (λ c κs. search needs)
+    returns
+    returns-2)

@@ -1,0 +1,49 @@
+-- `cycles::running::keep_registers` meets its contract. The loop: the registers so far kept. Assumes nothing.
+use borrow.Author.Needs.{needs}
+use Prim.Native.Nat.{ℕ, _+_, _-_, _≤_}
+use mathlib.Core.Path.{_≡_}
+use native.Mathlib.Omega.{arith}
+use Rattle.values.specs.Planes.{valueAt}
+use Rattle.masks.specs.Masks.{bits}
+use Rattle.cycles.specs.Running.{planes, keepRegisters}
+use Rattle.cycles.proofs.Turns.{keep-none, keep-more}
+use Rattle.cycles.proofs.running.keep_registers.Statement.{statement}
+use Rattle.cycles.proofs.running.keep_registers.Tie as tie
+
+abbrev Inv-loop : tie.InvT-loop
+Inv-loop written inputs registers value unknown kept₀ unsure₀ r₀ kept unsure r =
+    (r ≤ registers) × (planes kept unsure ≡ keepRegisters (bits written) (valueAt value unknown) inputs r (planes kept₀ unsure₀))
+
+abbrev μ-loop : tie.MeasureT-loop
+μ-loop written inputs registers value unknown kept₀ unsure₀ r₀ kept unsure r = registers - r
+
+loop-holds : tie.Need-loop-holds Inv-loop μ-loop
+loop-holds c =
+    let a = c .args in
+    (omega arith, keep-none (bits (a .written)) (valueAt (a .value .now) (a .unknown .now)) (a .inputs) (planes (a .kept .now) (a .unsure .now)))
+
+loop-again : tie.Need-loop-again Inv-loop μ-loop
+loop-again c =
+    let a = c .before .before .before .before .before .args in (
+      omega arith,
+      keep-more (bits (a .written)) (valueAt (a .value .now) (a .unknown .now)) (a .inputs) (planes (a .kept .now) (a .unsure .now)) (c .before .before .before .before .loop .r)
+          (planes (c .before .before .before .before .loop .kept) (c .before .before .before .before .loop .unsure)) _ (c .before .before .before .before .loop .inv .1) (c .keep-register .ensures),
+    )
+
+returns : tie.Need-returns Inv-loop μ-loop
+returns c =
+    let e : c .before .loop .r ≡ c .before .before .args .registers = omega arith in
+    rw e at (c .before .loop .inv .1)
+
+pub keep-registers-spec : {M : Type 1} → statement M
+keep-registers-spec =
+    tie.close
+    (tie.spec
+    Inv-loop
+    μ-loop
+    loop-holds
+    (λ c κs. search needs)
+    (λ c. search needs)
+    (λ c. search needs)
+    loop-again
+    returns)

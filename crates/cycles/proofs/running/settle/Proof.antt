@@ -1,0 +1,57 @@
+-- `cycles::running::settle` meets its contract. The loop: the wires so far settled. Assumes nothing.
+use borrow.Author.Needs.{needs}
+use Prim.Native.Nat.{ℕ, _+_, _-_, _≤_}
+use mathlib.Core.Path.{_≡_, refl, ap, _∙_}
+use native.Mathlib.Omega.{arith}
+use Rattle.cycles.specs.Running.{planes, startAt, settleAt}
+use Rattle.cycles.proofs.Planes.{settle-more}
+use Rattle.cycles.proofs.running.settle.Statement.{statement}
+use Rattle.cycles.proofs.running.settle.Tie as tie
+
+abbrev Inv-loop : tie.InvT-loop
+Inv-loop sheet widths starts inputs registers wires value₀ unknown₀ first n₀ value unknown n =
+    (n ≤ wires) × (planes value unknown ≡ settleAt sheet widths starts (inputs + registers) n (planes value₀ unknown₀))
+
+abbrev μ-loop : tie.MeasureT-loop
+μ-loop sheet widths starts inputs registers wires value₀ unknown₀ first n₀ value unknown n = wires - n
+
+loop-holds : tie.Need-loop-holds Inv-loop μ-loop
+unfolding settleAt
+loop-holds c = (omega arith, refl)
+
+loop-again : tie.Need-loop-again Inv-loop μ-loop
+loop-again c =
+    let a = c .before .before .before .before .before .before .before .before .before .before .before .before .before .before .args in
+    let k = c .before .before .before .before .before .before .before .place3 in (
+      omega arith,
+      settle-more (a .sheet .now) (a .widths .now) (a .starts .now) (a .inputs + a .registers) (planes (a .value .now) (a .unknown .now)) (c .before .before .before .before .before .before .before .before .before .loop .n)
+          _ (c .before .before .before .before .start-at .result) (c .before .before .before .worth .result) (planes (c .before .before .before .before .before .before .before .before .before .loop .value) (c .before .before .before .before .before .before .before .before .before .loop .unknown)) _ (c .before .before .before .before .before .before .before .before .before .loop .inv .1)
+          (c .before .before .before .before .start-at .ensures ∙ ap (startAt (a .starts .now)) (k .ensures)) (c .before .before .before .worth .ensures)
+          (rw (c .before .before .before .before .before .before .before .before .before .before .before .place .ensures, c .before .before .before .before .before .before .before .before .before .before .place2 .ensures, k .ensures)) (c .put-value .ensures),
+    )
+
+returns : tie.Need-returns Inv-loop μ-loop
+returns c =
+    let a = c .before .before .before .before .before .before .args in
+    let e : c .before .loop .n ≡ a .wires = omega arith in
+    rw e at (c .before .loop .inv .1)
+
+pub settle-spec : {M : Type 1} → statement M
+settle-spec =
+    tie.close
+    (tie.spec
+    Inv-loop
+    μ-loop
+    (λ c κs. search needs)
+    (λ c κs. search needs)
+    (λ c. search needs)
+    loop-holds
+    (λ c κs. search needs)
+    (λ c κs. search needs)
+    (λ c κs. search needs)
+    (λ c. search needs)
+    (λ c κs. search needs)
+    (λ c. search needs)
+    (λ c. search needs)
+    loop-again
+    returns)

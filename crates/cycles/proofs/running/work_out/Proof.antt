@@ -1,0 +1,51 @@
+-- `cycles::running::work_out` meets its contract. The loop: the nodes so far worked out. Assumes nothing.
+use borrow.Author.Needs.{needs}
+use Prim.Native.Nat.{ℕ, _+_, _-_, _≤_}
+use mathlib.Core.Path.{_≡_, refl}
+use native.Mathlib.Omega.{arith}
+use Rattle.values.specs.Planes.{valueAt}
+use Rattle.cycles.specs.Cells.{nodeOf, sizeIn}
+use Rattle.cycles.specs.Running.{planes, workBelow}
+use Rattle.cycles.proofs.Planes.{work-more}
+use Rattle.cycles.proofs.running.work_out.Statement.{statement}
+use Rattle.cycles.proofs.running.work_out.Tie as tie
+
+abbrev Inv-loop : tie.InvT-loop
+Inv-loop nodes sizes value unknown count worth₀ blank₀ n₀ worth blank n =
+    (n ≤ count) × (planes worth blank ≡ workBelow nodes (sizeIn sizes) (valueAt value unknown) n (planes worth₀ blank₀))
+
+abbrev μ-loop : tie.MeasureT-loop
+μ-loop nodes sizes value unknown count worth₀ blank₀ n₀ worth blank n = count - n
+
+loop-holds : tie.Need-loop-holds Inv-loop μ-loop
+unfolding workBelow
+loop-holds c = (omega arith, refl)
+
+loop-again : tie.Need-loop-again Inv-loop μ-loop
+loop-again c =
+    let a = c .before .before .before .before .before .before .before .before .before .before .args in (
+      omega arith,
+      work-more (a .nodes .now) (sizeIn (a .sizes .now)) (valueAt (a .value .now) (a .unknown .now))
+          (planes (a .worth .now) (a .blank .now)) (c .before .before .before .before .before .before .before .before .loop .n) (nodeOf (c .before .before .before .before .cell-at .result)) (c .before .before .before .worth-of .result)
+          (planes (c .before .before .before .before .before .before .before .before .loop .worth) (c .before .before .before .before .before .before .before .before .loop .blank)) _ (c .before .before .before .before .before .before .before .before .loop .inv .1) (c .before .before .before .before .cell-at .ensures) (c .before .before .before .worth-of .ensures) (c .put-node .ensures),
+    )
+
+returns : tie.Need-returns Inv-loop μ-loop
+returns c =
+    let e : c .before .loop .n ≡ c .before .before .before .args .count = omega arith in
+    rw e at (c .before .loop .inv .1)
+
+pub work-out-spec : {M : Type 1} → statement M
+work-out-spec =
+    tie.close
+    (tie.spec
+    Inv-loop
+    μ-loop
+    loop-holds
+    (λ c κs. search needs)
+    (λ c κs. search needs)
+    (λ c κs. search needs)
+    (λ c. search needs)
+    (λ c. search needs)
+    loop-again
+    returns)

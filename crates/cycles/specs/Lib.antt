@@ -1,0 +1,4 @@
+pub mod Cells
+pub mod Checking
+pub mod Running
+pub mod Context

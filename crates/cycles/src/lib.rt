@@ -1,0 +1,90 @@
+// The cycle run (document 01, "Extraction and the cycle run"): lent tables are judged (number 24), and clock cycles are worked
+// out by them.
+mod calls;
+mod checking;
+mod nodes;
+mod running;
+
+use calls::cycle_filled;
+use calls::joined;
+use calls::refused;
+use calls::sheet_number;
+use calls::union_of;
+use checking::fill_firsts;
+use events::Inputs;
+use nextstate::Clocked;
+use nextstate::Registers;
+use simulator::planning::shape_of;
+use simulator::planning::widths_end;
+ghost use mathlib.Core.Path.{_≡_};
+ghost use Rattle.nextstate.specs.CycleRun.{cycleRun};
+
+// A node by its kind.
+pub enum Cell {
+    Variable(u16),
+    Constant { width: u16, number: u32 },
+    Blank(u16),
+    Unary { op: u8, a: u16 },
+    Binary { op: u8, a: u16, b: u16 },
+    Conditional { c: u16, a: u16, b: u16 },
+    Branch { c: u16, a: u16, b: u16 },
+}
+
+// A clock cycle by lent tables, from registers, places and inputs 1 up.
+pub fn cycle(
+    sheet: &[u8],
+    nodes: &[u16],
+    rows: &[u16],
+    before: Registers,
+    inputs: Inputs,
+) -> Clocked
+    ensures { λ r. ⌜ r ≡ cycleRun (now (sheet .entry)) (now (nodes .entry)) (now (rows .entry)) before inputs ⌝ }
+{
+    if nodes.len() != 16384 {
+        return refused(23, before);
+    }
+    if rows.len() != 1056 {
+        return refused(23, before);
+    }
+    let number = sheet_number(sheet);
+    if number != 0 {
+        return refused(number, before);
+    }
+    let read = sheet::read(sheet);
+    let layout = read.layout;
+    let end = widths_end(layout);
+    let widths = &sheet[4..end];
+    let mut code = [0u16; 4096];
+    let lengths = pseudocode::compile(sheet, layout.threads, layout.body, &mut code);
+    let mut plain = [0u32; 8];
+    let mut later = [0u32; 8];
+    rules::writers(
+        sheet,
+        &code,
+        &lengths,
+        layout.inputs,
+        layout.threads,
+        &mut plain,
+        &mut later,
+    );
+    let written = joined(&plain, &later);
+    let all = union_of(&written, layout.threads);
+    let mut firsts = [0u16; 8];
+    fill_firsts(sheet, &code, &lengths, layout.threads, &mut firsts);
+    let shape = shape_of(layout);
+    cycle_filled(
+        sheet,
+        widths,
+        &layout.starts,
+        &code,
+        &lengths,
+        &firsts,
+        &written,
+        all,
+        shape,
+        nodes,
+        rows,
+        before,
+        inputs,
+    )
+}

@@ -1,0 +1,145 @@
+// The nodes of lent tables: one read from its four words, judged and worked out. Each function equals its definition in
+// specs/Cells for words and planes of any contents.
+use crate::Cell;
+use values::Value;
+ghost use mathlib.Core.Path.{_≡_};
+ghost use Prim.Native.Nat.{_+_, _*_, _%_};
+ghost use lib.ListN.{length, getD};
+ghost use Rattle.values.specs.Planes.{valueAt};
+ghost use Rattle.nextstate.specs.Nodes.{nodeFrom, nodeAt};
+ghost use Rattle.cycles.specs.Cells.{nodeOf, operatorOf, sizeIn, nodesIn, worthAt};
+
+// A word as a place.
+pub fn wide(w: u16) -> usize
+    ensures { λ r. ⌜ r ≡ w ⌝ }
+{
+    w as usize
+}
+
+// A word as the low half of a number.
+fn low(w: u16) -> u32
+    ensures { λ r. ⌜ r ≡ w ⌝ }
+{
+    w as u32
+}
+
+// The word at a place, 0 past the end.
+pub fn word_at(words: &[u16], at: usize) -> u16
+    ensures { λ r. ⌜ r ≡ getD (now (words .entry)) at 0 ⌝ }
+{
+    if at < words.len() { words[at] } else { 0 }
+}
+
+// A node of a kind that is none of a variable's, a constant's, ?: and a branch.
+fn operator_of(k: u16, a: u16, b: u16) -> Cell
+    ensures { λ r. ⌜ nodeOf r ≡ operatorOf k a b ⌝ }
+{
+    if k < 11 {
+        return Cell::Blank(0);
+    }
+    if 19 < k {
+        return Cell::Blank(0);
+    }
+    let op = (k - 10) as u8;
+    if k <= 12 {
+        Cell::Unary { op, a }
+    } else {
+        Cell::Binary { op, a, b }
+    }
+}
+
+// The node of four words.
+fn cell_of(k: u16, a: u16, b: u16, c: u16) -> Cell
+    ensures { λ r. ⌜ nodeOf r ≡ nodeFrom k a b c ⌝ }
+{
+    match k {
+        0 => Cell::Variable(a),
+        1 => Cell::Constant {
+            width: a,
+            number: low(b) + 65536 * low(c),
+        },
+        2 => Cell::Blank(a),
+        20 => Cell::Conditional { c: a, a: b, b: c },
+        40 => Cell::Branch { c: a, a: b, b: c },
+        _ => operator_of(k, a, b),
+    }
+}
+
+// Node `n` of the lent words.
+pub fn cell_at(nodes: &[u16], n: u16) -> Cell
+    ensures { λ r. ⌜ nodeOf r ≡ nodeAt (now (nodes .entry)) n ⌝ }
+{
+    let i = 4 * wide(n);
+    cell_of(
+        word_at(nodes, i),
+        word_at(nodes, i + 1),
+        word_at(nodes, i + 2),
+        word_at(nodes, i + 3),
+    )
+}
+
+// The width of node `n`, 0 past the last.
+pub fn size_at(sizes: &[u8; 4096], n: u16) -> u8
+    ensures { λ r. ⌜ r ≡ sizeIn (now (sizes .entry)) n ⌝ }
+{
+    let i = wide(n);
+    if 4096 <= i {
+        return 0;
+    }
+    sizes[i]
+}
+
+// What node `n` is worth; past the last x.
+pub fn node_value<'a>(worth: &'a [u32; 4096], blank: &'a [bool; 4096], n: u16) -> Value
+    ensures { λ r. ⌜ r ≡ nodesIn (now (worth .entry)) (now (blank .entry)) n ⌝ }
+{
+    let i = wide(n);
+    if 4096 <= i {
+        return Value::Unknown;
+    }
+    if blank[i] {
+        Value::Unknown
+    } else {
+        Value::Known(worth[i])
+    }
+}
+
+// What a node is worth, on the values of the variables and of the nodes before it.
+pub fn worth_of<'a>(
+    sizes: &[u8; 4096],
+    value: &'a [u32; 80],
+    unknown: &'a [bool; 80],
+    worth: &'a [u32; 4096],
+    blank: &'a [bool; 4096],
+    cell: Cell,
+) -> Value
+    ensures { λ r. ⌜
+        r ≡ worthAt (sizeIn (now (sizes .entry))) (valueAt (now (value .entry)) (now (unknown .entry)))
+        (nodesIn (now (worth .entry)) (now (blank .entry))) (nodeOf cell)
+        ⌝ }
+{
+    match cell {
+        Cell::Variable(v) => values::value_at(value, unknown, wide(v)),
+        Cell::Constant { width: _, number } => Value::Known(number),
+        Cell::Blank(_) => Value::Unknown,
+        Cell::Unary { op, a } => {
+            values::unary(op, size_at(sizes, a), node_value(worth, blank, a))
+        }
+        Cell::Binary { op, a, b } => values::binary(
+            op,
+            size_at(sizes, a),
+            node_value(worth, blank, a),
+            node_value(worth, blank, b),
+        ),
+        Cell::Conditional { c, a, b } => values::choice(
+            node_value(worth, blank, c),
+            node_value(worth, blank, a),
+            node_value(worth, blank, b),
+        ),
+        Cell::Branch { c, a, b } => if values::holds(node_value(worth, blank, c)) {
+            node_value(worth, blank, a)
+        } else {
+            node_value(worth, blank, b)
+        },
+    }
+}
