@@ -83,7 +83,7 @@ fn register_of(v: u8, inputs: u8) -> usize
 }
 
 // The value of the expression that stands at a place.
-fn worth<'a>(
+pub fn worth<'a>(
     sheet: &[u8],
     widths: &[u8],
     value: &'a [u32; 80],
