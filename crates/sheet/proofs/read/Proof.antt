@@ -201,6 +201,8 @@ module _ {M : Type 1} (𝓤 : URA M) (H : Heap 𝓤) (A : Atoms 𝓤) (W : Given
         alloc1 ! (λ l₀. alloc1 ! (λ l₁. alloc1 ! (λ l₂. alloc1 ! (λ l₃. alloc1 ! (λ l₄. alloc1 ! (λ l₅. alloc1 ! (λ l₆. alloc1 ! (λ l₇. alloc1 ! (λ l₈. alloc1 ! (λ l₉. alloc1 ! (λ l₁₀. alloc1 ! (λ l₁₁. alloc1 ! (λ l₁₂. alloc1 ! (λ l₁₃. alloc1 ! (λ l₁₄. alloc1 ! (λ l₁₅. alloc1 ! (λ l₁₆. alloc1 ! (λ l₁₇. alloc0 ! $ params1 ! $
         pass1 ! (init ! 32 refl (shr-slice-lawful 𝓤 H A W (named 0) κ u8 .typed s (sheetVal s ∷ []) p .0)) $ pass0 ! $
         -- [_17 … _2: room; _1: the sheet; _0: room; the token; what the sheet owns]. A local takes two places.
+        -- The locals: _2 start, _3 counts, _4 head, _5 row, _6 behind, _7 body; _8, _10, _11, _13, _14, _15, _17 the copies of a Reader that
+        -- are passed, _9 a moved one, _12 a place, _16 the length. Local i stands at 2 · (17 − i), and behind what is put in front.
         -- over
         move ! (36 ∷ 37 ∷ []) $ use2 W (raw (C-over 𝓤 H A mem run .pre (((κ, tt), (q, tt), tt, (s, tt), (sheetVal s ∷ [], tt)), tt)) ⊛ ‵ Lent) (over-asks 𝓤 H A W κ s [] tt tt Tok) $ split ! $
         answers ! fm over.ended (over.clauses 𝓤 H A mem run) (known .is-over) (((κ, tt), (q, tt), tt, (s, tt), (sheetVal s ∷ [], tt)), tt) (readerAt s 0) (readerAt s 0) (λ r e. id⊢ 𝓤 _) refl

@@ -137,6 +137,8 @@ module _ {M : Type 1} (𝓤 : URA M) (H : Heap 𝓤) (A : Atoms 𝓤) (W : Given
         alloc1 ! (λ l₀. alloc1 ! (λ l₁. alloc1 ! (λ l₂. alloc1 ! (λ l₃. alloc1 ! (λ l₄. alloc1 ! (λ l₅. alloc1 ! (λ l₆. alloc1 ! (λ l₇. alloc1 ! (λ l₈. alloc1 ! (λ l₉. alloc1 ! (λ l₁₀. alloc1 ! (λ l₁₁. alloc0 ! $ params1 ! $
         pass1 ! (init ! 20 refl (shr-slice-lawful 𝓤 H A W (named 0) κ u8 .typed s (sheetVal s ∷ []) p .0)) $ pass1 ! (init ! 18 refl (tt, record { fits = g-width })) $ pass1 ! (init ! 16 refl (tt, record { fits = g-value })) $ pass1 ! (init ! 14 refl (tt, record { fits = g-next })) $ pass0 ! $
         -- [_11 … _5: room; _4; _3; _2: the places; _1: the sheet; _0: room; the token; what the parameters own]. A local takes two places.
+        -- The locals: _5 start, _6 the byte, _9 the number; _8, _11 the copies of a Reader that are passed, _7, _10 the moved ones.
+        -- Local i stands at 2 · (11 − i), and behind what is put in front.
         -- over
         move ! (24 ∷ 25 ∷ []) $ use2 W (raw (C-over 𝓤 H A mem run .pre (((κ, tt), (q, tt), tt, (s, tt), (sheetVal s ∷ [], tt)), tt)) ⊛ ‵ Lent) (over-asks 𝓤 H A W κ s (usize ∷ usize ∷ usize ∷ []) (width, (value, (next, tt))) (at .1) Tok) $ split ! $
         answers ! fm over.ended (over.clauses 𝓤 H A mem run) (known .is-over) (((κ, tt), (q, tt), tt, (s, tt), (sheetVal s ∷ [], tt)), tt) (readerAt s 0) (readerAt s 0) (λ r e. id⊢ 𝓤 _) refl
