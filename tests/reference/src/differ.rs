@@ -15,7 +15,8 @@ pub fn difference(script: &[u8], reference: &[u8], other: &[u8]) -> Option<Strin
     if let Some(record) = records.get(index) {
         report += &format!(", record `{record}`");
     }
-    let before = records.iter().take(index).rfind(|record| **record != Record::Dump);
+    let shown = [Record::Dump, Record::Tables];
+    let before = records.iter().take(index).rfind(|record| !shown.contains(record));
     if let Some(call) = before {
         report += &format!(", after `{call}`");
     }
@@ -42,30 +43,47 @@ fn shortened(line: &str) -> String {
     }
 }
 
-/// The first field in which two states differ.
+/// The first field in which two states, two tables or two cycle runs differ.
 fn field_difference(left: &str, right: &str) -> Option<String> {
-    let [left, right] = [left.strip_prefix("state ")?, right.strip_prefix("state ")?];
+    let [mut lefts, mut rights] = [left, right].map(|line| line.trim_end().split(' '));
+    let first = lefts.next().filter(|first| rights.next() == Some(*first))?;
+    let mut words = lefts.zip(rights).enumerate();
+    let (index, (left, right)) = words.find(|(_, (left, right))| left != right)?;
     let digit = left.bytes().zip(right.bytes()).position(|(a, b)| a != b)?;
-    let (name, from, length) = field(digit / 2)?;
+    let (name, from, length) = match (first, index) {
+        ("state", 0) => field(&STATE, digit / 2)?,
+        ("cycle", 1) => field(&CYCLE, digit / 2)?,
+        ("nodes", 0) => (format!("node word {}", digit / 4), digit / 4 * 2, 2),
+        ("nodes", _) => (format!("row word {}", digit / 4), digit / 4 * 2, 2),
+        _ => return None,
+    };
     let digits = 2 * from..2 * (from + length);
     let [left, right] = [left.get(digits.clone())?, right.get(digits)?];
     Some(format!("\n  {name}: {left} and {right}"))
 }
 
-/// The field that a state's byte lies in: its name, first byte and length.
-fn field(byte: usize) -> Option<(String, usize, usize)> {
-    let fields = [("value", 80, 5), ("pending", 32, 6), ("place", 8, 1), ("mark", 32, 1)];
+/// Fields: a name, how many there are, and the bytes of each.
+const STATE: [(&str, usize, usize); 6] = [
+    ("value", 80, 5),
+    ("pending", 32, 6),
+    ("place", 8, 1),
+    ("mark", 32, 1),
+    ("time", 1, 4),
+    ("count", 1, 4),
+];
+const CYCLE: [(&str, usize, usize); 3] =
+    [("register", 32, 5), ("place", 8, 1), ("wire", 32, 5)];
+
+/// The field that a byte lies in: its name, first byte and length.
+fn field(fields: &[(&str, usize, usize)], byte: usize) -> Option<(String, usize, usize)> {
     let mut first = 0;
-    for (name, count, length) in fields {
+    for &(name, count, length) in fields {
         if byte < first + count * length {
             let index = (byte - first) / length;
-            return Some((format!("{name} {index}"), first + index * length, length));
+            let name = if count == 1 { name.into() } else { format!("{name} {index}") };
+            return Some((name, first + index * length, length));
         }
         first += count * length;
     }
-    match byte {
-        632..636 => Some(("time".into(), 632, 4)),
-        636..640 => Some(("count".into(), 636, 4)),
-        _ => None,
-    }
+    None
 }

@@ -10,8 +10,13 @@ pub mod state;
 pub mod machine;
 pub mod simulator;
 pub mod cycles;
+pub mod extraction;
+pub mod values;
+pub mod compiler;
+pub mod book;
 pub mod saved;
 pub mod replay;
+pub mod calls;
 
 pub mod samples;
 pub mod limits;
@@ -23,10 +28,16 @@ pub mod census;
 pub mod build;
 pub mod examples;
 pub mod lively;
+pub mod extractable;
+pub mod refused;
 pub mod states;
+pub mod lanes;
+pub mod damage;
 pub mod script;
 pub mod tally;
 pub mod differ;
+pub mod holding;
+pub mod order;
 
 #[cfg(feature = "proved")]
 pub mod library;

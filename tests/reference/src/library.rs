@@ -8,6 +8,12 @@ pub const TEXT: usize = 65_536;
 /// The bytes of a saved state, with the one that names its form.
 pub const SAVED: usize = 641;
 
+mod calls;
+mod planes;
+
+pub use calls::Library;
+pub use planes::{Inputs, Planes, rows_of_16};
+
 unsafe extern "C" {
     /// The number of the refusal, whose place is stored; both 0 where the sheet is accepted.
     fn walbryts_read(sheet: *const u8, len: usize, place: *mut usize) -> u8;
@@ -19,6 +25,24 @@ unsafe extern "C" {
     /// The calls on a saved state, which becomes the one that the call gives back. Each
     /// returns its number, or 255 where the bytes are no saved state.
     fn walbryts_start(sheet: *const u8, len: usize, state: *mut u8) -> u8;
+    fn walbryts_choose(sheet: *const u8, len: usize, state: *mut u8, choice: u8) -> u8;
+    fn walbryts_run(
+        sheet: *const u8,
+        len: usize,
+        state: *mut u8,
+        choices: *const u8,
+        choices_len: usize,
+        accepted: *mut usize,
+    ) -> u8;
+    /// 16 numbers and 16 flags; the count may be another.
+    fn walbryts_instant(
+        sheet: *const u8,
+        len: usize,
+        state: *mut u8,
+        count: u8,
+        value: *const u32,
+        unknown: *const bool,
+    ) -> u8;
     fn walbryts_run_plain(
         sheet: *const u8,
         len: usize,
@@ -36,6 +60,56 @@ unsafe extern "C" {
         unknown: *const bool,
         unknowns: usize,
         phases: *mut usize,
+    ) -> u8;
+
+    /// Fills the lent words where the sheet is extractable and there are 16,384 and 1,056.
+    fn walbryts_extract(
+        sheet: *const u8,
+        sheet_len: usize,
+        nodes: *mut u16,
+        nodes_len: usize,
+        rows: *mut u16,
+        rows_len: usize,
+    ) -> u8;
+
+    /// A cycle run: 32 registers and 8 places, which become those that it gives back; 16 inputs,
+    /// from input 1 up; 32 wires, which are given only.
+    fn walbryts_cycle(
+        sheet: *const u8,
+        sheet_len: usize,
+        nodes: *const u16,
+        nodes_len: usize,
+        rows: *const u16,
+        rows_len: usize,
+        value: *mut u32,
+        unknown: *mut bool,
+        places: *mut u8,
+        count: u8,
+        inputs: *const u32,
+        inputs_unknown: *const bool,
+        wire: *mut u32,
+        unsure: *mut bool,
+    ) -> u8;
+
+    /// Cycle runs one after the other, one for each 16 inputs, the first of which is the clock's
+    /// and isn't looked at. `cycles` takes how many were accepted.
+    fn walbryts_cycles(
+        sheet: *const u8,
+        sheet_len: usize,
+        nodes: *const u16,
+        nodes_len: usize,
+        rows: *const u16,
+        rows_len: usize,
+        value: *mut u32,
+        unknown: *mut bool,
+        places: *mut u8,
+        inputs: *const u32,
+        inputs_len: usize,
+        inputs_unknown: *const bool,
+        unknowns: usize,
+        cycles: *mut usize,
+        wire: *mut u32,
+        unsure: *mut bool,
     ) -> u8;
 }
 
@@ -57,6 +131,30 @@ pub fn list(sheet: &[u8], text: &mut [u8; TEXT]) -> usize {
 pub fn start(sheet: &[u8], state: &mut [u8; SAVED]) -> u8 {
     // Safety: as above, and the state has the length of a saved one.
     unsafe { walbryts_start(sheet.as_ptr(), sheet.len(), state.as_mut_ptr()) }
+}
+
+/// One choice on a saved state; the number.
+pub fn choose(sheet: &[u8], state: &mut [u8; SAVED], choice: u8) -> u8 {
+    // Safety: as above.
+    unsafe { walbryts_choose(sheet.as_ptr(), sheet.len(), state.as_mut_ptr(), choice) }
+}
+
+/// A run over choices on a saved state; how many were accepted, and the number.
+pub fn run(sheet: &[u8], state: &mut [u8; SAVED], choices: &[u8]) -> (usize, u8) {
+    let mut accepted = 0;
+    let (at, len, state) = (sheet.as_ptr(), sheet.len(), state.as_mut_ptr());
+    let (list, count) = (choices.as_ptr(), choices.len());
+    // Safety: as above, with the pointer and the length of each slice.
+    let number = unsafe { walbryts_run(at, len, state, list, count, &mut accepted) };
+    (accepted, number)
+}
+
+/// An instant on a saved state; the number.
+pub fn instant(sheet: &[u8], state: &mut [u8; SAVED], inputs: &Inputs) -> u8 {
+    let Inputs { count, value, unknown } = inputs;
+    let (at, len, state) = (sheet.as_ptr(), sheet.len(), state.as_mut_ptr());
+    // Safety: as above, and there are 16 numbers and flags.
+    unsafe { walbryts_instant(at, len, state, *count, value.as_ptr(), unknown.as_ptr()) }
 }
 
 /// The plain run on a saved state; how many choices were accepted, and the number.
@@ -90,4 +188,76 @@ pub fn run_cycles(
         )
     };
     (phases, number)
+}
+
+/// Extraction into the lent words; the number.
+pub fn extract(sheet: &[u8], nodes: &mut [u16], rows: &mut [u16]) -> u8 {
+    let (at, len) = (sheet.as_ptr(), sheet.len());
+    let (nodes_len, rows_len) = (nodes.len(), rows.len());
+    let (nodes, rows) = (nodes.as_mut_ptr(), rows.as_mut_ptr());
+    // Safety: as above.
+    unsafe { walbryts_extract(at, len, nodes, nodes_len, rows, rows_len) }
+}
+
+/// A cycle run on lent words; the number.
+pub fn cycle(
+    sheet: &[u8],
+    nodes: &[u16],
+    rows: &[u16],
+    planes: &mut Planes,
+    inputs: &Inputs,
+) -> u8 {
+    // Safety: as above, and each plane has its length.
+    unsafe {
+        walbryts_cycle(
+            sheet.as_ptr(),
+            sheet.len(),
+            nodes.as_ptr(),
+            nodes.len(),
+            rows.as_ptr(),
+            rows.len(),
+            planes.value.as_mut_ptr(),
+            planes.unknown.as_mut_ptr(),
+            planes.places.as_mut_ptr(),
+            inputs.count,
+            inputs.value.as_ptr(),
+            inputs.unknown.as_ptr(),
+            planes.wire.as_mut_ptr(),
+            planes.unsure.as_mut_ptr(),
+        )
+    }
+}
+
+/// Cycle runs over rows of 16 inputs; how many were accepted, and the number.
+pub fn cycles(
+    sheet: &[u8],
+    nodes: &[u16],
+    rows: &[u16],
+    planes: &mut Planes,
+    value: &[u32],
+    unknown: &[bool],
+) -> (usize, u8) {
+    let mut cycles = usize::MAX;
+    // Safety: as above, with the pointer and the length of each slice.
+    let number = unsafe {
+        walbryts_cycles(
+            sheet.as_ptr(),
+            sheet.len(),
+            nodes.as_ptr(),
+            nodes.len(),
+            rows.as_ptr(),
+            rows.len(),
+            planes.value.as_mut_ptr(),
+            planes.unknown.as_mut_ptr(),
+            planes.places.as_mut_ptr(),
+            value.as_ptr(),
+            value.len(),
+            unknown.as_ptr(),
+            unknown.len(),
+            &mut cycles,
+            planes.wire.as_mut_ptr(),
+            planes.unsure.as_mut_ptr(),
+        )
+    };
+    (cycles, number)
 }

@@ -2,6 +2,7 @@
 
 use std::io::{self, Write};
 
+use crate::compiler::Compiler;
 use crate::module::Module;
 use crate::pseudocode;
 use crate::saved::write_state;
@@ -10,8 +11,10 @@ use crate::simulator::{Simulator, number_of};
 use crate::state::State;
 
 mod record;
+mod tables;
 
-pub use record::{LATER, Record, Script};
+pub use record::{Record, Script};
+pub use tables::{Cycle, Lent, NODES, ROWS, Table, UNWRITTEN, Words};
 
 /// Runs a script of any bytes as far as it goes.
 pub fn replay(script: &[u8], out: &mut impl Write) -> io::Result<()> {
@@ -26,23 +29,27 @@ pub fn replay(script: &[u8], out: &mut impl Write) -> io::Result<()> {
     if script.rest.is_some() { writeln!(out, "bad script") } else { Ok(()) }
 }
 
-/// A sheet with the state that the calls hand on.
+/// A sheet with the state and the tables that the calls hand on.
 pub struct Session<'a> {
     sheet: &'a [u8],
     reading: &'a Result<Module, Refusal>,
     pub simulator: Simulator<'a>,
+    pub compiler: Compiler<'a>,
     pub state: State,
+    pub words: Words,
 }
 
 impl<'a> Session<'a> {
     /// Of a sheet and what `sheet::read` gave for it.
     pub fn new(sheet: &'a [u8], reading: &'a Result<Module, Refusal>) -> Session<'a> {
-        Session { sheet, reading, simulator: Simulator::new(reading), state: State::ZERO }
+        let (simulator, compiler) = (Simulator::new(reading), Compiler::new(reading));
+        let (state, words) = (State::ZERO, Words::unwritten());
+        Session { sheet, reading, simulator, compiler, state, words }
     }
 
     /// Makes the call; the line without its line feed.
     pub fn answer(&mut self, record: &Record) -> String {
-        let Session { simulator, state, .. } = self;
+        let Session { simulator, compiler, state, words, .. } = self;
         match record {
             Record::Read => {
                 let refusal = self.reading.as_ref().err();
@@ -76,6 +83,21 @@ impl<'a> Session<'a> {
                 let mut bytes = Vec::new();
                 write_state(state, &mut bytes);
                 format!("state {}", hex(&bytes))
+            }
+            Record::Extract(lent) => {
+                let (nodes, rows) = words.lend(*lent);
+                format!("extract {}", number_of(compiler.extract(nodes, rows)))
+            }
+            Record::Tables => words.line(),
+            Record::Word { table, index, word } => {
+                words.store(*table, *index, *word);
+                "word".into()
+            }
+            Record::Cycle(cycle) => {
+                let mut lane = cycle.lane();
+                let (nodes, rows) = words.lend(cycle.lent);
+                let outcome = compiler.cycle(nodes, rows, &mut lane, &cycle.inputs);
+                format!("cycle {} {}", number_of(outcome), hex(&lane.bytes()))
             }
         }
     }

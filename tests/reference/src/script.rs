@@ -6,10 +6,12 @@ use crate::lively::{self, Kind, Size};
 use crate::machine::{COMMIT, Machine};
 use crate::module::Module;
 use crate::random::Random;
-use crate::replay::{LATER, Record, Script, Session};
+use crate::replay::{Lent, Record, Script, Session};
 use crate::sheet;
 use crate::state::{Slot, State};
-use crate::{generate, limits, mutate, states};
+use crate::{extractable, generate, limits, mutate, refused, states};
+
+mod tables;
 
 /// The script of a seed.
 pub fn script(seed: u64) -> Vec<u8> {
@@ -31,14 +33,19 @@ pub fn script(seed: u64) -> Vec<u8> {
 // ---- sheets
 
 fn sheet(random: &mut Random) -> Vec<u8> {
-    match random.below(20) {
-        0..=5 => encode(&lively::module(Kind::Extractable, Size::Usual, random)),
-        6..=12 => encode(&lively::module(Kind::Events, Size::Usual, random)),
-        13 => encode(&lively::module(Kind::Events, Size::Tiny, random)),
-        14 | 15 => encode(&generate::module(random)),
-        16 => mutate::damage(&encode(&generate::module(random)), random),
-        17 => long_sheet(random),
-        _ => limit_sheet(random),
+    match random.below(28) {
+        0..=3 => encode(&lively::module(Kind::Extractable, Size::Usual, random)),
+        4..=10 => encode(&lively::module(Kind::Events, Size::Usual, random)),
+        11 => encode(&lively::module(Kind::Events, Size::Tiny, random)),
+        12 | 13 => encode(&generate::module(random)),
+        14 => mutate::damage(&encode(&generate::module(random)), random),
+        15 => long_sheet(random),
+        16..=18 => limit_sheet(random),
+        19..=22 => encode(&extractable::module(random)),
+        _ => {
+            let aim = random.pick(&refused::AIMS);
+            encode(&refused::module(aim, random))
+        }
     }
 }
 
@@ -61,20 +68,13 @@ fn long_sheet(random: &mut Random) -> Vec<u8> {
 
 // ---- damage
 
-/// A script with a few bytes changed, put in, taken out or cut off. It doesn't end at
-/// a letter that is still to come.
+/// A script with a few bytes changed, put in, taken out or cut off.
 fn damage(script: Vec<u8>, random: &mut Random) -> Vec<u8> {
-    loop {
-        let damaged = match random.below(6) {
-            0 | 1 => script[..random.below(script.len())].to_vec(),
-            2 => [&[random.byte()], &script[1..]].concat(),
-            3 => [&script[..], &[random.byte()]].concat(),
-            _ => mutate::damage(&script, random),
-        };
-        let rest = Script::read(&damaged).rest;
-        if !rest.and_then(|rest| rest.first()).is_some_and(|letter| LATER.contains(letter)) {
-            return damaged;
-        }
+    match random.below(6) {
+        0 | 1 => script[..random.below(script.len())].to_vec(),
+        2 => [&[random.byte()], &script[1..]].concat(),
+        3 => [&script[..], &[random.byte()]].concat(),
+        _ => mutate::damage(&script, random),
     }
 }
 
@@ -95,8 +95,15 @@ impl Writer<'_> {
         for record in [Record::Dump, Record::Read, Record::List, Record::Start, Record::Dump] {
             self.call(record);
         }
+        if self.random.chance(1, 2) {
+            self.call(Record::Extract(Lent::RIGHT));
+            self.call(Record::Tables);
+        }
         for _ in 0..self.random.pick(&[40, 400, 800, 1000]) {
-            let record = self.record();
+            let record = match self.random.chance(1, 16) {
+                true => self.table_record(),
+                false => self.record(),
+            };
             self.call(record);
         }
         self.call(Record::Dump);

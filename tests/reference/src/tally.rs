@@ -15,8 +15,16 @@ pub struct Tally {
 }
 
 /// The calls whose line has a number, and where it stands in the line.
-const CALLS: [(&str, usize); 6] =
-    [("read", 1), ("start", 1), ("choose", 1), ("run", 2), ("plain", 2), ("instant", 1)];
+const CALLS: [(&str, usize); 8] = [
+    ("read", 1),
+    ("start", 1),
+    ("choose", 1),
+    ("run", 2),
+    ("plain", 2),
+    ("instant", 1),
+    ("extract", 1),
+    ("cycle", 1),
+];
 
 /// The numbers that a call can give, 0 where it is accepted.
 fn numbers(call: &str) -> Vec<u8> {
@@ -24,6 +32,8 @@ fn numbers(call: &str) -> Vec<u8> {
         "choose" | "run" => &[22, 31, 33, 34, 35, 36],
         "plain" => &[31, 36],
         "instant" => &[25, 31, 32, 36],
+        "extract" => &[12, 13, 14, 15, 16, 17, 18, 19, 20, 21, 23],
+        "cycle" => &[12, 13, 14, 15, 16, 17, 18, 19, 20, 21, 23, 24, 25, 31],
         _ => &[],
     };
     (0..=11).chain(own.iter().copied()).collect()
@@ -79,7 +89,7 @@ impl Display for Tally {
         write!(f, "number")?;
         CALLS.into_iter().try_for_each(|(call, _)| write!(f, "{call:>9}"))?;
         writeln!(f)?;
-        for number in (0..=11).chain([22, 25]).chain(31..=36) {
+        for number in (0..=25).chain(31..=36) {
             write!(f, "{number:>6}")?;
             for (call, _) in CALLS {
                 match numbers(call).contains(&number) {

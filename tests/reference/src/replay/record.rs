@@ -2,15 +2,13 @@
 
 use std::fmt::{self, Display, Formatter};
 
-use crate::saved::{Bytes, write_slot, write_state};
+use super::tables::{Cycle, Lent, Table, read_inputs, write_inputs};
+use crate::saved::{Bytes, write_state};
 use crate::state::{Slot, State};
 use crate::value::Value;
 
 /// The form of script that is read and written.
 const FORM: u8 = 1;
-
-/// The letters of records that are still to come: extraction, tables and cycle run.
-pub const LATER: [u8; 4] = *b"XTWK";
 
 /// One call.
 #[derive(Clone, Debug, PartialEq, Eq)]
@@ -26,6 +24,14 @@ pub enum Record {
     Instant(Vec<Slot>),
     Load(Box<State>),
     Dump,
+    Extract(Lent),
+    Tables,
+    Word {
+        table: Table,
+        index: u16,
+        word: u16,
+    },
+    Cycle(Box<Cycle>),
 }
 
 /// A script as far as it can be read.
@@ -87,12 +93,16 @@ impl Record {
                 Record::Run(bytes.take(count.into())?.to_vec())
             }
             b'P' => Record::Plain(bytes.word()?),
-            b'I' => {
-                let count = bytes.byte()?;
-                Record::Instant((0..count).map(|_| bytes.slot()).collect::<Option<_>>()?)
-            }
+            b'I' => Record::Instant(read_inputs(bytes)?),
             b'L' => Record::Load(Box::new(bytes.state()?)),
             b'D' => Record::Dump,
+            b'X' => Record::Extract(Lent::read(bytes)?),
+            b'T' => Record::Tables,
+            b'W' => {
+                let table = if bytes.flag()? { Table::Rows } else { Table::Nodes };
+                Record::Word { table, index: bytes.word()?, word: bytes.word()? }
+            }
+            b'K' => Record::Cycle(Box::new(Cycle::read(bytes)?)),
             _ => return None,
         })
     }
@@ -114,15 +124,28 @@ impl Record {
                 script.extend(limit.to_le_bytes());
             }
             Record::Instant(inputs) => {
-                let count = u8::try_from(inputs.len()).expect("at most 255 values");
-                script.extend([b'I', count]);
-                inputs.iter().for_each(|input| write_slot(input, script));
+                script.push(b'I');
+                write_inputs(inputs, script);
             }
             Record::Load(state) => {
                 script.push(b'L');
                 write_state(state, script);
             }
             Record::Dump => script.push(b'D'),
+            Record::Extract(lent) => {
+                script.push(b'X');
+                lent.write(script);
+            }
+            Record::Tables => script.push(b'T'),
+            Record::Word { table, index, word } => {
+                script.extend([b'W', u8::from(*table == Table::Rows)]);
+                script.extend(index.to_le_bytes());
+                script.extend(word.to_le_bytes());
+            }
+            Record::Cycle(cycle) => {
+                script.push(b'K');
+                cycle.write(script);
+            }
         }
     }
 }
@@ -139,13 +162,24 @@ impl Display for Record {
             Record::Plain(limit) => write!(f, "plain run of at most {limit}"),
             Record::Instant(inputs) => {
                 write!(f, "instant")?;
-                inputs.iter().try_for_each(|input| match input.value() {
-                    Value::X => write!(f, " x"),
-                    Value::Known(number) => write!(f, " {number}"),
-                })
+                write_values(f, inputs)
             }
             Record::Load(_) => write!(f, "load"),
             Record::Dump => write!(f, "state"),
+            Record::Extract(Lent { nodes, rows }) => write!(f, "extract {nodes} {rows}"),
+            Record::Tables => write!(f, "tables"),
+            Record::Word { table, index, word } => write!(f, "word {table:?} {index} {word}"),
+            Record::Cycle(cycle) => {
+                write!(f, "cycle {} {}", cycle.lent.nodes, cycle.lent.rows)?;
+                write_values(f, &cycle.inputs)
+            }
         }
     }
+}
+
+fn write_values(f: &mut Formatter, slots: &[Slot]) -> fmt::Result {
+    slots.iter().try_for_each(|slot| match slot.value() {
+        Value::X => write!(f, " x"),
+        Value::Known(number) => write!(f, " {number}"),
+    })
 }

@@ -1,0 +1,85 @@
+//! The calls that demand 3 speaks of, on one sheet, by whichever implementation.
+
+use crate::compiler::{Compiler, Lane};
+use crate::module::Module;
+use crate::sheet::Refusal;
+use crate::simulator::{Simulator, number_of};
+use crate::state::{Slot, State};
+
+/// Each gives its number, 0 where nothing was refused; the state becomes the one that the
+/// call hands back.
+pub trait Calls {
+    fn start(&self, state: &mut State) -> u8;
+    fn choose(&self, state: &mut State, choice: u8) -> u8;
+    /// How many choices were accepted, and the number.
+    fn run(&self, state: &mut State, choices: &[u8]) -> (usize, u8);
+    fn run_plain(&self, state: &mut State, limit: u16) -> (usize, u8);
+    /// All inputs, the clock first.
+    fn instant(&self, state: &mut State, inputs: &[Slot]) -> u8;
+    fn extract(&self, nodes: &mut [u16], rows: &mut [u16]) -> u8;
+    /// The inputs from 1 up.
+    fn cycle(&self, nodes: &[u16], rows: &[u16], lane: &mut Lane, inputs: &[Slot]) -> u8;
+
+    /// Cycle runs one after the other, up to the first that is refused; how many were
+    /// accepted, and the last one's number.
+    fn cycles(
+        &self,
+        nodes: &[u16],
+        rows: &[u16],
+        lane: &mut Lane,
+        inputs: &[Vec<Slot>],
+    ) -> (usize, u8) {
+        for (accepted, inputs) in inputs.iter().enumerate() {
+            match self.cycle(nodes, rows, lane, inputs) {
+                0 => {}
+                number => return (accepted, number),
+            }
+        }
+        (inputs.len(), 0)
+    }
+}
+
+/// This implementation.
+pub struct Reference<'a> {
+    pub simulator: Simulator<'a>,
+    pub compiler: Compiler<'a>,
+}
+
+impl<'a> Reference<'a> {
+    /// Of what `sheet::read` gave.
+    pub fn new(reading: &'a Result<Module, Refusal>) -> Reference<'a> {
+        Reference { simulator: Simulator::new(reading), compiler: Compiler::new(reading) }
+    }
+}
+
+impl Calls for Reference<'_> {
+    fn start(&self, state: &mut State) -> u8 {
+        number_of(self.simulator.start().map(|start| *state = start))
+    }
+
+    fn choose(&self, state: &mut State, choice: u8) -> u8 {
+        number_of(self.simulator.choose(state, choice))
+    }
+
+    fn run(&self, state: &mut State, choices: &[u8]) -> (usize, u8) {
+        let run = self.simulator.run(state, choices);
+        (run.accepted, run.number)
+    }
+
+    fn run_plain(&self, state: &mut State, limit: u16) -> (usize, u8) {
+        let run = self.simulator.run_plain(state, limit);
+        (run.accepted.into(), run.number)
+    }
+
+    fn instant(&self, state: &mut State, inputs: &[Slot]) -> u8 {
+        number_of(self.simulator.instant(state, inputs))
+    }
+
+    fn extract(&self, nodes: &mut [u16], rows: &mut [u16]) -> u8 {
+        number_of(self.compiler.extract(nodes, rows))
+    }
+
+    fn cycle(&self, nodes: &[u16], rows: &[u16], lane: &mut Lane, inputs: &[Slot]) -> u8 {
+        number_of(self.compiler.cycle(nodes, rows, lane, inputs))
+    }
+}

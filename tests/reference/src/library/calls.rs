@@ -1,0 +1,70 @@
+//! The calls on one sheet, through the proved library.
+
+use super::{Inputs, Planes, SAVED, rows_of_16};
+use crate::calls::Calls;
+use crate::compiler::Lane;
+use crate::saved::{load, save};
+use crate::state::{Slot, State};
+
+/// The proved library on a sheet.
+pub struct Library<'a> {
+    pub sheet: &'a [u8],
+}
+
+impl Library<'_> {
+    /// Makes the call on the saved state.
+    fn on_saved<T>(&self, state: &mut State, call: impl Fn(&mut [u8; SAVED]) -> T) -> T {
+        let mut saved = save(state).try_into().expect("so many bytes");
+        let answer = call(&mut saved);
+        *state = load(&saved).expect("a saved state");
+        answer
+    }
+}
+
+impl Calls for Library<'_> {
+    fn start(&self, state: &mut State) -> u8 {
+        self.on_saved(state, |saved| super::start(self.sheet, saved))
+    }
+
+    fn choose(&self, state: &mut State, choice: u8) -> u8 {
+        self.on_saved(state, |saved| super::choose(self.sheet, saved, choice))
+    }
+
+    fn run(&self, state: &mut State, choices: &[u8]) -> (usize, u8) {
+        self.on_saved(state, |saved| super::run(self.sheet, saved, choices))
+    }
+
+    fn run_plain(&self, state: &mut State, limit: u16) -> (usize, u8) {
+        let run = self.on_saved(state, |saved| super::run_plain(self.sheet, saved, limit));
+        (run.0.into(), run.1)
+    }
+
+    fn instant(&self, state: &mut State, inputs: &[Slot]) -> u8 {
+        let inputs = Inputs::of(inputs);
+        self.on_saved(state, |saved| super::instant(self.sheet, saved, &inputs))
+    }
+
+    fn extract(&self, nodes: &mut [u16], rows: &mut [u16]) -> u8 {
+        super::extract(self.sheet, nodes, rows)
+    }
+
+    fn cycle(&self, nodes: &[u16], rows: &[u16], lane: &mut Lane, inputs: &[Slot]) -> u8 {
+        let mut planes = Planes::of(lane);
+        let number = super::cycle(self.sheet, nodes, rows, &mut planes, &Inputs::of(inputs));
+        *lane = planes.lane();
+        number
+    }
+    fn cycles(
+        &self,
+        nodes: &[u16],
+        rows: &[u16],
+        lane: &mut Lane,
+        inputs: &[Vec<Slot>],
+    ) -> (usize, u8) {
+        let mut planes = Planes::of(lane);
+        let (value, unknown) = rows_of_16(inputs);
+        let run = super::cycles(self.sheet, nodes, rows, &mut planes, &value, &unknown);
+        *lane = planes.lane();
+        run
+    }
+}

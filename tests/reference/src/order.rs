@@ -1,0 +1,150 @@
+//! Demand 3 checked on one module: whatever order the calls of a list take threads and wires
+//! in, and whatever refused calls stand between them, document 01's clauses hold after each.
+
+use crate::book::Book;
+use crate::calls::{Calls, Reference};
+use crate::lanes;
+use crate::machine::Machine;
+use crate::module::Module;
+use crate::random::Random;
+use crate::sheet::Refusal;
+use crate::state::{Slot, State};
+
+mod clauses;
+mod cycle;
+mod pick;
+mod refuse;
+
+pub use pick::Order;
+
+/// How much was done.
+#[derive(Clone, Debug, PartialEq, Eq)]
+pub struct Counts {
+    pub instants: u64,
+    pub choices: u64,
+    pub calls: u64,
+    pub cycle_runs: u64,
+    /// Calls refused, by number.
+    pub refused: [u64; 64],
+}
+
+impl Counts {
+    pub const NONE: Counts =
+        Counts { instants: 0, choices: 0, calls: 0, cycle_runs: 0, refused: [0; 64] };
+
+    pub fn add(&mut self, other: &Counts) {
+        self.instants += other.instants;
+        self.choices += other.choices;
+        self.calls += other.calls;
+        self.cycle_runs += other.cycle_runs;
+        let refused = self.refused.iter_mut().zip(&other.refused);
+        refused.for_each(|(sum, count)| *sum += count);
+    }
+}
+
+type Outcome = Result<(), String>;
+
+/// Drives the module through cycles in each order; what the first clause broken says.
+pub fn check(
+    calls: &impl Calls,
+    reading: &Result<Module, Refusal>,
+    cycles: usize,
+    random: &mut Random,
+) -> Result<Counts, String> {
+    let reference = Reference::new(reading);
+    let module = reading.as_ref().map_err(|refusal| format!("{refusal:?}"))?;
+    let extraction = reference.compiler.extraction().map_err(|n| format!("refused: {n}"))?;
+    let rows: Vec<Vec<Slot>> = (0..cycles).map(|_| lanes::inputs(module, random)).collect();
+    let mut counts = Counts::NONE;
+    counts.cycle_runs = cycle::check(calls, module, extraction, &rows)?;
+    for order in Order::ALL {
+        let book = Book::new(module, extraction);
+        let mut list = List::start(calls, &reference, book, order, random)?;
+        list.drive(&rows)
+            .map_err(|clause| format!("{order:?}, after {}: {clause}", list.last))?;
+        counts.add(&list.counts);
+    }
+    Ok(counts)
+}
+
+/// A list of calls from the start, with what it has come to.
+struct List<'a, C: Calls> {
+    calls: &'a C,
+    reference: &'a Reference<'a>,
+    machine: &'a Machine<'a>,
+    random: &'a mut Random,
+    order: Order,
+    book: Book<'a>,
+    state: State,
+    /// Choices accepted since the last accepted instant or the start.
+    since: u64,
+    last: String,
+    counts: Counts,
+}
+
+impl<'a, C: Calls> List<'a, C> {
+    fn start(
+        calls: &'a C,
+        reference: &'a Reference<'a>,
+        book: Book<'a>,
+        order: Order,
+        random: &'a mut Random,
+    ) -> Result<List<'a, C>, String> {
+        let machine = reference.simulator.machine().map_err(|n| format!("refused: {n}"))?;
+        let mut state = State::ZERO;
+        if calls.start(&mut state) != 0 {
+            return Err("the start is refused".into());
+        }
+        let (since, last, counts) = (0, "start".into(), Counts::NONE);
+        let mut list =
+            List { calls, reference, machine, random, order, book, state, since, last, counts };
+        list.holds()?;
+        Ok(list)
+    }
+
+    /// By turns the clock low with new inputs and the clock high with nothing else changed.
+    fn drive(&mut self, rows: &[Vec<Slot>]) -> Outcome {
+        self.rest()?;
+        for row in rows {
+            for clock in [0, 1] {
+                self.instant(&[&[Slot::known(clock)], &row[..]].concat())?;
+                self.rest()?;
+            }
+        }
+        Ok(())
+    }
+
+    /// An instant that is to be accepted.
+    fn instant(&mut self, inputs: &[Slot]) -> Outcome {
+        self.counts.calls += 1;
+        self.last = format!("instant {}", self.counts.instants);
+        let number = self.calls.instant(&mut self.state, inputs);
+        if number != 0 {
+            return Err(format!("refused with {number} in a quiet state"));
+        }
+        self.counts.instants += 1;
+        self.since = 0;
+        self.book.instant(inputs);
+        self.holds()
+    }
+
+    /// Calls until the state is quiet, refused ones between them.
+    fn rest(&mut self) -> Outcome {
+        loop {
+            if self.random.chance(1, 6) {
+                self.refused_call()?;
+            }
+            if self.machine.quiet(&self.state) {
+                return Ok(());
+            }
+            self.accepted_call()?;
+        }
+    }
+
+    /// So many choices were accepted.
+    fn accept(&mut self, choices: usize) -> Outcome {
+        self.counts.choices += choices as u64;
+        self.since += choices as u64;
+        self.holds()
+    }
+}

@@ -1,0 +1,98 @@
+//! The accepted calls, by the order that a list takes.
+
+use super::{List, Outcome};
+use crate::calls::Calls;
+use crate::machine::{COMMIT, Machine};
+use crate::random::Random;
+use crate::state::State;
+
+/// Which of the enabled items is taken.
+#[derive(Clone, Copy, Debug, PartialEq, Eq)]
+pub enum Order {
+    Any,
+    /// Always the highest, as against the plain run's lowest.
+    Highest,
+    WiresFirst,
+    ThreadsFirst,
+    /// Mostly the one taken last.
+    Same,
+}
+
+impl Order {
+    pub const ALL: [Order; 5] =
+        [Order::Any, Order::Highest, Order::WiresFirst, Order::ThreadsFirst, Order::Same];
+
+    /// An enabled item, or the commit where there is none.
+    fn pick(self, machine: &Machine, state: &State, last: u8, random: &mut Random) -> u8 {
+        let items: Vec<u8> = machine.enabled(state).collect();
+        let threads = machine.code().len() as u8;
+        let (low, high): (Vec<u8>, Vec<u8>) = items.iter().partition(|&&item| item < threads);
+        let one_of = |items: &[u8], random: &mut Random| match items.is_empty() {
+            true => COMMIT,
+            false => random.pick(items),
+        };
+        match self {
+            Order::Highest => items.last().copied().unwrap_or(COMMIT),
+            Order::WiresFirst if !high.is_empty() => one_of(&high, random),
+            Order::ThreadsFirst if !low.is_empty() => one_of(&low, random),
+            Order::Same if items.contains(&last) && random.chance(7, 8) => last,
+            _ => one_of(&items, random),
+        }
+    }
+}
+
+impl<C: Calls> List<'_, C> {
+    /// A choice, a run over a list or a plain run.
+    pub(super) fn accepted_call(&mut self) -> Outcome {
+        self.counts.calls += 1;
+        match self.random.below(8) {
+            0..=3 => self.one_choice(),
+            4..=6 => self.some_choices(),
+            _ => self.plain_run(),
+        }
+    }
+
+    fn one_choice(&mut self) -> Outcome {
+        let choice = self.order.pick(self.machine, &self.state, 0, self.random);
+        self.last = format!("choice {choice}");
+        match self.calls.choose(&mut self.state, choice) {
+            0 => self.accept(1),
+            number => Err(format!("an enabled choice is refused with {number}")),
+        }
+    }
+
+    /// Now and then with one among them that is refused, and with more behind it.
+    fn some_choices(&mut self) -> Outcome {
+        let mut state = self.state.clone();
+        let mut choices = Vec::new();
+        let mut last = 0;
+        for _ in 0..self.random.pick(&[1, 2, 4, 8, 20]) {
+            if self.machine.quiet(&state) {
+                break;
+            }
+            last = self.order.pick(self.machine, &state, last, self.random);
+            choices.push(last);
+            self.machine.choose(&mut state, last).expect("enabled");
+        }
+        if self.random.chance(1, 8) {
+            let bad = self.random.pick(&[254, self.machine.items() as u8]);
+            choices.extend([bad, 0, COMMIT]);
+        }
+        self.last = format!("run {choices:?}");
+        let (found, number) = self.calls.run(&mut self.state, &choices);
+        if found > choices.len() || (number == 0) != (found == choices.len()) {
+            return Err(format!("{found} of {} accepted, and {number}", choices.len()));
+        }
+        self.accept(found)
+    }
+
+    fn plain_run(&mut self) -> Outcome {
+        let limit = self.random.pick(&[0, 1, 2, 3, 10, u16::MAX]);
+        self.last = format!("plain run of at most {limit}");
+        let (accepted, number) = self.calls.run_plain(&mut self.state, limit);
+        if number != 0 {
+            return Err(format!("stopped by {number}"));
+        }
+        self.accept(accepted)
+    }
+}

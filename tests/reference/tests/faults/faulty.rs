@@ -1,0 +1,160 @@
+//! This implementation's calls with a fault planted.
+
+use reference::calls::{Calls, Reference};
+use reference::compiler::Lane;
+use reference::extraction::text::Thread;
+use reference::extraction::words::{BRANCH, OPERATOR};
+use reference::extraction::{MOST_NODES, ROW};
+use reference::machine::{Machine, variables};
+use reference::module::{Module, Operator};
+use reference::samples::FLIP_FLOP;
+use reference::sheet::read;
+use reference::state::{Slot, State};
+
+#[derive(Clone, Copy, Debug, PartialEq, Eq)]
+pub enum Fault {
+    None,
+    /// ?: in place of a branch: on x it gives x, where the thread takes the other leg.
+    ConditionalForBranch,
+    /// A low instant makes no wire due.
+    WiresAfterRiseOnly,
+    /// A thread's later assignments are committed as it arrives at a wait.
+    CommitByThread,
+    /// Right in the first cycle, idle afterwards.
+    IdleAfterFirstCycle,
+    /// Nothing run, state handed back.
+    NothingRun,
+    /// The same table for each module.
+    SameTable,
+    /// The cycle run hands registers and places back.
+    IdleCycleRun,
+}
+
+pub struct Faulty<'a> {
+    pub calls: Reference<'a>,
+    pub module: &'a Module,
+    pub fault: Fault,
+}
+
+impl Faulty<'_> {
+    fn machine(&self) -> &Machine<'_> {
+        self.calls.simulator.machine().expect("read")
+    }
+
+    /// Stores the pending values of the registers that the thread writes.
+    fn commit_own(&self, state: &mut State, thread: usize) {
+        let first_wire = self.module.inputs + self.module.registers;
+        for register in Thread::all(self.module)[thread].registers() {
+            if let Some(value) = state.pending[register].value() {
+                let variable = self.module.inputs + register as u8;
+                assert!(variable < first_wire);
+                let changed = state.values[usize::from(variable)].value() != value;
+                state.values[usize::from(variable)] = Slot::of(value);
+                state.pending[register].held = false;
+                for (due, wire) in state.due.iter_mut().zip(&self.module.wires) {
+                    *due |= changed && variables(wire).contains(&variable);
+                }
+            }
+        }
+    }
+}
+
+impl Calls for Faulty<'_> {
+    fn start(&self, state: &mut State) -> u8 {
+        self.calls.start(state)
+    }
+
+    fn choose(&self, state: &mut State, choice: u8) -> u8 {
+        let before = state.clone();
+        let number = self.calls.choose(state, choice);
+        let thread = usize::from(choice);
+        let arrived = thread < self.module.threads.len()
+            && !self.machine().enabled(state).any(|item| item == choice);
+        match self.fault {
+            Fault::CommitByThread if number == 0 && arrived => self.commit_own(state, thread),
+            Fault::NothingRun => *state = before,
+            _ => {}
+        }
+        number
+    }
+
+    fn run(&self, state: &mut State, choices: &[u8]) -> (usize, u8) {
+        for (accepted, &choice) in choices.iter().enumerate() {
+            match self.choose(state, choice) {
+                0 => {}
+                number => return (accepted, number),
+            }
+        }
+        (choices.len(), 0)
+    }
+
+    fn run_plain(&self, state: &mut State, limit: u16) -> (usize, u8) {
+        for accepted in 0..limit.into() {
+            if self.machine().quiet(state) {
+                return (accepted, 0);
+            }
+            let choice = self.machine().lowest(state);
+            assert_eq!(self.choose(state, choice), 0);
+        }
+        (limit.into(), 0)
+    }
+
+    fn instant(&self, state: &mut State, inputs: &[Slot]) -> u8 {
+        let before = state.clone();
+        let number = self.calls.instant(state, inputs);
+        match self.fault {
+            Fault::WiresAfterRiseOnly if number == 0 && inputs[0] == Slot::known(0) => {
+                state.due = before.due;
+            }
+            Fault::IdleAfterFirstCycle if number == 0 && state.time > 2 => {
+                state.places = before.places;
+            }
+            _ => {}
+        }
+        number
+    }
+
+    fn extract(&self, nodes: &mut [u16], rows: &mut [u16]) -> u8 {
+        let number = self.calls.extract(nodes, rows);
+        match self.fault {
+            Fault::ConditionalForBranch if number == 0 => {
+                let conditional = OPERATOR + u16::from(Operator::Conditional.number());
+                let places = place_nodes(nodes, rows);
+                for node in (0..MOST_NODES).filter(|&node| !places[node]) {
+                    if nodes[4 * node] == BRANCH {
+                        nodes[4 * node] = conditional;
+                    }
+                }
+            }
+            Fault::SameTable if number == 0 => {
+                let reading = read(&FLIP_FLOP.sheet());
+                return Reference::new(&reading).extract(nodes, rows);
+            }
+            _ => {}
+        }
+        number
+    }
+
+    fn cycle(&self, nodes: &[u16], rows: &[u16], lane: &mut Lane, inputs: &[Slot]) -> u8 {
+        let before = lane.clone();
+        let number = self.calls.cycle(nodes, rows, lane, inputs);
+        if self.fault == Fault::IdleCycleRun {
+            (lane.registers, lane.places) = (before.registers, before.places);
+        }
+        number
+    }
+}
+
+/// The nodes that a place entry leads to: they must be branches to be accepted at all.
+fn place_nodes(nodes: &[u16], rows: &[u16]) -> Vec<bool> {
+    let mut places = vec![false; MOST_NODES];
+    let entries = rows.chunks_exact(ROW).map(|row| usize::from(row[ROW - 1]));
+    entries.for_each(|entry| places[entry] = true);
+    for node in (0..MOST_NODES).rev() {
+        if places[node] && nodes[4 * node] == BRANCH {
+            places[usize::from(nodes[4 * node + 2])] = true;
+            places[usize::from(nodes[4 * node + 3])] = true;
+        }
+    }
+    places
+}
