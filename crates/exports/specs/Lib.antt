@@ -1,2 +1,3 @@
+pub mod Clocked
 pub mod Exports
 pub mod Saved

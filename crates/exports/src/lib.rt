@@ -1,6 +1,7 @@
 // The functions that C and Rust call. A slice passes as a pointer and its length, an array or a number as a pointer.
 use events::Inputs;
 use events::Verdict;
+use nextstate::Registers;
 ghost use mathlib.Core.Path.{_≡_};
 ghost use lib.ListN.{length};
 ghost use lib.Seq.{sets};
@@ -9,7 +10,11 @@ ghost use Rattle.text.specs.Listing.{output};
 ghost use Rattle.state.specs.Saved.{saved, loaded};
 ghost use Rattle.events.specs.Calls.{start, choose, runList, runPlain, instant};
 ghost use Rattle.batch.specs.Cycles.{runCycles};
+ghost use Rattle.nextstate.specs.Extraction.{extract};
+ghost use Rattle.nextstate.specs.CycleRun.{cycleRun};
+ghost use Rattle.cycles.specs.Many.{cyclesRun};
 ghost use Rattle.exports.specs.Exports.{numberOf, placeOf};
+ghost use Rattle.exports.specs.Clocked.{registersIn, inputsIn, clockedAs, cyclesAs};
 ghost use Rattle.exports.specs.Saved.{numberOn, bytesOn, toldOn, ran, rested, numberOfVerdict, wordOfVerdict, cycledAs};
 
 // The number of the sheet's refusal, 0 where it is read; `place` takes the byte at which it was met, 0 where it is read.
@@ -192,4 +197,107 @@ pub extern "C" fn walbryts_run_cycles(
     state::save(left, state);
     *phases = r.phases;
     r.number
+}
+
+// ---- extraction and the cycle run
+
+// The nodes and rows of the sheet's expressions, into 16,384 and 1,056 lent words.
+#[no_mangle]
+pub extern "C" fn walbryts_extract(sheet: &[u8], nodes: &mut [u16], rows: &mut [u16]) -> u8
+    ensures { λ r. ⌜ r ≡ extract (now (sheet .entry)) (now (nodes .entry)) (now (rows .entry)) .number ⌝ }
+    ensures { λ r. ⌜ now (nodes .exit) ≡ extract (now (sheet .entry)) (now (nodes .entry)) (now (rows .entry)) .nodes ⌝ }
+    ensures { λ r. ⌜ now (rows .exit) ≡ extract (now (sheet .entry)) (now (nodes .entry)) (now (rows .entry)) .rows ⌝ }
+{
+    extraction::extract(sheet, nodes, rows)
+}
+
+// A clock cycle by lent tables. `value`, `unknown` and `places` hold the registers and places before it and become those after
+// it; `inputs` are the inputs from 1 up; `wire` and `unsure` take the wires.
+#[no_mangle]
+pub extern "C" fn walbryts_cycle(
+    sheet: &[u8],
+    nodes: &[u16],
+    rows: &[u16],
+    value: &mut [u32; 32],
+    unknown: &mut [bool; 32],
+    places: &mut [u8; 8],
+    count: u8,
+    inputs: &[u32; 16],
+    inputs_unknown: &[bool; 16],
+    wire: &mut [u32; 32],
+    unsure: &mut [bool; 32],
+) -> u8
+    ensures { λ r. ⌜
+        clockedAs r (now (value .exit)) (now (unknown .exit)) (now (places .exit)) (now (wire .exit)) (now (unsure .exit))
+        ≡ cycleRun (now (sheet .entry)) (now (nodes .entry)) (now (rows .entry))
+        (registersIn (now (value .entry)) (now (unknown .entry)) (now (places .entry)))
+        (inputsIn count (now (inputs .entry)) (now («inputs_unknown» .entry)))
+        ⌝ }
+{
+    let before = Registers {
+        value: *value,
+        unknown: *unknown,
+        places: *places,
+    };
+    let a = Inputs {
+        count,
+        value: *inputs,
+        unknown: *inputs_unknown,
+    };
+    let c = cycles::cycle(sheet, nodes, rows, before, a);
+    let registers = c.value;
+    *value = registers;
+    let flags = c.unknown;
+    *unknown = flags;
+    let waits = c.places;
+    *places = waits;
+    let wires = c.wire;
+    *wire = wires;
+    let doubts = c.unsure;
+    *unsure = doubts;
+    c.number
+}
+
+// Many clock cycles by lent tables: rows of 16 inputs, the clock's not looked at; `cycles` takes how many were accepted.
+#[no_mangle]
+pub extern "C" fn walbryts_cycles(
+    sheet: &[u8],
+    nodes: &[u16],
+    rows: &[u16],
+    value: &mut [u32; 32],
+    unknown: &mut [bool; 32],
+    places: &mut [u8; 8],
+    inputs: &[u32],
+    inputs_unknown: &[bool],
+    cycles: &mut usize,
+    wire: &mut [u32; 32],
+    unsure: &mut [bool; 32],
+) -> u8
+    ensures { λ r. ⌜
+        cyclesAs (now (cycles .exit))
+        (clockedAs r (now (value .exit)) (now (unknown .exit)) (now (places .exit)) (now (wire .exit)) (now (unsure .exit)))
+        ≡ cyclesRun (now (sheet .entry)) (now (nodes .entry)) (now (rows .entry))
+        (registersIn (now (value .entry)) (now (unknown .entry)) (now (places .entry)))
+        (now (inputs .entry)) (now («inputs_unknown» .entry))
+        ⌝ }
+{
+    let before = Registers {
+        value: *value,
+        unknown: *unknown,
+        places: *places,
+    };
+    let r = cycles::run(sheet, nodes, rows, before, inputs, inputs_unknown);
+    let c = r.last;
+    let registers = c.value;
+    *value = registers;
+    let flags = c.unknown;
+    *unknown = flags;
+    let waits = c.places;
+    *places = waits;
+    let wires = c.wire;
+    *wire = wires;
+    let doubts = c.unsure;
+    *unsure = doubts;
+    *cycles = r.cycles;
+    c.number
 }

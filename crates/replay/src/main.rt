@@ -5,6 +5,7 @@ use events::Inputs;
 use events::Verdict;
 use libc::STDIN_FILENO;
 use libc::STDOUT_FILENO;
+use nextstate::Registers;
 use state::State;
 ghost use Prim.Native.Nat.{_<_};
 ghost use Rattle.io.specs.Counts.{Counts};
@@ -15,17 +16,23 @@ struct Next {
     state: State,
 }
 
-// One value of an instant, where the record held it whole.
+// One value, where the record held it whole.
 struct Input {
     found: bool,
     value: u32,
     unknown: bool,
 }
 
-// An instant's inputs, where the record held them whole.
+// The inputs of an instant or of a cycle run, where the record held them whole.
 struct Given {
     found: bool,
     inputs: Inputs,
+}
+
+// What a cycle run is handed beside its inputs, where the record held it whole.
+struct Handed {
+    found: bool,
+    registers: Registers,
 }
 
 // ---- writing
@@ -72,6 +79,49 @@ fn say_hex(bytes: &[u8]) {
         say_some(bytes, bytes.len() - left);
         left = if left < 256 { 0 } else { left - 256 };
     }
+}
+
+// The words from an index on in hexadecimal, four digits each, at most 256 of them.
+fn say_some_words(words: &[u16], from: usize) {
+    let mut text = [0u8; 1024];
+    let mut n = 0;
+    let mut i = from;
+    while i < words.len() && n < 1021 {
+        let high = (words[i] / 256 % 256) as u8;
+        let low = (words[i] % 256) as u8;
+        text[n] = digit(high / 16);
+        text[n + 1] = digit(high % 16);
+        text[n + 2] = digit(low / 16);
+        text[n + 3] = digit(low % 16);
+        n += 4;
+        i += 1;
+    }
+    say(&text[..n]);
+}
+
+// All words in hexadecimal.
+fn say_words(words: &[u16]) {
+    let mut left = words.len();
+    while left > 0 {
+        say_some_words(words, words.len() - left);
+        left = if left < 256 { 0 } else { left - 256 };
+    }
+}
+
+// Registers or wires in hexadecimal, five bytes each.
+fn say_values(value: &[u32; 32], unknown: &[bool; 32]) {
+    let mut bytes = [0u8; 160];
+    let mut r = 0;
+    while r < 32 {
+        let n = value[r];
+        bytes[5 * r] = unknown[r] as u8;
+        bytes[5 * r + 1] = (n % 256) as u8;
+        bytes[5 * r + 2] = (n / 256 % 256) as u8;
+        bytes[5 * r + 3] = (n / 65536 % 256) as u8;
+        bytes[5 * r + 4] = (n / 16777216 % 256) as u8;
+        r += 1;
+    }
+    say_hex(&bytes);
 }
 
 // A saved state in hexadecimal, without its form byte.
@@ -121,7 +171,7 @@ fn word(low: u8, high: u8) -> usize
     low as usize + 256 * (high as usize)
 }
 
-// One value of an instant: its flag and four bytes of number.
+// One value: its flag and four bytes of number.
 fn read_input() -> Input {
     let mut bytes = [0u8; 5];
     let whole = take(&mut bytes);
@@ -134,7 +184,7 @@ fn read_input() -> Input {
     }
 }
 
-// An instant's values: `n` of them, the first 16 are handed on.
+// Input values: `n` of them, the first 16 are handed on.
 fn read_inputs(n: u8) -> Given {
     let mut value = [0u32; 16];
     let mut unknown = [false; 16];
@@ -155,6 +205,31 @@ fn read_inputs(n: u8) -> Given {
             count: n,
             value,
             unknown,
+        },
+    }
+}
+
+// 32 register values and 8 places.
+fn read_registers() -> Handed {
+    let mut value = [0u32; 32];
+    let mut unknown = [false; 32];
+    let mut places = [0u8; 8];
+    let mut found = true;
+    let mut r = 0;
+    while r < 32 && found {
+        let v = read_input();
+        found = v.found;
+        value[r] = v.value;
+        unknown[r] = v.unknown;
+        r += 1;
+    }
+    let whole = take(&mut places);
+    Handed {
+        found: found && whole,
+        registers: Registers {
+            value,
+            unknown,
+            places,
         },
     }
 }
@@ -325,8 +400,107 @@ fn do_save(st: State) -> Next {
     }
 }
 
+// ---- the records on the two tables
+
+// `X`: extraction, lent the first words of both.
+fn do_extract(sheet: &[u8], st: State, nodes: &mut [u16], rows: &mut [u16]) -> Next {
+    let mut counts = [0u8; 4];
+    if !take(&mut counts) {
+        return bad(st);
+    }
+    let a = word(counts[0], counts[1]);
+    let b = word(counts[2], counts[3]);
+    if a > nodes.len() || b > rows.len() {
+        return bad(st);
+    }
+    let n = extraction::extract(sheet, &mut nodes[..a], &mut rows[..b]);
+    say_line(b"extract ", n);
+    Next {
+        on: true,
+        state: st,
+    }
+}
+
+// `T`: all words.
+fn do_tables(st: State, nodes: &[u16], rows: &[u16]) -> Next {
+    say(b"nodes ");
+    say_words(nodes);
+    say(b" rows ");
+    say_words(rows);
+    say(b"\n");
+    Next {
+        on: true,
+        state: st,
+    }
+}
+
+// Stores a word where it is meant for this table and the index lies inside it.
+fn store(words: &mut [u16], meant: bool, i: usize, w: u16) {
+    if meant && i < words.len() {
+        words[i] = w;
+    }
+}
+
+// `W`: stores one word.
+fn do_word(st: State, nodes: &mut [u16], rows: &mut [u16]) -> Next {
+    let mut bytes = [0u8; 5];
+    if !take(&mut bytes) || bytes[0] > 1 {
+        return bad(st);
+    }
+    let i = word(bytes[1], bytes[2]);
+    let w = word(bytes[3], bytes[4]) as u16;
+    store(nodes, bytes[0] == 0, i, w);
+    store(rows, bytes[0] == 1, i, w);
+    say(b"word\n");
+    Next {
+        on: true,
+        state: st,
+    }
+}
+
+// `K`: a cycle run on the first words of both. The state is untouched.
+fn do_cycle(sheet: &[u8], st: State, nodes: &[u16], rows: &[u16]) -> Next {
+    let mut counts = [0u8; 4];
+    if !take(&mut counts) {
+        return bad(st);
+    }
+    let a = word(counts[0], counts[1]);
+    let b = word(counts[2], counts[3]);
+    if a > nodes.len() || b > rows.len() {
+        return bad(st);
+    }
+    let h = read_registers();
+    let mut count = [0u8; 1];
+    if !h.found || !take(&mut count) {
+        return bad(st);
+    }
+    let g = read_inputs(count[0]);
+    if !g.found {
+        return bad(st);
+    }
+    let before = h.registers;
+    let inputs = g.inputs;
+    let c = cycles::cycle(sheet, &nodes[..a], &rows[..b], before, inputs);
+    say(b"cycle ");
+    say_number(c.number as u64);
+    say(b" ");
+    let value = c.value;
+    let unknown = c.unknown;
+    say_values(&value, &unknown);
+    let places = c.places;
+    say_hex(&places);
+    let wire = c.wire;
+    let unsure = c.unsure;
+    say_values(&wire, &unsure);
+    say(b"\n");
+    Next {
+        on: true,
+        state: st,
+    }
+}
+
 // One record. The end of the script stands where a letter could.
-fn record(sheet: &[u8], st: State) -> Next {
+fn record(sheet: &[u8], st: State, nodes: &mut [u16], rows: &mut [u16]) -> Next {
     let mut letter = [0u8; 1];
     if !take(&mut letter) {
         return Next {
@@ -344,6 +518,10 @@ fn record(sheet: &[u8], st: State) -> Next {
         b'I' => do_instant(sheet, st),
         b'L' => do_load(st),
         b'D' => do_save(st),
+        b'X' => do_extract(sheet, st, nodes, rows),
+        b'T' => do_tables(st, nodes, rows),
+        b'W' => do_word(st, nodes, rows),
+        b'K' => do_cycle(sheet, st, nodes, rows),
         _ => bad(st),
     }
 }
@@ -363,9 +541,11 @@ fn zero() -> State {
     }
 }
 
-// All records. A proved loop has to end, and nothing says that a script does: so it counts its turns down, from a number that no
-// run uses up.
+// All records, on tables whose words are all 43690 at first. A proved loop has to end, and nothing says that a script does: so it
+// counts its turns down, from a number that no run uses up.
 fn records(sheet: &[u8]) {
+    let mut nodes = [43690u16; 16385];
+    let mut rows = [43690u16; 1057];
     let mut next = Next {
         on: true,
         state: zero(),
@@ -373,7 +553,7 @@ fn records(sheet: &[u8]) {
     let mut turns = u64::MAX;
     while turns > 0 && next.on {
         let st = next.state;
-        next = record(sheet, st);
+        next = record(sheet, st, &mut nodes, &mut rows);
         turns -= 1;
     }
 }
