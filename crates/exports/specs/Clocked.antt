@@ -29,6 +29,15 @@ clockedAs number value unknown places wire unsure =
       unsure = unsure;
     }
 
--- Of many cycles: how many were accepted, and what the last call gave.
+-- Of many cycles: how many were accepted, and the rest as of one.
 unfoldable pub cyclesAs : ℕ → Clocked → Cycled
-cyclesAs cycles last = record { cycles = cycles; last = last }
+cyclesAs cycles last =
+    record {
+      cycles = cycles;
+      number = last .number;
+      value = last .value;
+      unknown = last .unknown;
+      places = last .places;
+      wire = last .wire;
+      unsure = last .unsure;
+    }

@@ -258,7 +258,8 @@ pub extern "C" fn walbryts_cycle(
     c.number
 }
 
-// Many clock cycles by lent tables: rows of 16 inputs, the clock's not looked at; `cycles` takes how many were accepted.
+// Many clock cycles by lent tables: rows of 16 inputs, the clock's not looked at; `cycles` takes how many were accepted. The
+// arrays become what the last accepted one gave.
 #[no_mangle]
 pub extern "C" fn walbryts_cycles(
     sheet: &[u8],
@@ -287,17 +288,16 @@ pub extern "C" fn walbryts_cycles(
         places: *places,
     };
     let r = cycles::run(sheet, nodes, rows, before, inputs, inputs_unknown);
-    let c = r.last;
-    let registers = c.value;
+    let registers = r.value;
     *value = registers;
-    let flags = c.unknown;
+    let flags = r.unknown;
     *unknown = flags;
-    let waits = c.places;
+    let waits = r.places;
     *places = waits;
-    let wires = c.wire;
+    let wires = r.wire;
     *wire = wires;
-    let doubts = c.unsure;
+    let doubts = r.unsure;
     *unsure = doubts;
     *cycles = r.cycles;
-    c.number
+    r.number
 }

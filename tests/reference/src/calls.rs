@@ -1,10 +1,11 @@
 //! The calls that demand 3 speaks of, on one sheet, by whichever implementation.
 
 use crate::compiler::{Compiler, Lane};
+use crate::machine::number;
 use crate::module::Module;
 use crate::sheet::Refusal;
 use crate::simulator::{Simulator, number_of};
-use crate::state::{Slot, State};
+use crate::state::{MARKS, Slot, State};
 
 /// Each gives its number, 0 where nothing was refused; the state becomes the one that the
 /// call hands back.
@@ -21,7 +22,8 @@ pub trait Calls {
     fn cycle(&self, nodes: &[u16], rows: &[u16], lane: &mut Lane, inputs: &[Slot]) -> u8;
 
     /// Cycle runs one after the other, up to the first that is refused; how many were
-    /// accepted, and the last one's number.
+    /// accepted, and the number that stopped them. The lane becomes what the last accepted
+    /// one gave; before that its wires are x.
     fn cycles(
         &self,
         nodes: &[u16],
@@ -29,9 +31,16 @@ pub trait Calls {
         lane: &mut Lane,
         inputs: &[Vec<Slot>],
     ) -> (usize, u8) {
+        lane.wires = [Slot::X; MARKS];
+        if inputs.is_empty() {
+            // Inputs are judged last, so with too many of them all else is judged.
+            let number = self.cycle(nodes, rows, &mut lane.clone(), &[Slot::ZERO; 17]);
+            return (0, if number == number::INPUTS { 0 } else { number });
+        }
         for (accepted, inputs) in inputs.iter().enumerate() {
-            match self.cycle(nodes, rows, lane, inputs) {
-                0 => {}
+            let mut next = lane.clone();
+            match self.cycle(nodes, rows, &mut next, inputs) {
+                0 => *lane = next,
                 number => return (accepted, number),
             }
         }

@@ -82,9 +82,9 @@ pub fn bad_inputs(module: &Module, random: &mut Random) -> Vec<Slot> {
 /// Inputs for some cycles, of the right number, one of them now and then too wide.
 pub fn some_inputs(module: &Module, random: &mut Random) -> Vec<Vec<Slot>> {
     let mut rows: Vec<Vec<Slot>> =
-        (0..random.between(1, 4)).map(|_| inputs(module, random)).collect();
-    let row = random.below(rows.len());
-    if !rows[row].is_empty() && random.chance(1, 4) {
+        (0..random.below(5)).map(|_| inputs(module, random)).collect();
+    if !rows.is_empty() && module.inputs > 1 && random.chance(1, 4) {
+        let row = random.below(rows.len());
         let input = random.below(rows[row].len());
         rows[row][input] = slot(module.widths[1 + input], random);
     }

@@ -92,7 +92,8 @@ unsafe extern "C" {
     ) -> u8;
 
     /// Cycle runs one after the other, one for each 16 inputs, the first of which is the clock's
-    /// and isn't looked at. `cycles` takes how many were accepted.
+    /// and isn't looked at. `cycles` takes how many were accepted; the arrays become what the
+    /// last of these gave.
     fn walbryts_cycles(
         sheet: *const u8,
         sheet_len: usize,

@@ -9,7 +9,7 @@ run-requires c κs = search needs
 
 returns : tie.Need-returns
 unfolding registersIn clockedAs cyclesAs
-returns c = c .before .before .before .before .before .before .run .ensures
+returns c = c .before .before .before .before .before .run .ensures
 
 pub walbryts-cycles-spec : {M : Type 1} → statement M
 walbryts-cycles-spec = tie.close (tie.spec run-requires returns)

@@ -42,15 +42,18 @@ impl Planes {
     }
 }
 
-/// The inputs from 1 up in rows of 16. What stands for the clock and past the inputs isn't
-/// looked at.
+/// The inputs from 1 up in rows of 16, and some more. What stands for the clock, past the
+/// inputs and behind the rows isn't looked at.
 pub fn rows_of_16(inputs: &[Vec<Slot>]) -> (Vec<u32>, Vec<bool>) {
     let other = Slot { unknown: true, number: 7 };
-    let rows = inputs.iter().flat_map(|row| {
-        let behind = std::iter::repeat_n(other, 15 - row.len());
-        std::iter::once(other).chain(row.iter().copied()).chain(behind)
-    });
-    rows.map(|slot| (slot.number, slot.unknown)).unzip()
+    let mut slots = Vec::new();
+    for row in inputs {
+        slots.push(other);
+        slots.extend(row);
+        slots.resize(slots.len().next_multiple_of(16), other);
+    }
+    slots.extend([other; 9]);
+    slots.iter().map(|slot| (slot.number, slot.unknown)).unzip()
 }
 
 /// Numbers and flags; 0 and false past the last slot.
