@@ -12,3 +12,5 @@ pub mod Clocking
 pub mod Judging
 pub mod Sheets
 pub mod Masks
+pub mod ManyCycles
+pub mod ManySheets

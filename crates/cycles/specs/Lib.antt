@@ -2,3 +2,4 @@ pub mod Cells
 pub mod Checking
 pub mod Running
 pub mod Context
+pub mod Many

@@ -21,9 +21,10 @@ returns-2 c =
 
 returns-3 : tie.Need-returns-3
 returns-3 c =
+    let the-sheet-number = c .before .before .sheet-number in
     let a = c .before .before .before .before .before .before .before .before .args in
-    cycle-refused (a .sheet .now) (a .nodes .now) (a .rows .now) (a .before) (a .inputs) _ (c .before .before .before .before .if1 .left) (c .before .before .before .if2 .left) (c .before .before .sheet-number .result)
-    (c .before .before .sheet-number .ensures) (c .before .if3 .taken) (c .refused3 .ensures)
+    cycle-refused (a .sheet .now) (a .nodes .now) (a .rows .now) (a .before) (a .inputs) _ (c .before .before .before .before .if1 .left) (c .before .before .before .if2 .left) (the-sheet-number .result)
+    (the-sheet-number .ensures) (c .before .if3 .taken) (c .refused3 .ensures)
 
 sub-widths : tie.Need-sub-widths
 sub-widths c = omega (arith, c .widths-end .ensures, widths-start (c .before .before .read .result .layout))
@@ -32,27 +33,45 @@ part-widths-start : tie.Need-part-widths-start
 part-widths-start c = omega (arith, c .widths-end .ensures, widths-start (c .before .before .read .result .layout))
 
 part-widths-end : tie.Need-part-widths-end
-part-widths-end c = omega (arith, c .widths-end .ensures, own-inside (c .before .before .before .before .before .before .before .before .before .before .args .sheet .now) (c .before .before .read .result) (c .before .before .read .ensures) (c .before .before .before .before .sheet-number .result) (c .before .before .before .before .sheet-number .ensures) (c .before .before .before .if3 .left))
+part-widths-end c =
+    let the-read = c .before .before .read in
+    let the-sheet-number = c .before .before .before .before .sheet-number in
+    omega (arith, c .widths-end .ensures, own-inside (c .before .before .before .before .before .before .before .before .before .before .args .sheet .now) (the-read .result) (the-read .ensures) (the-sheet-number .result) (the-sheet-number .ensures) (c .before .before .before .if3 .left))
 
 union-of-requires : tie.Need-union-of-requires
-union-of-requires c κs = own-threads (c .before .before .before .before .before .before .before .before .before .before .before .before .before .before .before .before .before .before .before .before .before .before .args .sheet .now) (c .before .before .before .before .before .before .before .before .before .before .before .before .before .before .read .result) (c .before .before .before .before .before .before .before .before .before .before .before .before .before .before .read .ensures) (c .before .before .before .before .before .before .before .before .before .before .before .before .before .before .before .before .sheet-number .result) (c .before .before .before .before .before .before .before .before .before .before .before .before .before .before .before .before .sheet-number .ensures) (c .before .before .before .before .before .before .before .before .before .before .before .before .before .before .before .if3 .left)
+union-of-requires c κs =
+    let the-read = c .before .before .before .before .before .before .before .before .before .before .before .before .before .before .read in
+    let the-sheet-number = c .before .before .before .before .before .before .before .before .before .before .before .before .before .before .before .before .sheet-number in
+    own-threads (c .before .before .before .before .before .before .before .before .before .before .before .before .before .before .before .before .before .before .before .before .before .before .args .sheet .now) (the-read .result) (the-read .ensures) (the-sheet-number .result) (the-sheet-number .ensures) (c .before .before .before .before .before .before .before .before .before .before .before .before .before .before .before .if3 .left)
 
 fill-firsts-requires : tie.Need-fill-firsts-requires
-fill-firsts-requires c κs = own-threads (c .before .before .before .before .before .before .before .before .before .before .before .before .before .before .before .before .before .before .before .before .before .before .before .before .before .before .args .sheet .now) (c .before .before .before .before .before .before .before .before .before .before .before .before .before .before .before .before .before .before .read .result) (c .before .before .before .before .before .before .before .before .before .before .before .before .before .before .before .before .before .before .read .ensures) (c .before .before .before .before .before .before .before .before .before .before .before .before .before .before .before .before .before .before .before .before .sheet-number .result) (c .before .before .before .before .before .before .before .before .before .before .before .before .before .before .before .before .before .before .before .before .sheet-number .ensures) (c .before .before .before .before .before .before .before .before .before .before .before .before .before .before .before .before .before .before .before .if3 .left)
+fill-firsts-requires c κs =
+    let the-read = c .before .before .before .before .before .before .before .before .before .before .before .before .before .before .before .before .before .before .read in
+    let the-sheet-number = c .before .before .before .before .before .before .before .before .before .before .before .before .before .before .before .before .before .before .before .before .sheet-number in
+    own-threads (c .before .before .before .before .before .before .before .before .before .before .before .before .before .before .before .before .before .before .before .before .before .before .before .before .before .before .args .sheet .now) (the-read .result) (the-read .ensures) (the-sheet-number .result) (the-sheet-number .ensures) (c .before .before .before .before .before .before .before .before .before .before .before .before .before .before .before .before .before .before .before .if3 .left)
 
 cycle-filled-requires : tie.Need-cycle-filled-requires
 unfolding shapeOf
 cycle-filled-requires c κs =
+    let the-read = c .before .before .before .before .before .before .before .before .before .before .before .before .before .before .before .before .before .before .before .before .before .before .before .before .before .before .read in
+    let the-sheet-number = c .before .before .before .before .before .before .before .before .before .before .before .before .before .before .before .before .before .before .before .before .before .before .before .before .before .before .before .before .sheet-number in
     rw (c .before .before .before .before .before .before .shape-of .ensures)
-    (own-threads (c .before .before .before .before .before .before .before .before .before .before .before .before .before .before .before .before .before .before .before .before .before .before .before .before .before .before .before .before .before .before .before .before .before .before .args .sheet .now) (c .before .before .before .before .before .before .before .before .before .before .before .before .before .before .before .before .before .before .before .before .before .before .before .before .before .before .read .result) (c .before .before .before .before .before .before .before .before .before .before .before .before .before .before .before .before .before .before .before .before .before .before .before .before .before .before .read .ensures) (c .before .before .before .before .before .before .before .before .before .before .before .before .before .before .before .before .before .before .before .before .before .before .before .before .before .before .before .before .sheet-number .result) (c .before .before .before .before .before .before .before .before .before .before .before .before .before .before .before .before .before .before .before .before .before .before .before .before .before .before .before .before .sheet-number .ensures) (c .before .before .before .before .before .before .before .before .before .before .before .before .before .before .before .before .before .before .before .before .before .before .before .before .before .before .before .if3 .left))
+    (own-threads (c .before .before .before .before .before .before .before .before .before .before .before .before .before .before .before .before .before .before .before .before .before .before .before .before .before .before .before .before .before .before .before .before .before .before .args .sheet .now) (the-read .result) (the-read .ensures) (the-sheet-number .result) (the-sheet-number .ensures) (c .before .before .before .before .before .before .before .before .before .before .before .before .before .before .before .before .before .before .before .before .before .before .before .before .before .before .before .if3 .left))
 
 returns-4 : tie.Need-returns-4
 returns-4 c =
+    let the-read = c .before .before .before .before .before .before .before .before .before .before .before .before .before .before .before .before .before .before .before .before .before .before .before .before .before .before .before .read in
+    let the-widths-end = c .before .before .before .before .before .before .before .before .before .before .before .before .before .before .before .before .before .before .before .before .before .before .before .before .before .widths-end in
+    let the-compile = c .before .before .before .before .before .before .before .before .before .before .before .before .before .before .before .before .before .before .before .before .before .before .compile in
+    let the-joined = c .before .before .before .before .before .before .before .before .before .before .before .before .before .before .joined in
+    let the-shape-of = c .before .before .before .before .before .before .before .shape-of in
+    let the-writers = c .before .before .before .before .before .before .before .before .before .before .before .before .before .before .before .before .before .writers in
+    let the-sheet-number = c .before .before .before .before .before .before .before .before .before .before .before .before .before .before .before .before .before .before .before .before .before .before .before .before .before .before .before .before .before .sheet-number in
     let a = c .before .before .before .before .before .before .before .before .before .before .before .before .before .before .before .before .before .before .before .before .before .before .before .before .before .before .before .before .before .before .before .before .before .before .before .args in
-    cycle-whole (a .sheet .now) (c .before .before .before .before .before .before .before .before .before .before .before .before .before .before .before .before .before .before .before .before .before .before .before .before .before .before .before .read .result .layout) (c .before .before .before .before .before .before .before .before .before .before .before .before .before .before .before .before .before .before .before .before .before .before .before .before .before .widths-end .result) (c .before .before .before .before .before .before .before .before .before .before .before .before .before .before .before .before .before .before .before .before .before .before .before .before .before .widths-end .ensures) _ (c .before .before .before .before .before .before .before .before .before .before .before .before .before .before .before .before .before .before .before .before .before .before .compile .result) _ _ (c .before .before .before .before .before .before .before .before .before .before .before .before .before .before .joined .result) _ _
-    (c .before .before .before .before .before .before .before .shape-of .result) (c .before .before .before .before .before .before .before .before .before .before .before .before .before .before .before .before .before .before .before .before .before .before .compile .ensures .1) (c .before .before .before .before .before .before .before .before .before .before .before .before .before .before .before .before .before .before .before .before .before .before .compile .ensures .0) (c .before .before .before .before .before .before .before .before .before .before .before .before .before .before .before .before .before .writers .ensures .0) (c .before .before .before .before .before .before .before .before .before .before .before .before .before .before .before .before .before .writers .ensures .1) (c .before .before .before .before .before .before .before .before .before .before .before .before .before .before .joined .ensures) (c .before .before .before .before .before .before .before .before .before .before .before .before .union-of .ensures)
-    (c .before .before .before .before .before .before .before .before .fill-firsts .ensures) (c .before .before .before .before .before .before .before .shape-of .ensures) (a .nodes .now) (a .rows .now) (a .before) (a .inputs) _ (c .before .before .before .before .before .before .before .before .before .before .before .before .before .before .before .before .before .before .before .before .before .before .before .before .before .before .before .before .before .before .before .if1 .left) (c .before .before .before .before .before .before .before .before .before .before .before .before .before .before .before .before .before .before .before .before .before .before .before .before .before .before .before .before .before .before .if2 .left) (c .before .before .before .before .before .before .before .before .before .before .before .before .before .before .before .before .before .before .before .before .before .before .before .before .before .before .before .read .result)
-    (c .before .before .before .before .before .before .before .before .before .before .before .before .before .before .before .before .before .before .before .before .before .before .before .before .before .before .before .read .ensures) refl (c .before .before .before .before .before .before .before .before .before .before .before .before .before .before .before .before .before .before .before .before .before .before .before .before .before .before .before .before .before .sheet-number .result) (c .before .before .before .before .before .before .before .before .before .before .before .before .before .before .before .before .before .before .before .before .before .before .before .before .before .before .before .before .before .sheet-number .ensures) (c .before .before .before .before .before .before .before .before .before .before .before .before .before .before .before .before .before .before .before .before .before .before .before .before .before .before .before .before .if3 .left) (c .cycle-filled .ensures)
+    cycle-whole (a .sheet .now) (the-read .result .layout) (the-widths-end .result) (the-widths-end .ensures) _ (the-compile .result) _ _ (the-joined .result) _ _
+    (the-shape-of .result) (the-compile .ensures .1) (the-compile .ensures .0) (the-writers .ensures .0) (the-writers .ensures .1) (the-joined .ensures) (c .before .before .before .before .before .before .before .before .before .before .before .before .union-of .ensures)
+    (c .before .before .before .before .before .before .before .before .fill-firsts .ensures) (the-shape-of .ensures) (a .nodes .now) (a .rows .now) (a .before) (a .inputs) _ (c .before .before .before .before .before .before .before .before .before .before .before .before .before .before .before .before .before .before .before .before .before .before .before .before .before .before .before .before .before .before .before .if1 .left) (c .before .before .before .before .before .before .before .before .before .before .before .before .before .before .before .before .before .before .before .before .before .before .before .before .before .before .before .before .before .before .if2 .left) (the-read .result)
+    (the-read .ensures) refl (the-sheet-number .result) (the-sheet-number .ensures) (c .before .before .before .before .before .before .before .before .before .before .before .before .before .before .before .before .before .before .before .before .before .before .before .before .before .before .before .before .if3 .left) (c .cycle-filled .ensures)
 
 pub cycle-spec : {M : Type 1} → statement M
 cycle-spec =

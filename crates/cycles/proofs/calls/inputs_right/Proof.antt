@@ -5,13 +5,20 @@ use Rattle.cycles.proofs.calls.inputs_right.Statement.{statement}
 use Rattle.cycles.proofs.calls.inputs_right.Tie as tie
 
 returns : tie.Need-returns
-returns c = inputs-none (c .before .before .args .widths .now) (c .before .before .args .inputs) _ (c .if1 .taken)
+returns c =
+    let given-args = c .before .before .args in
+    inputs-none (given-args .widths .now) (given-args .inputs) _ (c .if1 .taken)
 
 returns-2 : tie.Need-returns-2
-returns-2 c = inputs-other (c .before .before .before .before .args .widths .now) (c .before .before .before .before .args .inputs) _ (c .before .upper .result) (c .before .before .if1 .left) (c .before .upper .ensures) (c .if2 .taken)
+returns-2 c =
+    let given-args = c .before .before .before .before .args in
+    inputs-other (given-args .widths .now) (given-args .inputs) _ (c .before .upper .result) (c .before .before .if1 .left) (c .before .upper .ensures) (c .if2 .taken)
 
 returns-3 : tie.Need-returns-3
-returns-3 c = inputs-judged (c .before .before .before .before .before .before .before .before .before .before .args .widths .now) (c .before .before .before .before .before .before .before .before .before .before .args .inputs) _ (c .before .before .before .before .before .before .before .upper .result) (c .values-fit .result) (c .before .before .before .before .before .before .before .before .if1 .left) (c .before .before .before .before .before .before .before .upper .ensures) (c .before .before .before .before .before .before .if2 .left) (c .values-fit .ensures)
+returns-3 c =
+    let given-args = c .before .before .before .before .before .before .before .before .before .before .args in
+    let the-upper = c .before .before .before .before .before .before .before .upper in
+    inputs-judged (given-args .widths .now) (given-args .inputs) _ (the-upper .result) (c .values-fit .result) (c .before .before .before .before .before .before .before .before .if1 .left) (the-upper .ensures) (c .before .before .before .before .before .before .if2 .left) (c .values-fit .ensures)
 
 pub inputs-right-spec : {M : Type 1} → statement M
 inputs-right-spec =

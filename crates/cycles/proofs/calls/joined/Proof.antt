@@ -18,10 +18,15 @@ loop-holds : tie.Need-loop-holds Inv-loop μ-loop
 loop-holds c = (omega arith, joined-none (c .args .plain .now) (c .args .later .now))
 
 loop-again : tie.Need-loop-again Inv-loop μ-loop
-loop-again c = (omega arith, joined-more (c .before .before .before .before .before .args .plain .now) (c .before .before .before .before .before .args .later .now) (c .before .before .before .before .loop .i) (c .before .before .before .before .loop .out) (c .union .result) (c .before .before .before .loop-test .taken) (c .before .before .before .before .loop .inv .1) (c .union .ensures))
+loop-again c =
+    let given-args = c .before .before .before .before .before .args in
+    let the-loop = c .before .before .before .before .loop in
+    (omega arith, joined-more (given-args .plain .now) (given-args .later .now) (the-loop .i) (the-loop .out) (c .union .result) (c .before .before .before .loop-test .taken) (the-loop .inv .1) (c .union .ensures))
 
 returns : tie.Need-returns Inv-loop μ-loop
-returns c = joined-all (c .before .before .args .plain .now) (c .before .before .args .later .now) (c .before .loop .i) (c .before .loop .out) (omega arith) (c .before .loop .inv .1)
+returns c =
+    let given-args = c .before .before .args in
+    joined-all (given-args .plain .now) (given-args .later .now) (c .before .loop .i) (c .before .loop .out) (omega arith) (c .before .loop .inv .1)
 
 pub joined-spec : {M : Type 1} → statement M
 joined-spec =

@@ -13,9 +13,10 @@ returns c =
 
 returns-2 : tie.Need-returns-2
 returns-2 c =
+    let the-values-fit = c .before .before .before .before .before .values-fit in
     let a = c .before .before .before .before .before .before .before .before .before .before .before .before .before .args in
-    registers-on (a .sheet .now) (a .widths .now) (a .code .now) (a .lengths .now) (a .shape) _ (c .before .before .before .before .before .values-fit .result) (c .places-wait .result)
-    (c .before .before .before .before .before .values-fit .ensures) (not-false _ (c .before .before .before .before .if1 .left)) (c .places-wait .ensures)
+    registers-on (a .sheet .now) (a .widths .now) (a .code .now) (a .lengths .now) (a .shape) _ (the-values-fit .result) (c .places-wait .result)
+    (the-values-fit .ensures) (not-false _ (c .before .before .before .before .if1 .left)) (c .places-wait .ensures)
 
 pub registers-right-spec : {M : Type 1} → statement M
 registers-right-spec =

@@ -15,9 +15,10 @@ returns c =
 
 returns-2 : tie.Need-returns-2
 returns-2 c =
+    let the-nodes-fit = c .before .before .before .before .nodes-fit in
     let a = c .before .before .before .before .before .before .before .before .before .before .args in
     tables-on (a .sheet .now) (a .widths .now) (a .code .now) (a .lengths .now) (a .firsts .now) (a .written .now) (a .shape) (a .nodes .now) (a .rows .now)
-    (a .sizes .now) _ (c .before .before .before .before .nodes-fit .result) (c .rows-fit .result) (replicate 4096 false) (c .before .before .before .before .nodes-fit .ensures) (not-false _ (c .before .before .before .if1 .left))
+    (a .sizes .now) _ (the-nodes-fit .result) (c .rows-fit .result) (replicate 4096 false) (the-nodes-fit .ensures) (not-false _ (c .before .before .before .if1 .left))
     (length-replicate {A = Bool} 4096 false) (c .rows-fit .ensures)
 
 pub tables-fit-spec : {M : Type 1} → statement M

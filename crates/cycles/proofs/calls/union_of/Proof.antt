@@ -23,7 +23,9 @@ element-copy-out-union : tie.Need-element-copy-out-union Inv-loop μ-loop
 element-copy-out-union c = omega (arith, c .before .before .pre)
 
 loop-again : tie.Need-loop-again Inv-loop μ-loop
-loop-again c = (omega arith, united-more (c .before .before .before .before .args .written .now) (c .before .before .before .loop .n) (c .before .before .before .loop .all) (c .union .result) (c .before .before .before .loop .inv .1) (c .union .ensures))
+loop-again c =
+    let the-loop = c .before .before .before .loop in
+    (omega arith, united-more (c .before .before .before .before .args .written .now) (the-loop .n) (the-loop .all) (c .union .result) (the-loop .inv .1) (c .union .ensures))
 
 returns : tie.Need-returns Inv-loop μ-loop
 returns c =

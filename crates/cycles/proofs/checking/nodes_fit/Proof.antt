@@ -22,20 +22,22 @@ loop-holds c =
 
 returns : tie.Need-returns Inv-loop μ-loop
 returns c =
+    let the-cell-at = c .before .before .before .cell-at in
     let a = c .before .before .before .before .before .before .before .before .args in
     let l = c .before .before .before .before .before .loop in
     let f = c .before .node-fits in
-    judged-off (a .widths .now) (a .nodes .now) (a .sizes .now) (l .n) (l .sizes) (c .before .before .before .before .loop-test .taken) (l .inv .1) (nodeOf (c .before .before .before .cell-at .result))
-    (c .before .before .before .cell-at .ensures) (f .result) (l .sizes) (f .ensures) (not-true (f .result) (c .if1 .taken))
+    judged-off (a .widths .now) (a .nodes .now) (a .sizes .now) (l .n) (l .sizes) (c .before .before .before .before .loop-test .taken) (l .inv .1) (nodeOf (the-cell-at .result))
+    (the-cell-at .ensures) (f .result) (l .sizes) (f .ensures) (not-true (f .result) (c .if1 .taken))
 
 loop-again : tie.Need-loop-again Inv-loop μ-loop
 loop-again c =
+    let the-cell-at = c .before .before .before .before .before .cell-at in
     let a = c .before .before .before .before .before .before .before .before .before .before .args in
     let l = c .before .before .before .before .before .before .before .loop in
     let f = c .before .before .before .node-fits in (
       omega arith,
       passing-more (a .widths .now) (a .nodes .now) (a .sizes .now) (l .n) (l .sizes) (c .before .before .before .before .before .before .loop-test .taken) (l .inv .1)
-          (nodeOf (c .before .before .before .before .before .cell-at .result)) (c .before .before .before .before .before .cell-at .ensures) (f .result) (c .node-width .result) (f .ensures)
+          (nodeOf (the-cell-at .result)) (the-cell-at .ensures) (f .result) (c .node-width .result) (f .ensures)
           (not-false (f .result) (c .before .before .if1 .left)) (c .node-width .ensures),
     )
 

@@ -35,9 +35,10 @@ returns c =
 
 loop-again : tie.Need-loop-again Inv-loop μ-loop
 loop-again c =
+    let the-loop = c .before .before .before .loop in
     let a = c .before .before .before .before .before .before .args in (
       omega arith,
-      all-more (test (a .sheet .now) (a .code .now) (a .lengths .now) (a .places .now)) (c .before .before .before .loop .n) (c .before .before .before .loop .inv .1)
+      all-more (test (a .sheet .now) (a .code .now) (a .lengths .now) (a .places .now)) (the-loop .n) (the-loop .inv .1)
           (sym (c .before .place-waits .ensures) ∙ not-false _ (c .if1 .left)),
     )
 

@@ -37,9 +37,10 @@ returns c =
 
 loop-again : tie.Need-loop-again Inv-loop μ-loop
 loop-again c =
+    let the-loop = c .before .before .before .loop in
     let a = c .before .before .before .before .before .before .args in (
       omega arith,
-      all-more (test (a .widths .now) (a .sizes .now) (a .rows .now) (a .inputs) (a .written) (a .first + a .k)) (c .before .before .before .loop .r) (c .before .before .before .loop .inv .1)
+      all-more (test (a .widths .now) (a .sizes .now) (a .rows .now) (a .inputs) (a .written) (a .first + a .k)) (the-loop .r) (the-loop .inv .1)
           (sym (c .before .entry-fits .ensures) ∙ not-false _ (c .if1 .left)),
     )
 

@@ -43,23 +43,25 @@ loop-holds c =
 returns : tie.Need-returns Inv-loop μ-loop
 unfolding threadFitsAt
 returns c =
+    let the-loop = c .before .before .before .loop in
     let a = c .before .before .before .before .before .before .before .args in
     let e = c .before .wait-fits .ensures in
     all-fails
     (test (a .sheet .now) (a .code .now) (a .widths .now) (a .sizes .now) (a .rows .now) (a .inputs) (a .registers) (bits (a .written)) (a .marks .now) (a .i) (a .first))
-    (c .before .before .before .loop .p) (a .n) (c .before .before .loop-test .taken) (sym (rw (c .before .before .before .loop .inv .2) at e) ∙ not-true _ (c .if1 .taken))
+    (the-loop .p) (a .n) (c .before .before .loop-test .taken) (sym (rw (the-loop .inv .2) at e) ∙ not-true _ (c .if1 .taken))
 
 loop-again : tie.Need-loop-again Inv-loop μ-loop
 loop-again c =
+    let the-loop = c .before .before .before .before .before .loop in
     let a = c .before .before .before .before .before .before .before .before .before .args in
     let e = c .before .before .before .wait-fits .ensures in
     let o = c .one .ensures in (
       omega arith,
       omega arith,
-      waits-more (a .sheet .now) (a .code .now) (a .i) (c .before .before .before .before .before .loop .p) (c .before .before .before .before .before .loop .k) (c .one .result) (c .before .waits .result) (c .before .before .before .before .before .loop .inv .2) (c .before .waits .ensures) (o .0),
+      waits-more (a .sheet .now) (a .code .now) (a .i) (the-loop .p) (the-loop .k) (c .one .result) (c .before .waits .result) (the-loop .inv .2) (c .before .waits .ensures) (o .0),
       all-more
           (test (a .sheet .now) (a .code .now) (a .widths .now) (a .sizes .now) (a .rows .now) (a .inputs) (a .registers) (bits (a .written)) (a .marks .now) (a .i) (a .first))
-          (c .before .before .before .before .before .loop .p) (c .before .before .before .before .before .loop .inv .3) (sym (rw (c .before .before .before .before .before .loop .inv .2) at e) ∙ not-false _ (c .before .before .if1 .left)),
+          (the-loop .p) (the-loop .inv .3) (sym (rw (the-loop .inv .2) at e) ∙ not-false _ (c .before .before .if1 .left)),
     )
 
 returns-2 : tie.Need-returns-2 Inv-loop μ-loop

@@ -7,8 +7,9 @@ use Rattle.cycles.proofs.checking.thread_rows_fit.Tie as tie
 
 returns : tie.Need-returns
 returns c =
-    let w = c .before .before .before .before .wide .ensures ∙ c .before .before .before .before .before .size-of .ensures in
-    (rw w at (c .before .before .land .ensures), rw (c .before .before .before .before .before .size-of .ensures) at (c .thread-fits .ensures))
+    let the-size-of = c .before .before .before .before .before .size-of in
+    let w = c .before .before .before .before .wide .ensures ∙ the-size-of .ensures in
+    (rw w at (c .before .before .land .ensures), rw (the-size-of .ensures) at (c .thread-fits .ensures))
 
 pub thread-rows-fit-spec : {M : Type 1} → statement M
 thread-rows-fit-spec =

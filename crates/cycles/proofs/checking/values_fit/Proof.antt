@@ -36,9 +36,10 @@ returns c =
 
 loop-again : tie.Need-loop-again Inv-loop μ-loop
 loop-again c =
+    let the-loop = c .before .before .before .before .before .loop in
     let a = c .before .before .before .before .before .before .before .before .before .args in (
       omega arith,
-      all-more (test (a .widths .now) (a .from) (a .value .now) (a .unknown .now)) (c .before .before .before .before .before .loop .k) (c .before .before .before .before .before .loop .inv .1)
+      all-more (test (a .widths .now) (a .from) (a .value .now) (a .unknown .now)) (the-loop .k) (the-loop .inv .1)
           (value-found (c .before .before .before .byte-at .ensures) (c .before .before .value-at .ensures) (c .before .fits2 .ensures) (not-false (c .before .fits2 .result) (c .if1 .left))),
     )
 

@@ -19,10 +19,12 @@ loop-holds c = (omega arith, omega arith, waits-none (c .before .args .sheet .no
 
 loop-again : tie.Need-loop-again Inv-loop μ-loop
 loop-again c =
+    let given-args = c .before .before .before .before .before .args in
+    let the-loop = c .before .before .before .loop in
     let o = c .one .ensures in (
       omega arith,
       omega arith,
-      waits-more (c .before .before .before .before .before .args .sheet .now) (c .before .before .before .before .before .args .code .now) (c .before .before .before .before .before .args .i) (c .before .before .before .loop .p) (c .before .before .before .loop .k) (c .one .result) (c .before .waits .result) (c .before .before .before .loop .inv .2)
+      waits-more (given-args .sheet .now) (given-args .code .now) (given-args .i) (the-loop .p) (the-loop .k) (c .one .result) (c .before .waits .result) (the-loop .inv .2)
           (c .before .waits .ensures) (o .0),
     )
 

@@ -29,8 +29,9 @@ returns-5 c = rw (c .match .keys5)
 
 returns-6 : tie.Need-returns-6
 returns-6 c =
+    let given-args = c .before .before .args in
     let r = c .before .match .rest in
-    c .operator-of .ensures ∙ from-operator (c .before .before .args .k) (c .before .before .args .a) (c .before .before .args .b) (c .before .before .args .c) (r .0 .0 .0 .0 .1) (r .0 .0 .0 .1) (r .0 .0 .1) (r .0 .1) (r .1)
+    c .operator-of .ensures ∙ from-operator (given-args .k) (given-args .a) (given-args .b) (given-args .c) (r .0 .0 .0 .0 .1) (r .0 .0 .0 .1) (r .0 .0 .1) (r .0 .1) (r .1)
 
 pub cell-of-spec : {M : Type 1} → statement M
 cell-of-spec =

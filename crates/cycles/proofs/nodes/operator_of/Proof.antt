@@ -12,15 +12,21 @@ returns c = operator-low (c .before .args .k) (c .before .args .a) (c .before .a
 
 returns-2 : tie.Need-returns-2
 unfolding nodeOf
-returns-2 c = operator-high (c .before .before .args .k) (c .before .before .args .a) (c .before .before .args .b) (c .if2 .taken)
+returns-2 c =
+    let given-args = c .before .before .args in
+    operator-high (given-args .k) (given-args .a) (given-args .b) (c .if2 .taken)
 
 returns-3 : tie.Need-returns-3
 unfolding nodeOf
-returns-3 c = operator-unary (c .before .before .before .args .k) (c .before .before .before .args .a) (c .before .before .before .args .b) (omega arith) (c .if3 .taken)
+returns-3 c =
+    let given-args = c .before .before .before .args in
+    operator-unary (given-args .k) (given-args .a) (given-args .b) (omega arith) (c .if3 .taken)
 
 returns-4 : tie.Need-returns-4
 unfolding nodeOf
-returns-4 c = operator-binary (c .before .before .before .args .k) (c .before .before .before .args .a) (c .before .before .before .args .b) (c .if3 .left) (omega arith)
+returns-4 c =
+    let given-args = c .before .before .before .args in
+    operator-binary (given-args .k) (given-args .a) (given-args .b) (c .if3 .left) (omega arith)
 
 pub operator-of-spec : {M : Type 1} → statement M
 operator-of-spec =

@@ -9,10 +9,13 @@ use Rattle.cycles.proofs.running.keep_register.Tie as tie
 
 returns : tie.Need-returns
 returns c =
+    let the-has = c .before .before .before .before .before .before .before .before .has in
+    let the-place = c .before .before .before .before .before .before .before .before .before .place in
+    let the-value-at = c .before .before .before .value-at in
     let a = c .before .before .before .before .before .before .before .before .before .before .args in
     let f = valueAt (a .value .now) (a .unknown .now) in
-    keep-on _ f (a .inputs) (planes (a .kept .now) (a .unsure .now)) (a .r) (c .before .before .before .before .before .before .before .before .has .result) (rw (c .before .before .before .before .before .before .before .before .before .place .ensures) at (c .before .before .before .before .before .before .before .before .has .ensures)) (c .before .before .before .before .before .before .before .before .before .place .result) (c .before .before .before .value-at .result) _ (c .before .before .before .before .before .before .before .if1 .taken)
-    (c .before .before .before .before .before .before .before .before .before .place .ensures) (rw (c .before .before .before .before .before .before .before .before .before .place .ensures, c .before .before .before .before .place2 .ensures) at (c .before .before .before .value-at .ensures)) (c .put-kept .ensures)
+    keep-on _ f (a .inputs) (planes (a .kept .now) (a .unsure .now)) (a .r) (the-has .result) (rw (the-place .ensures) at (the-has .ensures)) (the-place .result) (the-value-at .result) _ (c .before .before .before .before .before .before .before .if1 .taken)
+    (the-place .ensures) (rw (the-place .ensures, c .before .before .before .before .place2 .ensures) at (the-value-at .ensures)) (c .put-kept .ensures)
 
 returns-2 : tie.Need-returns-2
 returns-2 c =

@@ -24,10 +24,11 @@ loop-holds c =
 
 loop-again : tie.Need-loop-again Inv-loop μ-loop
 loop-again c =
+    let the-loop = c .before .before .before .before .loop in
     let a = c .before .before .before .before .before .args in (
       omega arith,
-      keep-more (bits (a .written)) (valueAt (a .value .now) (a .unknown .now)) (a .inputs) (planes (a .kept .now) (a .unsure .now)) (c .before .before .before .before .loop .r)
-          (planes (c .before .before .before .before .loop .kept) (c .before .before .before .before .loop .unsure)) _ (c .before .before .before .before .loop .inv .1) (c .keep-register .ensures),
+      keep-more (bits (a .written)) (valueAt (a .value .now) (a .unknown .now)) (a .inputs) (planes (a .kept .now) (a .unsure .now)) (the-loop .r)
+          (planes (the-loop .kept) (the-loop .unsure)) _ (the-loop .inv .1) (c .keep-register .ensures),
     )
 
 returns : tie.Need-returns Inv-loop μ-loop

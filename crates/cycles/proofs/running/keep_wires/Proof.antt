@@ -24,12 +24,15 @@ loop-holds c =
 
 loop-again : tie.Need-loop-again Inv-loop μ-loop
 loop-again c =
+    let the-place3 = c .before .before .before .before .before .before .place3 in
+    let the-loop = c .before .before .before .before .before .before .before .before .loop in
+    let the-value-at = c .before .before .before .value-at in
     let a = c .before .before .before .before .before .before .before .before .before .before .before .args in
     let f : ℕ → Value = λ k. valueAt (a .value .now) (a .unknown .now) (a .inputs + a .registers + k) in (
       omega arith,
-      all-put-more 32 0 (c .before .before .before .before .before .before .place3 .result) (c .before .before .before .before .before .before .before .before .loop .k) f (c .before .before .before .value-at .result) (planes (a .wire .now) (a .unsure .now))
-          (planes (c .before .before .before .before .before .before .before .before .loop .wire) (c .before .before .before .before .before .before .before .before .loop .unsure)) _ (c .before .before .before .before .before .before .before .before .loop .inv .1)
-          (rw (c .before .before .before .before .before .before .before .before .before .before .place .ensures, c .before .before .before .before .before .before .before .before .before .place2 .ensures, c .before .before .before .before .before .before .place3 .ensures) at (c .before .before .before .value-at .ensures)) (omega (arith, c .before .before .before .before .before .before .place3 .ensures)) (c .put-kept .ensures),
+      all-put-more 32 0 (the-place3 .result) (the-loop .k) f (the-value-at .result) (planes (a .wire .now) (a .unsure .now))
+          (planes (the-loop .wire) (the-loop .unsure)) _ (the-loop .inv .1)
+          (rw (c .before .before .before .before .before .before .before .before .before .before .place .ensures, c .before .before .before .before .before .before .before .before .before .place2 .ensures, the-place3 .ensures) at (the-value-at .ensures)) (omega (arith, the-place3 .ensures)) (c .put-kept .ensures),
     )
 
 returns : tie.Need-returns Inv-loop μ-loop

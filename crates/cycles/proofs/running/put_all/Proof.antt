@@ -23,12 +23,15 @@ loop-holds c =
 
 loop-again : tie.Need-loop-again Inv-loop μ-loop
 loop-again c =
+    let the-loop = c .before .before .before .before .before .before .loop in
+    let the-value-at = c .before .before .before .value-at in
+    let the-place2 = c .before .before .before .before .place2 in
     let a = c .before .before .before .before .before .before .before .before .before .before .args in
     let f = valueAt (a .given .now) (a .absent .now) in (
       omega arith,
-      all-put-more 80 (a .from) _ (c .before .before .before .before .before .before .loop .k) f (c .before .before .before .value-at .result) (planes (a .value .now) (a .unknown .now))
-          (planes (c .before .before .before .before .before .before .loop .value) (c .before .before .before .before .before .before .loop .unknown)) _ (c .before .before .before .before .before .before .loop .inv .1) (c .before .before .before .value-at .ensures ∙ ap f (c .before .before .before .before .place2 .ensures))
-          (rw (c .before .before .before .before .before .before .before .place .ensures, c .before .before .before .before .place2 .ensures)) (c .put-value .ensures),
+      all-put-more 80 (a .from) _ (the-loop .k) f (the-value-at .result) (planes (a .value .now) (a .unknown .now))
+          (planes (the-loop .value) (the-loop .unknown)) _ (the-loop .inv .1) (the-value-at .ensures ∙ ap f (the-place2 .ensures))
+          (rw (c .before .before .before .before .before .before .before .place .ensures, the-place2 .ensures)) (c .put-value .ensures),
     )
 
 returns : tie.Need-returns Inv-loop μ-loop

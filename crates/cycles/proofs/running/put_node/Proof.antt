@@ -8,7 +8,9 @@ returns : tie.Need-returns
 returns c = put-past _ _ _ _ _ (rw (c .before .wide .ensures) at (c .if1 .taken))
 
 returns-2 : tie.Need-returns-2
-returns-2 c = rw (c .before .before .before .wide .ensures) (put-in _ _ _ _ _ _ _ (rw (c .before .before .before .wide .ensures) at (c .before .before .if1 .left)) (c .before .number-of .ensures) (c .is-unknown .ensures))
+returns-2 c =
+    let the-wide = c .before .before .before .wide in
+    rw (the-wide .ensures) (put-in _ _ _ _ _ _ _ (rw (the-wide .ensures) at (c .before .before .if1 .left)) (c .before .number-of .ensures) (c .is-unknown .ensures))
 
 pub put-node-spec : {M : Type 1} → statement M
 put-node-spec =

@@ -21,12 +21,15 @@ loop-holds c = (omega arith, refl)
 
 loop-again : tie.Need-loop-again Inv-loop μ-loop
 loop-again c =
+    let the-loop = c .before .before .before .before .before .before .before .before .before .loop in
+    let the-start-at = c .before .before .before .before .start-at in
+    let the-worth = c .before .before .before .worth in
     let a = c .before .before .before .before .before .before .before .before .before .before .before .before .before .before .args in
     let k = c .before .before .before .before .before .before .before .place3 in (
       omega arith,
-      settle-more (a .sheet .now) (a .widths .now) (a .starts .now) (a .inputs + a .registers) (planes (a .value .now) (a .unknown .now)) (c .before .before .before .before .before .before .before .before .before .loop .n)
-          _ (c .before .before .before .before .start-at .result) (c .before .before .before .worth .result) (planes (c .before .before .before .before .before .before .before .before .before .loop .value) (c .before .before .before .before .before .before .before .before .before .loop .unknown)) _ (c .before .before .before .before .before .before .before .before .before .loop .inv .1)
-          (c .before .before .before .before .start-at .ensures ∙ ap (startAt (a .starts .now)) (k .ensures)) (c .before .before .before .worth .ensures)
+      settle-more (a .sheet .now) (a .widths .now) (a .starts .now) (a .inputs + a .registers) (planes (a .value .now) (a .unknown .now)) (the-loop .n)
+          _ (the-start-at .result) (the-worth .result) (planes (the-loop .value) (the-loop .unknown)) _ (the-loop .inv .1)
+          (the-start-at .ensures ∙ ap (startAt (a .starts .now)) (k .ensures)) (the-worth .ensures)
           (rw (c .before .before .before .before .before .before .before .before .before .before .before .place .ensures, c .before .before .before .before .before .before .before .before .before .before .place2 .ensures, k .ensures)) (c .put-value .ensures),
     )
 

@@ -31,11 +31,12 @@ take-thread-requires c κs = omega (arith, c .place .ensures)
 
 loop-again : tie.Need-loop-again Inv-loop μ-loop
 loop-again c =
+    let the-loop = c .before .before .before .before .before .before .loop in
     let a = c .before .before .before .before .before .before .before .before .before .args in (
       omega arith,
       threads-more (course (a .sheet .now) (a .code .now) (a .rows .now) (a .firsts .now) (a .written .now) (a .inputs) (a .registers))
-          (nodesIn (a .worth .now) (a .blank .now)) (c .before .before .before .before .before .before .loop .n) (c .before .place .result) (stand (a .value .now) (a .unknown .now) (a .places .now))
-          (stand (c .before .before .before .before .before .before .loop .value) (c .before .before .before .before .before .before .loop .unknown) (c .before .before .before .before .before .before .loop .places)) _ (c .before .before .before .before .before .before .loop .inv .1) (c .before .place .ensures) (c .take-thread .ensures),
+          (nodesIn (a .worth .now) (a .blank .now)) (the-loop .n) (c .before .place .result) (stand (a .value .now) (a .unknown .now) (a .places .now))
+          (stand (the-loop .value) (the-loop .unknown) (the-loop .places)) _ (the-loop .inv .1) (c .before .place .ensures) (c .take-thread .ensures),
     )
 
 returns : tie.Need-returns Inv-loop μ-loop

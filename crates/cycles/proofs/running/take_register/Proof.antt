@@ -9,10 +9,13 @@ use Rattle.cycles.proofs.running.take_register.Tie as tie
 
 returns : tie.Need-returns
 returns c =
+    let the-has = c .before .before .before .before .before .before .before .has in
+    let the-place = c .before .before .before .before .before .before .before .before .place in
+    let the-node-value = c .before .before .before .before .node-value in
     let a = c .before .before .before .before .before .before .before .before .before .before .args in
     let g = nodesIn (a .worth .now) (a .blank .now) in
-    take-on _ _ _ g (a .inputs) (planes (a .value .now) (a .unknown .now)) (a .r) (c .before .before .before .before .before .before .before .has .result) (rw (c .before .before .before .before .before .before .before .before .place .ensures) at (c .before .before .before .before .before .before .before .has .ensures)) _ (c .before .before .before .before .node-value .result) _ (c .before .before .before .before .before .before .if1 .taken)
-    (rw (c .before .before .before .before .before .before .before .before .place .ensures, c .before .place2 .ensures)) (c .before .before .before .before .node-value .ensures ∙ ap g (c .before .before .before .before .before .entry-at .ensures)) (c .put-value .ensures)
+    take-on _ _ _ g (a .inputs) (planes (a .value .now) (a .unknown .now)) (a .r) (the-has .result) (rw (the-place .ensures) at (the-has .ensures)) _ (the-node-value .result) _ (c .before .before .before .before .before .before .if1 .taken)
+    (rw (the-place .ensures, c .before .place2 .ensures)) (the-node-value .ensures ∙ ap g (c .before .before .before .before .before .entry-at .ensures)) (c .put-value .ensures)
 
 returns-2 : tie.Need-returns-2
 returns-2 c =

@@ -25,10 +25,11 @@ loop-holds c =
 
 loop-again : tie.Need-loop-again Inv-loop μ-loop
 loop-again c =
+    let the-loop = c .before .before .before .before .loop in
     let a = c .before .before .before .before .before .before .args in (
       omega arith,
       take-more (a .rows .now) (a .first + a .k) (bits (a .written)) (nodesIn (a .worth .now) (a .blank .now)) (a .inputs)
-          (planes (a .value .now) (a .unknown .now)) (c .before .before .before .before .loop .r) (planes (c .before .before .before .before .loop .value) (c .before .before .before .before .loop .unknown)) _ (c .before .before .before .before .loop .inv .1)
+          (planes (a .value .now) (a .unknown .now)) (the-loop .r) (planes (the-loop .value) (the-loop .unknown)) _ (the-loop .inv .1)
           (c .take-register .ensures),
     )
 

@@ -23,11 +23,14 @@ loop-holds c = (omega arith, refl)
 
 loop-again : tie.Need-loop-again Inv-loop μ-loop
 loop-again c =
+    let the-loop = c .before .before .before .before .before .before .before .before .loop in
+    let the-cell-at = c .before .before .before .before .cell-at in
+    let the-worth-of = c .before .before .before .worth-of in
     let a = c .before .before .before .before .before .before .before .before .before .before .args in (
       omega arith,
       work-more (a .nodes .now) (sizeIn (a .sizes .now)) (valueAt (a .value .now) (a .unknown .now))
-          (planes (a .worth .now) (a .blank .now)) (c .before .before .before .before .before .before .before .before .loop .n) (nodeOf (c .before .before .before .before .cell-at .result)) (c .before .before .before .worth-of .result)
-          (planes (c .before .before .before .before .before .before .before .before .loop .worth) (c .before .before .before .before .before .before .before .before .loop .blank)) _ (c .before .before .before .before .before .before .before .before .loop .inv .1) (c .before .before .before .before .cell-at .ensures) (c .before .before .before .worth-of .ensures) (c .put-node .ensures),
+          (planes (a .worth .now) (a .blank .now)) (the-loop .n) (nodeOf (the-cell-at .result)) (the-worth-of .result)
+          (planes (the-loop .worth) (the-loop .blank)) _ (the-loop .inv .1) (the-cell-at .ensures) (the-worth-of .ensures) (c .put-node .ensures),
     )
 
 returns : tie.Need-returns Inv-loop μ-loop

@@ -1,0 +1,104 @@
+-- Many clock cycles in one call: rows of inputs, a cycle run for each row. It is defined by the single cycle runs, each handed the
+-- registers and places that the last one gave back, up to the first that is refused.
+use Prim.Native.Nat.{ℕ, zero, suc, _+_, _-_, _*_, _/_}
+use mathlib.Core.Path.{_≡_}
+use mathlib.Core.Bool.{Bool, true, false}
+use mathlib.Core.List.{List, [], _∷_, _++_}
+use lib.ListN.{length, getD}
+use lib.Dec.{eqb}
+use Rattle.values.specs.Values.{pick}
+use Rattle.sheet.specs.Reading.{Res, ok, no}
+use Rattle.sheet.specs.Expression.{Expr}
+use Rattle.sheet.specs.Module.{Module}
+use Rattle.state.specs.Saved.{listOf}
+use Rattle.events.specs.declared.Inputs.{Inputs}
+use Rattle.engine.specs.declared.Shape.{Shape}
+use Rattle.nextstate.specs.declared.Registers.{Registers}
+use Rattle.nextstate.specs.declared.Clocked.{Clocked}
+use Rattle.nextstate.specs.Extraction.{Tables, rightLengths}
+use Rattle.nextstate.specs.CycleRun.{tablesFit, tablesIn, registersFit, refused, clockedIn, extractable, cycleRun}
+use Rattle.cycles.specs.declared.Cycled.{Cycled}
+use Rattle.cycles.specs.Context.{Context, TablesJudged, CycleAnswers}
+
+-- ---- rows of 16: item 0, the clock's, isn't looked at, item v + 1 is input item v of the cycle run
+
+-- 15 items from a place on, and one more, which no sheet has an input for.
+unfoldable pub itemsFrom : {A : Type 0} → List A → A → ℕ → List A
+itemsFrom xs other i = listOf 15 (λ v. getD xs (i + v) other) ++ (other ∷ [])
+
+unfoldable pub inputsFrom : ℕ → List ℕ → List Bool → ℕ → Inputs
+inputsFrom inputs ns xs i =
+    record { count = inputs - 1; value = itemsFrom ns 0 i; unknown = itemsFrom xs false i }
+
+-- The inputs of row r, for a sheet of so many.
+unfoldable pub rowInputs : ℕ → List ℕ → List Bool → ℕ → Inputs
+rowInputs inputs ns xs r = inputsFrom inputs ns xs (16 * r + 1)
+
+-- ---- the cycle runs
+
+-- The registers and places that a cycle run gave.
+unfoldable pub registersOf : Clocked → Registers
+registersOf c = record { value = c .value; unknown = c .unknown; places = c .places }
+
+-- After so many cycles, of which the last gave c, the next is refused by number n; or there is no next, and n is 0.
+unfoldable pub ended : ℕ → ℕ → Clocked → Cycled
+ended r n c =
+    record {
+      cycles = r;
+      number = n;
+      value = c .value;
+      unknown = c .unknown;
+      places = c .places;
+      wire = c .wire;
+      unsure = c .unsure;
+    }
+
+module _ (call : Registers → Inputs → Clocked) (inputs : ℕ → Inputs) where
+  -- From row r on, n of them, where the cycle before gave c.
+  unfoldable pub cyclesFrom : ℕ → ℕ → Clocked → Cycled
+  cyclesFrom zero r c = ended r 0 c
+  cyclesFrom (suc n) r c =
+      let d = call (registersOf c) (inputs r) in
+      pick (eqb (d .number) 0) (cyclesFrom n (r + 1) d) (ended r (d .number) c)
+
+-- ---- the call: as many rows as the numbers fill. A sheet, tables or registers that are refused are refused at once.
+
+abbrev pub atOnce : ℕ → Registers → Cycled
+atOnce n g = ended 0 n (refused n g)
+
+module _ (call : Registers → Inputs → Clocked) (g : Registers) (value : List ℕ) (unknown : List Bool) where
+  -- Before the first cycle the registers and places are as handed, and the wires x.
+  unfoldable pub cyclesOf : ℕ → Cycled
+  cyclesOf inputs = cyclesFrom call (rowInputs inputs value unknown) (length value / 16) 0 (refused 0 g)
+
+  unfoldable pub cyclesIn : Module Expr → Tables → Cycled
+  cyclesIn m T = pick (tablesFit m T) (pick (registersFit m g) (cyclesOf (m .scope .inputs)) (atOnce 31 g)) (atOnce 24 g)
+
+  unfoldable pub cyclesOr : Res (Module Expr) → Tables → Cycled
+  cyclesOr (ok m) T = cyclesIn m T
+  cyclesOr (no n p) T = atOnce n g
+
+unfoldable pub cyclesRun : List ℕ → List ℕ → List ℕ → Registers → List ℕ → List Bool → Cycled
+cyclesRun s ns rs g value unknown =
+    pick (rightLengths ns rs) (cyclesOr (cycleRun s ns rs) g value unknown (extractable s) (tablesIn ns rs)) (atOnce 23 g)
+
+-- ---- what the code answers on a sheet whose tables are filled
+
+-- A cycle run on lent tables that were found in order, with their nodes' widths.
+abbrev pub TurnAnswers : List ℕ → List ℕ → List ℕ → List ℕ → List ℕ → List ℕ → List ℕ → List Bool → Shape → List ℕ → List ℕ → List ℕ → Registers → Inputs → Clocked → Type 0
+TurnAnswers s ws starts code lengths firsts written all shape ns rs sizes g a r =
+    (before : List ℕ) → length before ≡ 4096 → TablesJudged s ws code lengths firsts written shape ns rs before sizes true →
+    CycleAnswers s ws starts code lengths firsts written all shape ns rs g a r
+
+-- The rows on such tables.
+abbrev pub RowsAnswer : List ℕ → List ℕ → List ℕ → List ℕ → List ℕ → List ℕ → List ℕ → List Bool → Shape → List ℕ → List ℕ → List ℕ → Registers → List ℕ → List Bool → Cycled → Type 0
+RowsAnswer s ws starts code lengths firsts written all shape ns rs sizes g value unknown r =
+    (before : List ℕ) → length before ≡ 4096 → TablesJudged s ws code lengths firsts written shape ns rs before sizes true →
+    (m : Module Expr) → Context s m ws starts code lengths firsts written all shape →
+    r ≡ cyclesOf (clockedIn m (tablesIn ns rs)) g value unknown (shape .inputs)
+
+-- The call from 24 on.
+abbrev pub ManyAnswers : List ℕ → List ℕ → List ℕ → List ℕ → List ℕ → List ℕ → List ℕ → List Bool → Shape → List ℕ → List ℕ → Registers → List ℕ → List Bool → Cycled → Type 0
+ManyAnswers s ws starts code lengths firsts written all shape ns rs g value unknown r =
+    (m : Module Expr) → Context s m ws starts code lengths firsts written all shape →
+    r ≡ cyclesIn (clockedIn m (tablesIn ns rs)) g value unknown m (tablesIn ns rs)
