@@ -30,22 +30,13 @@ use Rattle.threads.specs.Ruled.{Ruled}
 use Rattle.threads.specs.Alone.{riseAlone}
 use Rattle.settling.proofs.Settle.{settle-below}
 use Rattle.walking.proofs.Rising.{rise-alone}
-use Rattle.phases.specs.Phases.{instructionsUpTo, allInstructions, turnedAlone, Phase}
+use Rattle.validity.proofs.Valid.{some-variables}
+use Rattle.phases.specs.Phases.{turnedAlone, Phase}
 use Rattle.phases.proofs.Phases.{phase-start, phase-step, phase-bound, phase-quiet, phase-low, phase-high, phase-places}
 use Rattle.order.specs.Calls.{Call, final, choices, instants, since, Cycles}
-use Rattle.order.specs.Claim.{instructionsBelow, instructions, AtTheEnd}
+use Rattle.order.specs.Claim.{AtTheEnd}
 use Rattle.order.proofs.Outcomes.{Standing, choose-in}
 use Rattle.order.proofs.List.{tallied, every, all-standing, to-fall}
-
--- The sum of the threads' instructions, as the phases and as the claim name it.
-instructions-below : (m : Module Expr) (n : ℕ) → instructionsUpTo m n ≡ instructionsBelow m n
-unfolding instructionsUpTo instructionsBelow
-instructions-below m zero = refl
-instructions-below m (suc n) = rw (instructions-below m n) refl
-
-instructions-all : (m : Module Expr) → allInstructions m ≡ instructions m
-unfolding allInstructions instructions
-instructions-all m = instructions-below m (length (m .threads))
 
 module _ (s : List ℕ) (m : Module Expr) (e : read s ≡ ok m) (w : Sound m) (u : Ruled m) (T : Tables) (x : extracted m ≡ ok T) where
   -- The book of the claim is the one that the phases speak of, wherever its places are waits.
@@ -63,10 +54,6 @@ module _ (s : List ℕ) (m : Module Expr) (e : read s ≡ ok m) (w : Sound m) (u
       subst (λ (c : Book). Phase m c new 0) (sym (turned-alone a b (phase-places m w u b old n p)))
       (phase-low m w u b old new n a (i .rest) p i z)
 
-  some-variables : 0 < variables m
-  unfolding variables
-  some-variables = omega (arith, w .variables, w .inputs-some)
-
   within : (v : ℕ) → v < m .scope .inputs → v < variables m
   unfolding variables
   within v l = omega (arith, w .variables)
@@ -77,7 +64,7 @@ module _ (s : List ℕ) (m : Module Expr) (e : read s ≡ ok m) (w : Sound m) (u
   high b old new n a f i z clock same p =
       let q = phase-quiet m w u b old n (i .rest) p .0 in
       subst (λ (c : Book). Phase m c new 0) (sym (turned-alone a b (phase-places m w u b old n p)))
-      (phase-high m w u b old new n a (i .rest) p (q 0 some-variables ∙ clock) i z
+      (phase-high m w u b old new n a (i .rest) p (q 0 (some-variables m w) ∙ clock) i z
       (λ v ne l. same v ne l ∙ sym (q v (within v l))))
 
   takes-in : (b : Book) (a : ℕ → Value) (v : ℕ) → a 0 ≡ Known 0 → v < m .scope .inputs → turned m T a b .values v ≡ a v
@@ -123,7 +110,7 @@ module _ (s : List ℕ) (m : Module Expr) (e : read s ≡ ok m) (w : Sound m) (u
       record {
         time = tally .time ∙ rw no-time (omega arith);
         count = tally .count ∙ rw no-count (omega arith);
-        bound = rw (instructions-all m) at (phase-bound m w u b st n p);
+        bound = phase-bound m w u b st n p;
         progress = λ q room. (plainChoice m st, ap (λ r. r .number) (choose-in s m e w st stands (plainChoice m st)) ∙ plain-refusal m st w q ∙ spend-zero (st .count) room);
         values = λ q. phase-quiet m w u b st n q p .0;
         places = λ q. phase-quiet m w u b st n q p .1;

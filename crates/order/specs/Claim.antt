@@ -1,5 +1,5 @@
 -- Demand 3, the whole claim (document 01, "Extraction and the cycle run", its last two paragraphs). proofs/Order proves it.
-use Prim.Native.Nat.{ℕ, zero, suc, _+_, _-_, _^_, _≤_, _<_}
+use Prim.Native.Nat.{ℕ, _+_, _-_, _^_, _≤_, _<_}
 use mathlib.Core.Path.{_≡_}
 use mathlib.Core.Logic.{_≢_}
 use mathlib.Core.Bool.{true, false}
@@ -12,22 +12,15 @@ use Rattle.sheet.specs.Module.{Module, read}
 use Rattle.state.specs.declared.State.{State}
 use Rattle.state.specs.State.{valueOf, placeOf}
 use Rattle.events.specs.declared.Inputs.{Inputs}
-use Rattle.events.specs.Cycle.{variables, codeOf, wireVariable, quiet}
+use Rattle.events.specs.Cycle.{variables, wireVariable, quiet}
 use Rattle.events.specs.Calls.{start, choose, inputOf, inputsFit}
 use Rattle.nextstate.specs.declared.Registers.{Registers}
 use Rattle.nextstate.specs.declared.Clocked.{Clocked}
 use Rattle.nextstate.specs.Extraction.{Tables, extracted, extract}
 use Rattle.nextstate.specs.Book.{Book, turned, book}
 use Rattle.nextstate.specs.CycleRun.{cycleRun}
+use Rattle.phases.specs.Phases.{allInstructions}
 use Rattle.order.specs.Calls.{Call, final, choices, instants, since, SameButClock, Cycles, WholeCycles}
-
--- "P being all threads' instructions": those of the threads below n.
-unfoldable pub instructionsBelow : Module Expr → ℕ → ℕ
-instructionsBelow m zero = 0
-instructionsBelow m (suc i) = instructionsBelow m i + length (codeOf m i)
-
-unfoldable pub instructions : Module Expr → ℕ
-instructions m = instructionsBelow m (length (m .threads))
 
 -- ---- "Wherever the list ends"
 
@@ -45,7 +38,7 @@ module _ (s : List ℕ) (m : Module Expr) (T : Tables) where
     pub count : end calls .count ≡ choices s calls (start s .state)
     -- "the count has risen since the last accepted instant, or the start, by at most P + 2^W, P being all threads' instructions and
     -- W the wires"
-    pub bound : since s calls (start s .state) 0 ≤ instructions m + 2 ^ length (m .wires)
+    pub bound : since s calls (start s .state) 0 ≤ allInstructions m + 2 ^ length (m .wires)
     -- "a state that isn't quiet has a choice that is accepted unless the count is full"
     pub progress : quiet m (end calls) ≡ false → end calls .count ≢ 4294967295 → (c : ℕ) × (choose s (end calls) c .number ≡ 0)
     -- "a quiet one has the book's inputs, registers, places (demand 3's waits) and wires"
