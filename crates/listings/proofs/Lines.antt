@@ -23,10 +23,10 @@ use Rattle.pseudocode.specs.Compiling.{Compiled, compileAt}
 use Rattle.pseudocode.specs.Fetching.{fetchAt}
 use Rattle.pseudocode.proofs.Translation.{threadCode-size}
 use Rattle.pseudocode.proofs.Compiling.{Compiles, compile-law}
-use Rattle.text.specs.Buffer.{Text, filled, puts}
+use Rattle.writing.specs.Buffer.{Text, filled, puts}
 use Rattle.text.specs.Listing.{showLine, showCode, showThreads, showHead, showModule, refusal, output}
 use Rattle.text.specs.Printing.{textAt, instrOf, printedAt}
-use Rattle.text.proofs.Buffer.{puts-append, both, puts-sets}
+use Rattle.writing.proofs.Buffer.{puts-append, both, puts-sets}
 use Rattle.text.proofs.Length.{length-output}
 use Rattle.text.proofs.Located.{PlacedAll, none, more, instr-of, thread-placed, output-located}
 use Rattle.listings.specs.Lines.{codeLines, threadLines, tableListing}

@@ -3,7 +3,7 @@ ghost use mathlib.Core.Path.{_≡_};
 ghost use Prim.Native.Nat.{_≤_};
 ghost use lib.ListN.{length, getD};
 ghost use lib.Seq.{sets};
-ghost use Rattle.text.specs.Buffer.{filled, puts};
+ghost use Rattle.writing.specs.Buffer.{filled, puts};
 ghost use Rattle.text.specs.Listing.{output};
 ghost use Rattle.listings.specs.Lines.{codeLines, threadLines, tableListing};
 

@@ -21,12 +21,12 @@ use Rattle.sheet.proofs.Reading.{Within, bind-ok, check-ok, within-ok, ok-injec
 use Rattle.sheet.proofs.Expression.{Reads, a-variable, a-constant, an-unknown, a-unary, a-binary, a-conditional, reads-after}
 use Rattle.sheet.proofs.Statements.{ReadsTerms, no-terms, a-term, ReadsStmt, an-empty, an-assign, a-later, a-sequence, an-if, an-if-else, a-while, a-forever, a-wait, derive-stmt}
 use Rattle.pseudocode.specs.Translation.{Instr, wait!, set!, later!, go, ifnot, translate, threadCode}
-use Rattle.text.specs.Ascii.{ascii}
-use Rattle.text.specs.Text.{decimal}
-use Rattle.text.specs.Buffer.{filled, puts}
+use Rattle.writing.specs.Ascii.{ascii}
+use Rattle.writing.specs.Numbers.{decimal}
+use Rattle.writing.specs.Buffer.{filled, puts}
 use Rattle.text.specs.Listing.{showExpr, showTerm, showTerms, showInstr, showLine, showCode, showThreads, showHead, showModule, listing, refusal, printed, output}
-use Rattle.text.proofs.Buffer.{puts-front}
-use Rattle.text.proofs.Text.{length-decimal, decimal-twenty}
+use Rattle.writing.proofs.Buffer.{puts-front}
+use Rattle.writing.proofs.Numbers.{length-decimal, decimal-twenty}
 use Rattle.text.proofs.Located.{tree-reads}
 
 -- ---- expressions

@@ -1,5 +1,3 @@
-pub mod Text
-pub mod Buffer
 pub mod Listing
 pub mod Printing
 pub mod Located

@@ -8,9 +8,9 @@ use lib.Seq.{drop-cons}
 use Rattle.sheet.specs.Statement.{Stmt}
 use Rattle.sheet.specs.Module.{Module}
 use Rattle.pseudocode.specs.Translation.{Instr, threadCode}
-use Rattle.text.specs.Buffer.{Text, puts}
+use Rattle.writing.specs.Buffer.{Text, puts}
 use Rattle.text.specs.Listing.{showLine, showCode, showThreads, showHead, showModule}
-use Rattle.text.proofs.Buffer.{puts-nil, puts-append}
+use Rattle.writing.proofs.Buffer.{puts-nil, puts-append}
 
 module _ {E : Type 0} (expr : E → List ℕ) where
   -- ---- showCode

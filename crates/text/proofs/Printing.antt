@@ -19,12 +19,12 @@ use Rattle.sheet.proofs.Expression.{Reads, a-variable, a-constant, an-unknown, 
 use Rattle.pseudocode.specs.declared.EdgeTerms.{EdgeTerms}
 use Rattle.pseudocode.specs.Instruction.{noTerm}
 use Rattle.text.specs.declared.Printed.{Printed}
-use Rattle.text.specs.Ascii.{byte}
-use Rattle.text.specs.Text.{decimal}
-use Rattle.text.specs.Buffer.{Text, filled, puts}
+use Rattle.writing.specs.Ascii.{byte}
+use Rattle.writing.specs.Numbers.{decimal}
+use Rattle.writing.specs.Buffer.{Text, filled, puts}
 use Rattle.text.specs.Listing.{_then_, showExpr, showTerm, showTerms}
 use Rattle.text.specs.Printing.{Shown, shown, Prints, operandsOf, behind, operandsAt, nodeAt, shownAt, textAt, allTerms, termList}
-use Rattle.text.proofs.Buffer.{both, puts-nil, puts-append}
+use Rattle.writing.proofs.Buffer.{both, puts-nil, puts-append}
 
 -- ---- Prints
 

@@ -10,8 +10,8 @@ use Rattle.sheet.specs.Expression.{kindOf, variableAt, node, readExpr, tree}
 use Rattle.sheet.specs.Statement.{size, isRegister, readTerms, narrow, narrowAll, formOf, assignment, form, readStmt}
 use Rattle.sheet.specs.Module.{readWidths, readHead, readWires, readThreads, readSheet, read}
 use Rattle.pseudocode.specs.Translation.{translate, threadCode}
-use Rattle.text.specs.Ascii.{ascii, byte}
-use Rattle.text.specs.Text.{digits, decimal}
+use Rattle.writing.specs.Ascii.{ascii, byte}
+use Rattle.writing.specs.Numbers.{digits, decimal}
 use Rattle.text.specs.Listing.{showExpr, showTerm, showTerms, showHead, showInstr, showLine, showCode, showThreads, showModule, listing, refusal, printed, output}
 
 -- Lines, each ended by a line feed.

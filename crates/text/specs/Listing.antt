@@ -9,8 +9,8 @@ use Rattle.sheet.specs.Expression.{Expr, variable, constant, unknown, unary, bi
 use Rattle.sheet.specs.Statement.{Stmt}
 use Rattle.sheet.specs.Module.{Module, read}
 use Rattle.pseudocode.specs.Translation.{Instr, wait!, set!, later!, go, ifnot, threadCode}
-use Rattle.text.specs.Ascii.{ascii, byte}
-use Rattle.text.specs.Text.{decimal}
+use Rattle.writing.specs.Ascii.{ascii, byte}
+use Rattle.writing.specs.Numbers.{decimal}
 
 infixr 60 _then_
 -- A field, a space and the fields after it.

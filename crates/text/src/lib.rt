@@ -5,12 +5,16 @@ use pseudocode::EdgeTerms;
 use pseudocode::Instruction;
 use sheet::EdgeTerm;
 use values::Edge;
+use writing::put_byte;
+use writing::put_decimal;
+use writing::put_marked;
+use writing::put_word;
 ghost use mathlib.Core.Path.{_≡_};
 ghost use mathlib.Core.List.{_∷_, []};
 ghost use lib.ListN.{getD, length};
 ghost use Rattle.pseudocode.specs.Instruction.{noTerm};
-ghost use Rattle.text.specs.Text.{decimal};
-ghost use Rattle.text.specs.Buffer.{filled, puts};
+ghost use Rattle.writing.specs.Numbers.{decimal};
+ghost use Rattle.writing.specs.Buffer.{filled, puts};
 ghost use Rattle.text.specs.Listing.{_then_, showTerm, showTerms, showInstr, showLine, showHead, refusal};
 ghost use Rattle.text.specs.Printing.{Prints, operandsOf, operandsAt, shownAt, textAt};
 ghost use Rattle.text.specs.Printing.{allTerms, termList, actionInstr, instrOf};
@@ -19,51 +23,6 @@ ghost use Rattle.text.specs.Printing.{allTerms, termList, actionInstr, i
 pub struct Printed {
     pub next: usize,
     pub pos: usize,
-}
-
-// ---- bytes, words and numbers
-
-// A byte, past the end none.
-fn put_byte(b: u8, text: &mut [u8; 65536], pos: usize) -> usize
-    ensures { λ r. ⌜ filled (now (text .exit)) r ≡ puts (filled (now (text .entry)) pos) (b ∷ []) ⌝ }
-{
-    if pos < 65536 {
-        text[pos] = b;
-        return pos + 1;
-    }
-    pos
-}
-
-// A word.
-fn put_word(word: &[u8], text: &mut [u8; 65536], pos: usize) -> usize
-    ensures { λ r. ⌜ filled (now (text .exit)) r ≡ puts (filled (now (text .entry)) pos) (now (word .entry)) ⌝ }
-{
-    let mut p = pos;
-    let mut i = 0;
-    while i < word.len() {
-        p = put_byte(word[i], text, p);
-        i += 1;
-    }
-    p
-}
-
-// A number in decimal.
-fn put_decimal(n: usize, text: &mut [u8; 65536], pos: usize) -> usize
-    ensures { λ r. ⌜ filled (now (text .exit)) r ≡ puts (filled (now (text .entry)) pos) (decimal n) ⌝ }
-{
-    if n < 10 {
-        return put_byte(48 + n as u8, text, pos);
-    }
-    let p = put_decimal(n / 10, text, pos);
-    put_byte(48 + (n % 10) as u8, text, p)
-}
-
-// A character and a number in decimal.
-fn put_marked(mark: u8, n: usize, text: &mut [u8; 65536], pos: usize) -> usize
-    ensures { λ r. ⌜ filled (now (text .exit)) r ≡ puts (filled (now (text .entry)) pos) (mark ∷ decimal n) ⌝ }
-{
-    let p = put_byte(mark, text, pos);
-    put_decimal(n, text, p)
 }
 
 // The first line, which counts the threads.

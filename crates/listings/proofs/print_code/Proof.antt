@@ -2,10 +2,10 @@
 use Prim.Native.Nat.{_≤_, _-_}
 use mathlib.Core.Path.{_≡_, refl, sym, _∙_, ap}
 use borrow.Author.Needs.{needs}
-use Rattle.text.specs.Buffer.{filled, puts}
+use Rattle.writing.specs.Buffer.{filled, puts}
 use Rattle.text.specs.Listing.{showLine}
 use Rattle.text.specs.Printing.{textAt, instrOf}
-use Rattle.text.proofs.Buffer.{puts-nil}
+use Rattle.writing.proofs.Buffer.{puts-nil}
 use Rattle.listings.specs.Lines.{codeLines}
 use Rattle.listings.proofs.Lines.{sub-zero, code-turn, code-end}
 use Rattle.listings.proofs.print_code.Statement.{statement}

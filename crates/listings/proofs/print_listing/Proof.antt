@@ -1,7 +1,7 @@
 -- `listings::print_listing` meets its contract: the head, then the lines of the threads, from the table that `compile` filled.
 -- Assumes nothing.
 use borrow.Author.Needs.{needs}
-use Rattle.text.specs.Buffer.{filled}
+use Rattle.writing.specs.Buffer.{filled}
 use Rattle.listings.proofs.Lines.{listing-path}
 use Rattle.listings.proofs.print_listing.Statement.{statement}
 use Rattle.listings.proofs.print_listing.Tie as tie

@@ -2,8 +2,8 @@
 use Prim.Native.Nat.{_≤_, _-_}
 use mathlib.Core.Path.{_≡_, refl, sym, _∙_, ap}
 use borrow.Author.Needs.{needs}
-use Rattle.text.specs.Buffer.{filled, puts}
-use Rattle.text.proofs.Buffer.{puts-nil}
+use Rattle.writing.specs.Buffer.{filled, puts}
+use Rattle.writing.proofs.Buffer.{puts-nil}
 use Rattle.listings.specs.Lines.{codeLines, threadLines}
 use Rattle.listings.proofs.Lines.{sub-zero, thread-turn, thread-end}
 use Rattle.listings.proofs.print_threads.Statement.{statement}

@@ -12,8 +12,8 @@ use Rattle.text.proofs.+print_expr+print_operands.Lts-print_operands as
 use Rattle.sheet.proofs.byte_at.Reads as byte-at-reads
 use Rattle.sheet.proofs.word_at.Reads as word-at-reads
 use Rattle.text.proofs.operands_of.Reads as operands-of-reads
-use Rattle.text.proofs.put_byte.Reads as put-byte-reads
-use Rattle.text.proofs.put_marked.Reads as put-marked-reads
+use Rattle.writing.proofs.put_byte.Reads as put-byte-reads
+use Rattle.writing.proofs.put_marked.Reads as put-marked-reads
 use Rattle.text.proofs.+print_expr+print_operands.{statement}
 use Rattle.text.proofs.+print_expr+print_operands.Tie.{close}
 use Prim.Native.Nat.{_+_, _-_, _*_}
@@ -21,7 +21,7 @@ use mathlib.Core.Path.{_≡_, _∙_}
 use native.Mathlib.Omega.{arith}
 use borrow.Author.Needs.{needs}
 use Rattle.text.specs.Printing.{nodeAt, shownAt}
-use Rattle.text.proofs.Buffer.{both}
+use Rattle.writing.proofs.Buffer.{both}
 use Rattle.text.proofs.Printing
 
 abbrev μ-print-expr : Measures 2 print-expr-kinds.ps ℕ

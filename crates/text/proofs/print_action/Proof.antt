@@ -1,8 +1,8 @@
 -- `text::print_action` meets its contract. Assumes nothing.
-use Rattle.text.specs.Ascii.{ascii}
+use Rattle.writing.specs.Ascii.{ascii}
 use Rattle.text.specs.Listing.{showInstr}
 use Rattle.text.specs.Printing.{actionInstr}
-use Rattle.text.proofs.Buffer.{both}
+use Rattle.writing.proofs.Buffer.{both}
 use borrow.Author.Needs.{needs}
 use Rattle.text.proofs.print_action.Statement.{statement}
 use Rattle.text.proofs.print_action.Tie as tie

@@ -1,6 +1,6 @@
 -- `text::print_fields` meets its contract. Assumes nothing.
 use Rattle.text.specs.Printing.{textAt}
-use Rattle.text.proofs.Buffer.{both}
+use Rattle.writing.proofs.Buffer.{both}
 use borrow.Author.Needs.{needs}
 use Rattle.text.proofs.print_fields.Statement.{statement}
 use Rattle.text.proofs.print_fields.Tie as tie

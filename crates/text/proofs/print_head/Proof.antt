@@ -1,7 +1,7 @@
 -- `text::print_head` meets its contract. Assumes nothing.
-use Rattle.text.specs.Ascii.{ascii}
+use Rattle.writing.specs.Ascii.{ascii}
 use Rattle.text.specs.Listing.{showHead}
-use Rattle.text.proofs.Buffer.{both}
+use Rattle.writing.proofs.Buffer.{both}
 use borrow.Author.Needs.{needs}
 use Rattle.text.proofs.print_head.Statement.{statement}
 use Rattle.text.proofs.print_head.Tie as tie

@@ -1,6 +1,6 @@
 -- `text::print_line` meets its contract. Assumes nothing.
 use Rattle.text.specs.Listing.{showLine}
-use Rattle.text.proofs.Buffer.{both}
+use Rattle.writing.proofs.Buffer.{both}
 use borrow.Author.Needs.{needs}
 use Rattle.text.proofs.print_line.Statement.{statement}
 use Rattle.text.proofs.print_line.Tie as tie

@@ -1,11 +1,11 @@
 -- `text::print_term` meets its contract. Assumes nothing.
 use mathlib.Core.Path.{_∙_, ap}
 use mathlib.Core.List.{_∷_}
-use Rattle.text.specs.Ascii.{byte}
-use Rattle.text.specs.Text.{decimal}
-use Rattle.text.specs.Buffer.{filled, puts}
+use Rattle.writing.specs.Ascii.{byte}
+use Rattle.writing.specs.Numbers.{decimal}
+use Rattle.writing.specs.Buffer.{filled, puts}
 use Rattle.text.specs.Listing.{showTerm}
-use Rattle.text.proofs.Buffer.{both}
+use Rattle.writing.proofs.Buffer.{both}
 use borrow.Author.Needs.{needs}
 use Rattle.text.proofs.print_term.Statement.{statement}
 use Rattle.text.proofs.print_term.Tie as tie

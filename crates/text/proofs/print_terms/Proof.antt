@@ -5,10 +5,10 @@ use mathlib.Core.Path.{_≡_, refl, sym, _∙_, ap}
 use native.Mathlib.Omega.{arith}
 use borrow.Author.Needs.{needs}
 use lib.ListN.{length, drop, drop-of-length-le}
-use Rattle.text.specs.Buffer.{filled, puts}
+use Rattle.writing.specs.Buffer.{filled, puts}
 use Rattle.text.specs.Listing.{showTerm, showTerms}
 use Rattle.text.specs.Printing.{termList}
-use Rattle.text.proofs.Buffer.{puts-nil}
+use Rattle.writing.proofs.Buffer.{puts-nil}
 use Rattle.text.proofs.Printing.{terms-step, term-of, length-terms}
 use Rattle.text.proofs.print_terms.Statement.{statement}
 use Rattle.text.proofs.print_terms.Tie as tie

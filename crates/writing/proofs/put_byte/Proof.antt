@@ -1,10 +1,10 @@
--- `text::put_byte` meets its contract. Assumes nothing.
+-- `writing::put_byte` meets its contract. Assumes nothing.
 use borrow.Author.Needs.{needs}
 use mathlib.Core.Path.{sym}
-use Rattle.text.specs.Buffer.{puts}
-use Rattle.text.proofs.Buffer.{put-in, put-full}
-use Rattle.text.proofs.put_byte.Statement.{statement}
-use Rattle.text.proofs.put_byte.Tie as tie
+use Rattle.writing.specs.Buffer.{puts}
+use Rattle.writing.proofs.Buffer.{put-in, put-full}
+use Rattle.writing.proofs.put_byte.Statement.{statement}
+use Rattle.writing.proofs.put_byte.Tie as tie
 
 returns : tie.Need-returns
 unfolding puts

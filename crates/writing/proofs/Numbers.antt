@@ -8,8 +8,8 @@ use mathlib.Core.List.{List, [], _∷_, _++_}
 use lib.ListN.{length, length-append}
 use lib.Dec.{ltb}
 use borrow.Author.Tests.{lt-ltb, le-ltb, ltb-true, ltb-false}
-use Rattle.text.specs.Ascii.{byte}
-use Rattle.text.specs.Text.{digit, digits, decimal}
+use Rattle.writing.specs.Ascii.{byte}
+use Rattle.writing.specs.Numbers.{digit, digits, decimal}
 
 -- ---- digits
 

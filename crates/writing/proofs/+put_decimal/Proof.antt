@@ -1,19 +1,19 @@
--- `text::put_decimal` meets its contract; the number falls with each call. Assumes nothing.
+-- `writing::put_decimal` meets its contract; the number falls with each call. Assumes nothing.
 use Prim.Native.Nat.{ℕ, _<_}
 use mathlib.Core.Path.{_≡_, sym, ap, _∙_}
 use native.Mathlib.Omega.{arith}
 use borrow.Author.Needs.{needs}
 use borrow.Fn.Kinds.{In}
 use borrow.Fn.PlainCycle.{Measures, is, falls, and}
-use Rattle.text.specs.Buffer.{puts, filled}
-use Rattle.text.proofs.Text.{decimal-less, decimal-more}
-use Rattle.text.proofs.Buffer.{both}
-use Rattle.text.proofs.put_decimal.Reads as put-decimal
-use Rattle.text.proofs.put_decimal.Kinds as put-decimal-kinds
-use Rattle.text.proofs.+put_decimal.Lts-put_decimal as put-decimal-lts
-use Rattle.text.proofs.put_byte.Reads as put-byte-reads
-use Rattle.text.proofs.+put_decimal.{statement}
-use Rattle.text.proofs.+put_decimal.Tie.{close}
+use Rattle.writing.specs.Buffer.{puts, filled}
+use Rattle.writing.proofs.Numbers.{decimal-less, decimal-more}
+use Rattle.writing.proofs.Buffer.{both}
+use Rattle.writing.proofs.put_decimal.Reads as put-decimal
+use Rattle.writing.proofs.put_decimal.Kinds as put-decimal-kinds
+use Rattle.writing.proofs.+put_decimal.Lts-put_decimal as put-decimal-lts
+use Rattle.writing.proofs.put_byte.Reads as put-byte-reads
+use Rattle.writing.proofs.+put_decimal.{statement}
+use Rattle.writing.proofs.+put_decimal.Tie.{close}
 
 abbrev μ-put-decimal : Measures 1 put-decimal-kinds.ps ℕ
 μ-put-decimal κs a = a .0

@@ -1,16 +1,16 @@
--- `text::put_word` meets its contract. The loop's invariant: what is still to be put gives the whole.
+-- `writing::put_word` meets its contract. The loop's invariant: what is still to be put gives the whole.
 -- Assumes nothing.
 use Prim.Native.Nat.{_≤_, _-_}
 use mathlib.Core.Path.{_≡_, refl, sym, _∙_, ap}
 use borrow.Author.Needs.{needs}
 use lib.ListN.{length, drop, drop-of-length-le}
-use Rattle.text.specs.Buffer.{filled, puts}
-use Rattle.text.proofs.Buffer.{puts-step, puts-nil}
-use Rattle.text.proofs.put_word.Statement.{statement}
-use Rattle.text.proofs.put_word.Tie as tie
-use Rattle.text.proofs.put_word.Reads as reads
-use Rattle.text.proofs.put_word.Lts as lts
-use Rattle.text.proofs.put_byte.Reads as put-byte-reads
+use Rattle.writing.specs.Buffer.{filled, puts}
+use Rattle.writing.proofs.Buffer.{puts-step, puts-nil}
+use Rattle.writing.proofs.put_word.Statement.{statement}
+use Rattle.writing.proofs.put_word.Tie as tie
+use Rattle.writing.proofs.put_word.Reads as reads
+use Rattle.writing.proofs.put_word.Lts as lts
+use Rattle.writing.proofs.put_byte.Reads as put-byte-reads
 
 abbrev Inv-loop : tie.InvT-loop
 Inv-loop word text₀ pos p₀ i₀ text p i =

@@ -1,16 +1,16 @@
 -- Laws of the buffer: texts put one after the other are put as one, and a text that fits lies where it was put.
 use mathlib.Core.Path.{_≡_, refl, sym, ap, _∙_}
-use Prim.Native.Nat.{ℕ, zero, suc, _+_, _≤_, _<_}
+use Prim.Native.Nat.{ℕ, zero, suc, _+_, _-_, _≤_, _<_}
 use native.Mathlib.Nat.{add-zero, zero-add}
 use native.Mathlib.Numerals.{add-one}
 use native.Mathlib.Omega.{arith}
 use mathlib.Core.List.{List, [], _∷_, _++_}
 use mathlib.Core.Bool.{Bool, true, false}
-use lib.ListN.{length, getD, set, drop, take}
+use lib.ListN.{length, getD, set, drop, take, replicate}
 use lib.Dec.{ltb}
 use lib.Seq.{sets, sets-eq, drop-cons}
 use borrow.Author.Tests.{lt-ltb, le-ltb, ltb-true, ltb-false}
-use Rattle.text.specs.Buffer.{Text, filled, put, puts}
+use Rattle.writing.specs.Buffer.{Text, filled, put, puts}
 
 -- ---- put
 
@@ -76,3 +76,9 @@ puts-at t (b ∷ bs) h = puts-at (put t b) bs (by (ltb (t .at) 65536) refl)
     by : (x : Bool) → ltb (t .at) 65536 ≡ x → put t b .at ≤ 65536
     by true q = let l = ltb-true _ _ q in rw (put-in t b l) (omega arith)
     by false q = let l = ltb-false _ _ q in rw (put-full t b l) h
+
+-- One of many bytes written, and the rest to come.
+pub puts-again : (t u : Text) (b n i : ℕ) → i < n → u ≡ puts t (b ∷ []) → puts u (replicate (n - (i + 1)) b) ≡ puts t (replicate (n - i) b)
+puts-again t u b n i h e =
+    let k : n - i ≡ suc (n - (i + 1)) = omega arith in
+    ap (λ x. puts x (replicate (n - (i + 1)) b)) e ∙ sym (puts-append t (b ∷ []) (replicate (n - (i + 1)) b)) ∙ ap (λ j. puts t (replicate j b)) (sym k)

@@ -1,8 +1,8 @@
--- `text::put_marked` meets its contract. Assumes nothing.
-use Rattle.text.proofs.Buffer.{both}
+-- `writing::put_marked` meets its contract. Assumes nothing.
+use Rattle.writing.proofs.Buffer.{both}
 use borrow.Author.Needs.{needs}
-use Rattle.text.proofs.put_marked.Statement.{statement}
-use Rattle.text.proofs.put_marked.Tie as tie
+use Rattle.writing.proofs.put_marked.Statement.{statement}
+use Rattle.writing.proofs.put_marked.Tie as tie
 
 returns : tie.Need-returns
 returns c = both _ _ _ _ _ (c .before .before .put-byte .ensures) (c .put-decimal .ensures)

@@ -3,7 +3,7 @@ use Prim.Native.Nat.{ℕ, zero, suc, _+_, _/_, _%_}
 use mathlib.Core.List.{List, [], _∷_, _++_}
 use lib.Dec.{ltb}
 use Rattle.values.specs.Values.{pick}
-use Rattle.text.specs.Ascii.{byte}
+use Rattle.writing.specs.Ascii.{byte}
 
 -- The byte of a digit.
 abbrev pub digit : ℕ → ℕ
