@@ -1,0 +1,25 @@
+-- The table's lines stand at their numbers: computed.
+use mathlib.Core.Path.{_≡_, refl}
+use mathlib.Core.List.{[]}
+use Rattle.writing.specs.Ascii.{ascii}
+use Rattle.reasons.specs.Reasons.{firstLine, otherLines, lineOf, refusals, permissions, reason, allowed}
+
+first : reason 1 ≡ ascii "the sheet is over 8,192 bytes"
+unfolding reason lineOf firstLine otherLines refusals ascii
+first = refl
+
+twelve : reason 12 ≡ ascii "two threads write one register"
+unfolding reason lineOf firstLine otherLines refusals ascii
+twelve = refl
+
+last : reason 36 ≡ ascii "the time or the count of choices is full"
+unfolding reason lineOf firstLine otherLines refusals ascii
+last = refl
+
+none : reason 37 ≡ []
+unfolding reason lineOf firstLine otherLines refusals ascii
+none = refl
+
+nineteen : allowed 19 ≡ ascii "wires that read inputs, registers and lower wires"
+unfolding allowed lineOf firstLine otherLines permissions ascii
+nineteen = refl
