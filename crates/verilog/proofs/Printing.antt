@@ -1,0 +1,446 @@
+-- Laws of the text over any bytes: what printing leaves, and the ways through its definitions.
+use mathlib.Core.Path.{_≡_, refl, sym, ap, _∙_}
+use Prim.Native.Nat.{ℕ, zero, suc, _+_, _-_, _*_, _≤_, _<_}
+use native.Mathlib.Numerals.{sub-one}
+use native.Mathlib.Omega.{arith}
+use mathlib.Core.List.{List, [], _++_, append-nil}
+use mathlib.Core.Bool.{Bool, true, false}
+use lib.ListN.{length, getD}
+use lib.Dec.{ltb, eqb}
+use borrow.Author.Tests.{lt-ltb, le-ltb, ne-eqb}
+use Rattle.values.specs.Values.{pick}
+use Rattle.values.specs.Edges.{edgeOf}
+use Rattle.sheet.specs.Reading.{wordOf}
+use Rattle.writing.specs.Ascii.{ascii}
+use Rattle.writing.specs.Numbers.{decimal}
+use Rattle.writing.specs.Buffer.{Text, puts}
+use Rattle.writing.proofs.Buffer.{both, puts-nil, puts-append}
+use Rattle.naming.specs.Naming.{plainName}
+use Rattle.signs.specs.Signs.{operands, lead, constantText, unknownText}
+use Rattle.verilog.specs.Verilog.{_&_, indent, before, edgeText, rangeText, directionText, portText, portsText, declarationText}
+use Rattle.verilog.specs.Printing.{Shown, shown, behind, Left, left, leaves, operandsAt, wordAt, bodiesOf, innerLevel, closingAt, bodiesAt, nodeAt, shownAt, termAt, termsAt, assignAt, conditionAt, waitAt, headingAt, formAt, stmtAt, declarationsAt, wireAt, wiresAt, threadAt, threadsAt, moduleAt}
+
+-- ---- leaves
+
+-- A text that was put, and the next place.
+pub leaves-text : (t u : Text) (n : ℕ) (q : Shown) → n ≡ q .next → u ≡ puts t (q .text) → left n u ≡ leaves t q
+unfolding leaves
+leaves-text t u n q e p = λ j. left (e j) (p j)
+
+-- A text that was put, by what is shown.
+pub leaves-shown : (t u : Text) (n : ℕ) {x : List ℕ} {q : Shown} → q ≡ shown n x → u ≡ puts t x → left n u ≡ leaves t q
+unfolding leaves
+leaves-shown t u n e p = ap (left n) p ∙ ap (leaves t) (sym e)
+
+-- Nothing put.
+pub leaves-none : (t : Text) (n : ℕ) {q : Shown} → q ≡ shown n [] → left n t ≡ leaves t q
+unfolding leaves
+leaves-none t n e = ap (left n) (sym (puts-nil t)) ∙ ap (leaves t) (sym e)
+
+-- A text put in front of what is printed then.
+pub leaves-behind : (t u : Text) (x : List ℕ) (l : Left) (rest : Shown) {q : Shown} → q ≡ behind x rest → u ≡ puts t x
+    → l ≡ leaves u rest
+    → l ≡ leaves t q
+unfolding leaves behind
+leaves-behind t u x l rest e p h =
+    h ∙ ap (λ (v : Text). left (rest .next) (puts v (rest .text))) p ∙ ap (left (rest .next)) (sym (puts-append t x (rest .text)))
+    ∙ ap (leaves t) (sym e)
+
+-- What was printed, by parts.
+pub leaves-next : (t : Text) (l : Left) (q : Shown) → l ≡ leaves t q → l .next ≡ q .next
+unfolding leaves
+leaves-next t l q h = ap (λ (x : Left). x .next) h
+
+pub leaves-puts : (t : Text) (l : Left) (q : Shown) → l ≡ leaves t q → l .text ≡ puts t (q .text)
+unfolding leaves
+leaves-puts t l q h = ap (λ (x : Left). x .text) h
+
+-- Something else by which the same is shown.
+pub leaves-as : (t : Text) {l : Left} {q h : Shown} → h ≡ q → l ≡ leaves t q → l ≡ leaves t h
+leaves-as t e p = p ∙ ap (leaves t) (sym e)
+
+-- ---- words
+
+pub before-more : (t : List ℕ) (k : ℕ) → (k ≡ 0 → ⊥) → before t k ≡ t
+unfolding before
+before-more t k h = simp (ne-eqb k 0 h)
+
+pub edge-other : (e : ℕ) → (e ≡ 0 → ⊥) → (e ≡ 1 → ⊥) → edgeText (edgeOf e) ≡ ascii "negedge "
+unfolding edgeText edgeOf
+edge-other e h l = simp (ne-eqb e 0 h, ne-eqb e 1 l)
+
+pub range-wide : (w : ℕ) → (w ≡ 1 → ⊥) → rangeText w ≡ (ascii "[" & decimal (w - 1) & ascii ":0] ")
+unfolding rangeText
+range-wide w h = simp (ne-eqb w 1 h)
+
+module _ (i r v : ℕ) where
+  pub direction-input : v < i → directionText i r v ≡ ascii "input "
+  unfolding directionText
+  direction-input h = simp (lt-ltb v i h)
+
+  pub direction-register : i ≤ v → v < i + r → directionText i r v ≡ ascii "output reg "
+  unfolding directionText
+  direction-register h l = simp (le-ltb v i h, lt-ltb v (i + r) l)
+
+  pub direction-wire : i ≤ v → i + r ≤ v → directionText i r v ≡ ascii "output wire "
+  unfolding directionText
+  direction-wire h l = simp (le-ltb v i h, le-ltb v (i + r) l)
+
+module _ (m k n : ℕ) where
+  pub closing-else : (m ≡ 0x0C → ⊥) → k ≡ 2 → closingAt m k n ≡ (indent n & ascii "end else begin\n")
+  unfolding closingAt
+  closing-else h e = rw e (simp (ne-eqb m 0x0C h))
+
+  pub closing-end : (m ≡ 0x0C → ⊥) → (k ≡ 2 → ⊥) → closingAt m k n ≡ (indent n & ascii "end\n")
+  unfolding closingAt
+  closing-end h e = simp (ne-eqb m 0x0C h, ne-eqb k 2 e)
+
+pub word-path : (n p : ℕ) (t : Text) (word : List ℕ) {a e : Text} → a ≡ puts t (indent n) → e ≡ puts a word
+    → left (p + 1) e ≡ leaves t (wordAt word n p)
+unfolding wordAt
+word-path n p t word x y = leaves-text t _ _ _ refl (both _ _ _ _ _ x y)
+
+-- ---- operands
+
+module _ (operand : ℕ → Shown) (o : ℕ) where
+  pub operands-none : (n p : ℕ) → n ≡ 0 → operandsAt operand o n p ≡ shown p (ascii ")")
+  unfolding operandsAt
+  operands-none n p e = rw e
+
+  pub operands-more : (n p : ℕ) → (n ≡ 0 → ⊥)
+      → operandsAt operand o n p ≡ behind (lead o n ++ operand p .text) (operandsAt operand o (n - 1) (operand p .next))
+  unfolding operandsAt
+  operands-more zero p h = absurd (h refl)
+  operands-more (suc n) p h = rw sub-one
+
+  operands-suc : (k p : ℕ) {a : Shown} → operand p ≡ a
+      → operandsAt operand o (suc k) p ≡ behind (lead o (suc k) ++ a .text) (operandsAt operand o k (a .next))
+  unfolding operandsAt
+  operands-suc k p e = ap (λ (x : Shown). behind (lead o (suc k) ++ x .text) (operandsAt operand o k (x .next))) e
+
+  pub operands-one : (p : ℕ) {n : ℕ} {t : List ℕ} → operand p ≡ shown n t
+      → operandsAt operand o 1 p ≡ shown n ((lead o 1 ++ t) ++ ascii ")")
+  unfolding operandsAt behind
+  operands-one p e = operands-suc 0 p e
+
+  pub operands-two : (p : ℕ) {n m : ℕ} {t u : List ℕ} → operand p ≡ shown n t → operand n ≡ shown m u
+      → operandsAt operand o 2 p ≡ shown m ((lead o 2 ++ t) ++ ((lead o 1 ++ u) ++ ascii ")"))
+  unfolding behind
+  operands-two p {n} {t = t} e f = operands-suc 1 p e ∙ ap (behind (lead o 2 ++ t)) (operands-one n f)
+
+  pub operands-three : (p : ℕ) {n m k : ℕ} {t u v : List ℕ} → operand p ≡ shown n t → operand n ≡ shown m u
+      → operand m ≡ shown k v
+      → operandsAt operand o 3 p ≡ shown k ((lead o 3 ++ t) ++ ((lead o 2 ++ u) ++ ((lead o 1 ++ v) ++ ascii ")")))
+  unfolding behind
+  operands-three p {n} {t = t} e f g = operands-suc 2 p e ∙ ap (behind (lead o 3 ++ t)) (operands-two n f g)
+
+pub operands-few : (o : ℕ) → operands o ≤ 3
+unfolding operands
+operands-few o = few (ltb o 3) (ltb o 10)
+  where
+    few : (a b : Bool) → pick a 1 (pick b 2 3) ≤ 3
+    few true b = omega arith
+    few false true = omega arith
+    few false false = omega arith
+
+-- ---- bodies
+
+module _ (stmt : ℕ → ℕ → Shown) (m n : ℕ) where
+  pub bodies-none : (k p : ℕ) → k ≡ 0 → bodiesAt stmt m n k p ≡ shown p []
+  unfolding bodiesAt
+  bodies-none k p e = rw e
+
+  pub bodies-more : (k p l : ℕ) → (k ≡ 0 → ⊥) → l ≡ innerLevel m n
+      → bodiesAt stmt m n k p ≡ behind (stmt l p .text ++ closingAt m k n) (bodiesAt stmt m n (k - 1) (stmt l p .next))
+  unfolding bodiesAt
+  bodies-more zero p l h e = absurd (h refl)
+  bodies-more (suc k) p l h e = rw (sub-one, e)
+
+  bodies-suc : (k p : ℕ) {a : Shown} → stmt (innerLevel m n) p ≡ a
+      → bodiesAt stmt m n (suc k) p ≡ behind (a .text ++ closingAt m (suc k) n) (bodiesAt stmt m n k (a .next))
+  unfolding bodiesAt
+  bodies-suc k p e = ap (λ (x : Shown). behind (x .text ++ closingAt m (suc k) n) (bodiesAt stmt m n k (x .next))) e
+
+  pub bodies-one : (p : ℕ) {q : ℕ} {t : List ℕ} → stmt (innerLevel m n) p ≡ shown q t
+      → bodiesAt stmt m n 1 p ≡ shown q (t ++ closingAt m 1 n)
+  unfolding bodiesAt behind
+  bodies-one p {q} {t} e = bodies-suc 0 p e ∙ ap (shown q) (append-nil (t ++ closingAt m 1 n))
+
+  pub bodies-two : (p : ℕ) {q x : ℕ} {t u : List ℕ} → stmt (innerLevel m n) p ≡ shown q t → stmt (innerLevel m n) q ≡ shown x u
+      → bodiesAt stmt m n 2 p ≡ shown x ((t ++ closingAt m 2 n) ++ (u ++ closingAt m 1 n))
+  unfolding behind
+  bodies-two p {q} {t = t} e f = bodies-suc 1 p e ∙ ap (behind (t ++ closingAt m 2 n)) (bodies-one q f)
+
+pub bodies-few : (m : ℕ) → bodiesOf m ≤ 2
+unfolding bodiesOf
+bodies-few m = few (eqb m 0x0C) (eqb m 0x06) (eqb m 0x0E) (eqb m 0x46) (eqb m 0x44)
+  where
+    few : (a b c d e : Bool) → pick a 2 (pick b 1 (pick c 2 (pick d 1 (pick e 1 0)))) ≤ 2
+    few true b c d e = omega arith
+    few false true c d e = omega arith
+    few false false true d e = omega arith
+    few false false false true e = omega arith
+    few false false false false true = omega arith
+    few false false false false false = omega arith
+
+pub inner-most : (m n : ℕ) → innerLevel m n ≤ n + 1
+unfolding innerLevel
+inner-most m n = by (eqb m 0x0C)
+  where
+    by : (a : Bool) → pick a n (n + 1) ≤ n + 1
+    by true = omega arith
+    by false = omega arith
+
+-- ---- the parts of a sheet
+
+module _ (i r : ℕ) (s : List ℕ) where
+  -- ---- nodeAt
+
+  module _ (operand : ℕ → Shown) (p m b : ℕ) where
+    pub node-variable : m ≡ 0x02 → nodeAt i r s operand p m b ≡ shown (p + 2) (plainName i r b)
+    unfolding nodeAt
+    node-variable e = rw e
+
+    pub node-constant : m ≡ 0x0C → nodeAt i r s operand p m b ≡ shown (p + 6) (constantText b (wordOf s (p + 2)))
+    unfolding nodeAt
+    node-constant e = rw e
+
+    pub node-unknown : m ≡ 0x04 → nodeAt i r s operand p m b ≡ shown (p + 2) (unknownText b)
+    unfolding nodeAt
+    node-unknown e = rw e
+
+    pub node-operator : (m ≡ 0x02 → ⊥) → (m ≡ 0x0C → ⊥) → (m ≡ 0x04 → ⊥)
+        → nodeAt i r s operand p m b ≡ behind (ascii "(") (operandsAt operand b (operands b) (p + 2))
+    unfolding nodeAt
+    node-operator x y z = simp (ne-eqb m 0x02 x, ne-eqb m 0x0C y, ne-eqb m 0x04 z)
+
+  -- ---- shownAt
+
+  pub shown-deep : (d p : ℕ) → d ≡ 0 → shownAt i r s d p ≡ shown p []
+  unfolding shownAt
+  shown-deep d p e = rw e
+
+  pub shown-end : (d p : ℕ) → length s ≤ p → shownAt i r s d p ≡ shown p []
+  unfolding shownAt
+  shown-end zero p h = refl
+  shown-end (suc d) p h = simp (le-ltb p (length s) h)
+
+  pub shown-suc : (d p m b : ℕ) → p < length s → m ≡ getD s p 0 → b ≡ getD s (p + 1) 0
+      → shownAt i r s (suc d) p ≡ nodeAt i r s (shownAt i r s d) p m b
+  unfolding shownAt
+  shown-suc d p m b h e f = rw (e, f) (simp (lt-ltb p (length s) h))
+
+  pub shown-node : (d p m b : ℕ) → (d ≡ 0 → ⊥) → p < length s → m ≡ getD s p 0 → b ≡ getD s (p + 1) 0
+      → shownAt i r s d p ≡ nodeAt i r s (shownAt i r s (d - 1)) p m b
+  shown-node zero p m b z h e f = absurd (z refl)
+  shown-node (suc d) p m b z h e f = rw sub-one (shown-suc d p m b h e f)
+
+  -- ---- termsAt
+
+  pub terms-turn : (n k p : ℕ) (t u : Text) → k < n → u ≡ puts t (termAt i r s k p)
+      → puts u (termsAt i r s (n - (k + 1)) (k + 1) (p + 2)) ≡ puts t (termsAt i r s (n - k) k p)
+  unfolding termsAt
+  terms-turn n k p t u h e = let x : n - k ≡ suc (n - (k + 1)) = omega arith in rw (x, puts-append, e) refl
+
+  pub terms-end : (n k p : ℕ) → n ≤ k → termsAt i r s (n - k) k p ≡ []
+  unfolding termsAt
+  terms-end n k p h = let x : n - k ≡ 0 = omega arith in rw x refl
+
+  -- ---- headingAt
+
+  module _ (n p m : ℕ) where
+    pub heading-empty : m ≡ 0x00 → headingAt i r s n p m ≡ wordAt (ascii ";\n") n p
+    unfolding headingAt
+    heading-empty e = rw e
+
+    pub heading-assign : m ≡ 0x03 → headingAt i r s n p m ≡ assignAt i r s (ascii " = ") n p
+    unfolding headingAt
+    heading-assign e = rw e
+
+    pub heading-later : m ≡ 0x23 → headingAt i r s n p m ≡ assignAt i r s (ascii " <= ") n p
+    unfolding headingAt
+    heading-later e = rw e
+
+    pub heading-sequence : m ≡ 0x0C → headingAt i r s n p m ≡ shown (p + 1) []
+    unfolding headingAt
+    heading-sequence e = rw e
+
+    pub heading-if : m ≡ 0x06 → headingAt i r s n p m ≡ conditionAt i r s (ascii "if (") n p
+    unfolding headingAt
+    heading-if e = rw e
+
+    pub heading-if-else : m ≡ 0x0E → headingAt i r s n p m ≡ conditionAt i r s (ascii "if (") n p
+    unfolding headingAt
+    heading-if-else e = rw e
+
+    pub heading-while : m ≡ 0x46 → headingAt i r s n p m ≡ conditionAt i r s (ascii "while (") n p
+    unfolding headingAt
+    heading-while e = rw e
+
+    pub heading-forever : m ≡ 0x44 → headingAt i r s n p m ≡ wordAt (ascii "forever begin\n") n p
+    unfolding headingAt
+    heading-forever e = rw e
+
+    pub heading-wait : m ≡ 0x10 → headingAt i r s n p m ≡ waitAt i r s n p
+    unfolding headingAt
+    heading-wait e = rw e
+
+    pub heading-other : (m ≡ 0x00 → ⊥) → (m ≡ 0x03 → ⊥) → (m ≡ 0x23 → ⊥) → (m ≡ 0x0C → ⊥) → (m ≡ 0x06 → ⊥) → (m ≡ 0x0E → ⊥)
+        → (m ≡ 0x46 → ⊥) → (m ≡ 0x44 → ⊥) → (m ≡ 0x10 → ⊥) → headingAt i r s n p m ≡ shown p []
+    unfolding headingAt
+    heading-other a b c d e f g h j =
+        simp (ne-eqb m _ a, ne-eqb m _ b, ne-eqb m _ c, ne-eqb m _ d, ne-eqb m _ e, ne-eqb m _ f, ne-eqb m _ g, ne-eqb m _ h, ne-eqb m _ j)
+
+  -- ---- the forms, from what the code's calls give
+
+  module _ (n p : ℕ) (t : Text) where
+    pub assign-path : (sign : List ℕ) {v w : ℕ} {a b c e : Text} {l : Left} → v ≡ getD s (p + 1) 0 → w ≡ v → a ≡ puts t (indent n)
+        → b ≡ puts a (plainName i r w) → c ≡ puts b sign → l ≡ leaves c (shownAt i r s 16 (p + 2)) → e ≡ puts (l .text)
+        (ascii ";\n")
+        → left (l .next) e ≡ leaves t (assignAt i r s sign n p)
+    unfolding assignAt
+    assign-path sign {c = c} {l = l} ev ew ea eb ec el ee =
+        let name = ap (plainName i r) (ew ∙ ev) in
+        leaves-text t _ _ _ (leaves-next c l _ el)
+        (both _ _ _ _ _ ea (both _ _ _ _ _ (eb ∙ ap (puts _) name)
+        (both _ _ _ _ _ ec (both _ _ _ _ _ (leaves-puts c l _ el) ee))))
+
+    pub condition-path : (word : List ℕ) {a c e : Text} {l : Left} → a ≡ puts t (indent n) → c ≡ puts a word
+        → l ≡ leaves c (shownAt i r s 16 (p + 1)) → e ≡ puts (l .text) (ascii ") begin\n")
+        → left (l .next) e ≡ leaves t (conditionAt i r s word n p)
+    unfolding conditionAt
+    condition-path word {c = c} {l = l} ea ec el ee =
+        leaves-text t _ _ _ (leaves-next c l _ el)
+        (both _ _ _ _ _ ea (both _ _ _ _ _ ec (both _ _ _ _ _ (leaves-puts c l _ el) ee)))
+
+    pub wait-path : {k w : ℕ} {a b c e : Text} → k ≡ getD s (p + 1) 0 → w ≡ k → a ≡ puts t (indent n) → b ≡ puts a (ascii "@(")
+        → c ≡ puts b (termsAt i r s k 0 (p + 2)) → e ≡ puts c (ascii ");\n") → left (p + 2 + 2 * w) e ≡ leaves t
+        (waitAt i r s n p)
+    unfolding waitAt
+    wait-path {b = b} ek ew ea eb ec ee =
+        leaves-text t _ _ _ (ap (λ (x : ℕ). p + 2 + 2 * x) (ew ∙ ek))
+        (both _ _ _ _ _ ea (both _ _ _ _ _ eb (both _ _ _ _ _ (ec ∙ ap (λ (x : ℕ). puts b (termsAt i r s x 0 (p + 2))) ek) ee)))
+
+  -- ---- stmtAt
+
+  pub stmt-deep : (d n p : ℕ) → d ≡ 0 → stmtAt i r s d n p ≡ shown p []
+  unfolding stmtAt
+  stmt-deep d n p e = rw e
+
+  pub stmt-end : (d n p : ℕ) → length s ≤ p → stmtAt i r s d n p ≡ shown p []
+  unfolding stmtAt
+  stmt-end zero n p h = refl
+  stmt-end (suc d) n p h = simp (le-ltb p (length s) h)
+
+  pub stmt-suc : (d n p m : ℕ) → p < length s → m ≡ getD s p 0 → stmtAt i r s (suc d) n p ≡ formAt i r s (stmtAt i r s d) n p m
+  unfolding stmtAt
+  stmt-suc d n p m h e = rw e (simp (lt-ltb p (length s) h))
+
+  pub stmt-form : (d n p m : ℕ) → (d ≡ 0 → ⊥) → p < length s → m ≡ getD s p 0
+      → stmtAt i r s d n p ≡ formAt i r s (stmtAt i r s (d - 1)) n p m
+  stmt-form zero n p m z h e = absurd (z refl)
+  stmt-form (suc d) n p m z h e = rw sub-one (stmt-suc d n p m h e)
+
+  -- Heading and bodies printed one after the other.
+  pub form-path : (d n p m k : ℕ) (t : Text) {h l : Left} → (d ≡ 0 → ⊥) → p < length s → m ≡ getD s p 0 → k ≡ bodiesOf m
+      → h ≡ leaves t (headingAt i r s n p m) → l ≡ leaves (h .text) (bodiesAt (stmtAt i r s (d - 1)) m n k (h .next))
+      → l ≡ leaves t (stmtAt i r s d n p)
+  unfolding formAt
+  form-path d n p m k t {h} {l} z b e f x y =
+      let q = headingAt i r s n p m in
+      leaves-behind t (h .text) (q .text) l _ (stmt-form d n p m z b e) (leaves-puts t h q x)
+      (y ∙ ap (λ (c : ℕ). leaves (h .text) (bodiesAt (stmtAt i r s (d - 1)) m n c (h .next))) f
+      ∙ ap (λ (c : ℕ). leaves (h .text) (bodiesAt (stmtAt i r s (d - 1)) m n (bodiesOf m) c)) (leaves-next t h q x))
+
+  -- ---- the module's parts
+
+  pub declarations-turn : (n v w : ℕ) (t u : Text) → v < n → w ≡ getD s (4 + v) 0
+      → u ≡ puts t (declarationText (plainName i r) i r v w)
+      → puts u (declarationsAt i r s (n - (v + 1)) (v + 1)) ≡ puts t (declarationsAt i r s (n - v) v)
+  unfolding declarationsAt
+  declarations-turn n v w t u h f e = let x : n - v ≡ suc (n - (v + 1)) = omega arith in rw (x, puts-append, e, f) refl
+
+  pub declarations-end : (n v : ℕ) → n ≤ v → declarationsAt i r s (n - v) v ≡ []
+  unfolding declarationsAt
+  declarations-end n v h = let x : n - v ≡ 0 = omega arith in rw x refl
+
+  pub wires-turn : (n k v p : ℕ) (t : Text) {w : Left} → k < n → w ≡ leaves t (wireAt i r s (v + k) p)
+      → leaves (w .text) (wiresAt i r s (n - (k + 1)) (v + (k + 1)) (w .next)) ≡ leaves t (wiresAt i r s (n - k) (v + k) p)
+  unfolding wiresAt
+  wires-turn n k v p t {w} h e =
+      let x : n - k ≡ suc (n - (k + 1)) = omega arith in
+      let y : v + (k + 1) ≡ v + k + 1 = omega arith in
+      let q = wireAt i r s (v + k) p in
+      leaves-behind t (w .text) (q .text) _ (wiresAt i r s (n - (k + 1)) (v + k + 1) (q .next)) (rw x refl) (leaves-puts t w q e)
+      (rw (y, leaves-next t w q e) refl)
+
+  pub wires-start : (n v p : ℕ) (t : Text) → leaves t (wiresAt i r s (n - 0) (v + 0) p) ≡ leaves t (wiresAt i r s n v p)
+  wires-start n v p t =
+      let x : n - 0 ≡ n = omega arith in
+      let y : v + 0 ≡ v = omega arith in
+      λ j. leaves t (wiresAt i r s (x j) (y j) p)
+
+  pub wires-end : (n k v p : ℕ) (t : Text) → n ≤ k → left p t ≡ leaves t (wiresAt i r s (n - k) v p)
+  unfolding wiresAt
+  wires-end n k v p t h = let x : n - k ≡ 0 = omega arith in leaves-none t p (rw x refl)
+
+  pub threads-turn : (n k p : ℕ) (t : Text) {w : Left} → k < n → w ≡ leaves t (threadAt i r s p)
+      → leaves (w .text) (threadsAt i r s (n - (k + 1)) (w .next)) ≡ leaves t (threadsAt i r s (n - k) p)
+  unfolding threadsAt
+  threads-turn n k p t {w} h e =
+      let x : n - k ≡ suc (n - (k + 1)) = omega arith in
+      let q = threadAt i r s p in
+      leaves-behind t (w .text) (q .text) _ (threadsAt i r s (n - (k + 1)) (q .next)) (rw x refl) (leaves-puts t w q e)
+      (rw (leaves-next t w q e) refl)
+
+  pub threads-start : (n p : ℕ) (t : Text) → leaves t (threadsAt i r s (n - 0) p) ≡ leaves t (threadsAt i r s n p)
+  threads-start n p t = let x : n - 0 ≡ n = omega arith in λ j. leaves t (threadsAt i r s (x j) p)
+
+  pub threads-end : (n k p : ℕ) (t : Text) → n ≤ k → left p t ≡ leaves t (threadsAt i r s (n - k) p)
+  unfolding threadsAt
+  threads-end n k p t h = let x : n - k ≡ 0 = omega arith in leaves-none t p (rw x refl)
+
+  pub wire-path : (v p : ℕ) (t : Text) {a b c e : Text} {l : Left} → a ≡ puts t (ascii "  assign ") → b ≡ puts a (plainName i r v)
+      → c ≡ puts b (ascii " = ") → l ≡ leaves c (shownAt i r s 16 p) → e ≡ puts (l .text) (ascii ";\n")
+      → left (l .next) e ≡ leaves t (wireAt i r s v p)
+  unfolding wireAt
+  wire-path v p t {c = c} {l = l} ea eb ec el ee =
+      leaves-text t _ _ _ (leaves-next c l _ el)
+      (both _ _ _ _ _ ea (both _ _ _ _ _ eb (both _ _ _ _ _ ec (both _ _ _ _ _ (leaves-puts c l _ el) ee))))
+
+  pub thread-path : (p : ℕ) (t : Text) {a e : Text} {l : Left} → a ≡ puts t (ascii "  always begin\n")
+      → l ≡ leaves a (stmtAt i r s 64 2 p)
+      → e ≡ puts (l .text) (ascii "  end\n") → left (l .next) e ≡ leaves t (threadAt i r s p)
+  unfolding threadAt
+  thread-path p t {a = a} {l = l} ea el ee =
+      leaves-text t _ _ _ (leaves-next a l _ el) (both _ _ _ _ _ ea (both _ _ _ _ _ (leaves-puts a l _ el) ee))
+
+  -- The module's parts printed one after the other.
+  pub module-path : (w t f n x : ℕ) (a : Text) {b c d e z : Text} {k l : Left} → f ≡ i + r → n ≡ i + r + w → x ≡ w
+      → b ≡ puts a (ascii "module walbryts (") → c ≡ puts b (portsText (plainName i r) n 0) → d ≡ puts c (ascii ");\n")
+      → e ≡ puts d (declarationsAt i r s n 0) → k ≡ leaves e (wiresAt i r s x f (4 + n)) → l ≡ leaves (k .text)
+      (threadsAt i r s t (k .next))
+      → z ≡ puts (l .text) (ascii "endmodule\n") → z ≡ puts a (moduleAt i r s w t)
+  unfolding moduleAt
+  module-path w t f n x a {b = b} {d = d} {e = e} {k = k} {l = l} ef en ex eb ec ed ee ek el ez =
+      let q = wiresAt i r s w (i + r) (4 + (i + r + w)) in
+      let wires : k ≡ leaves e q = ek ∙ (λ j. leaves e (wiresAt i r s (ex j) (ef j) (4 + en j))) in
+      let rest : l .text ≡ puts (k .text) (threadsAt i r s t (q .next) .text) = leaves-puts (k .text) l _ el ∙ ap
+      (λ (p : ℕ). puts (k .text) (threadsAt i r s t p .text)) (leaves-next e k q wires) in
+      both _ _ _ _ _ eb
+      (both _ _ _ _ _ (ec ∙ ap (λ (m : ℕ). puts b (portsText (plainName i r) m 0)) en)
+      (both _ _ _ _ _ ed
+      (both _ _ _ _ _ (ee ∙ ap (λ (m : ℕ). puts d (declarationsAt i r s m 0)) en)
+      (both _ _ _ _ _ (leaves-puts e k q wires) (both _ _ _ _ _ rest ez)))))
+
+-- ---- ports
+
+module _ (name : ℕ → List ℕ) where
+  pub ports-turn : (n v : ℕ) (t u : Text) → v < n → u ≡ puts t (portText name v)
+      → puts u (portsText name (n - (v + 1)) (v + 1)) ≡ puts t (portsText name (n - v) v)
+  unfolding portsText
+  ports-turn n v t u h e = let x : n - v ≡ suc (n - (v + 1)) = omega arith in rw (x, puts-append, e) refl
+
+  pub ports-end : (n v : ℕ) → n ≤ v → portsText name (n - v) v ≡ []
+  unfolding portsText
+  ports-end n v h = let x : n - v ≡ 0 = omega arith in rw x refl

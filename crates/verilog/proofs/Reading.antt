@@ -1,0 +1,310 @@
+-- Where the sheet was read, the text over its bytes is the module's; and what the call gives, by the answer of reading.
+use mathlib.Core.Path.{_≡_, refl, sym, ap, _∙_}
+use Prim.Native.Nat.{ℕ, zero, suc, _+_, _*_, _≤_, _<_}
+use native.Mathlib.Omega.{arith}
+use mathlib.Core.List.{List, _∷_, _++_, append-nil, append-assoc}
+use lib.ListN.{length, getD, take, drop, length-take, length-drop, length-map}
+use lib.Seq.{drop-cons}
+use lib.Dec.{leb, eqb}
+use Rattle.sheet.specs.declared.EdgeTerm.{EdgeTerm}
+use Rattle.sheet.specs.declared.SheetRead.{SheetRead}
+use Rattle.sheet.specs.Reading.{Res, ok, no, _>>=_, _>>_, check}
+use Rattle.sheet.specs.Expression.{Expr, Parsed, tree, located}
+use Rattle.sheet.specs.Statement.{Stmt, size, Scope, Body, readStmt}
+use Rattle.sheet.specs.Module.{mapModule, Listed, Head, readHead, readWires, readThreads, Sheet, readSheet, read}
+use Rattle.sheet.specs.Answers.{layoutOf, sheetAnswer}
+use Rattle.sheet.proofs.Reading.{bind-ok, check-ok, ok-injective}
+use Rattle.sheet.proofs.Expression.{Reads, a-variable, a-constant, an-unknown, a-unary, a-binary, a-conditional, derive}
+use Rattle.sheet.proofs.Statements.{ReadsTerms, no-terms, a-term, ReadsStmt, an-empty, an-assign, a-later, a-sequence, an-if, an-if-else, a-while, a-forever, a-wait, derive-stmt}
+use Rattle.sheet.proofs.Sections.{wires-count, threads-count, headed}
+use Rattle.sheet.proofs.Trees.{mapRes, trees, sheet-located, read-located}
+use Rattle.sheet.proofs.Numbers.{numbered-no, located-numbered, sheet-numbered}
+use Rattle.writing.specs.Ascii.{ascii}
+use Rattle.writing.specs.Buffer.{Text, filled, puts}
+use Rattle.naming.specs.Naming.{plainName}
+use Rattle.signs.specs.Signs.{sign, operands, lead}
+use Rattle.signs.proofs.Signs.{operands-one, operands-two, lead-first, lead-last}
+use Rattle.verilog.specs.Verilog.{_&_, indent, exprText, termText, termsText, stmtText, wiresText, threadsText, declarationsText, moduleText, verilogText, answer, printed, verilogOf}
+use Rattle.verilog.specs.Printing.{Shown, shown, behind, operandsAt, wordAt, bodiesOf, innerLevel, closingAt, shownAt, termAt, termsAt, assignAt, conditionAt, waitAt, headingAt, formAt, stmtAt, declarationsAt, wireAt, wiresAt, threadAt, threadsAt, moduleAt}
+use Rattle.verilog.proofs.Printing as Printing
+
+-- ---- a statement by its heading and its bodies
+
+module _ (i r : ℕ) (s : List ℕ) (stmt : ℕ → ℕ → Shown) (n p m : ℕ) where
+  -- A statement without a body.
+  form-none : {q : ℕ} {h : List ℕ} → headingAt i r s n p m ≡ shown q h → bodiesOf m ≡ 0 → formAt i r s stmt n p m ≡ shown q h
+  unfolding formAt behind
+  form-none {q} {h} e k = rw (e, k)
+      (ap (λ (x : Shown). behind h x) (Printing.bodies-none stmt m n 0 q refl) ∙ ap (shown q) (append-nil h))
+
+  -- With one.
+  form-one : {q x : ℕ} {h t : List ℕ} → headingAt i r s n p m ≡ shown q h → bodiesOf m ≡ 1 → stmt (innerLevel m n) q ≡ shown x t
+      → formAt i r s stmt n p m ≡ shown x (h ++ (t ++ closingAt m 1 n))
+  unfolding formAt behind
+  form-one {q} {h = h} e k f = rw (e, k) (ap (λ (x : Shown). behind h x) (Printing.bodies-one stmt m n q f))
+
+  -- With two.
+  form-two : {q x y : ℕ} {h t u : List ℕ} → headingAt i r s n p m ≡ shown q h → bodiesOf m ≡ 2
+      → stmt (innerLevel m n) q ≡ shown x t
+      → stmt (innerLevel m n) x ≡ shown y u
+      → formAt i r s stmt n p m ≡ shown y (h ++ ((t ++ closingAt m 2 n) ++ (u ++ closingAt m 1 n)))
+  unfolding formAt behind
+  form-two {q} {h = h} e k f g = rw (e, k) (ap (λ (x : Shown). behind h x) (Printing.bodies-two stmt m n q f g))
+
+-- ---- expressions
+
+-- The operands of ?: by what is shown of each.
+module _ (i r : ℕ) (s : List ℕ) where
+  choice-shown : (d p : ℕ) {n m k : ℕ} {t u v : List ℕ} → shownAt i r s d p ≡ shown n t → shownAt i r s d n ≡ shown m u
+      → shownAt i r s d m ≡ shown k v
+      → operandsAt (shownAt i r s d) 10 (operands 10) p ≡ shown k (t & ascii " ? " & u & ascii " : " & v & ascii ")")
+  unfolding operands lead ascii
+  choice-shown d p e f g = Printing.operands-three (shownAt i r s d) 10 p e f g
+
+module _ (i r : ℕ) {ws s : List ℕ} where
+  pub shown-reads : {d p : ℕ} {q : Parsed Expr} → Reads ws s d p q
+      → shownAt i r s d p ≡ shown (q .next) (exprText (plainName i r) (q .item))
+  unfolding behind exprText
+  shown-reads {p = p} (a-variable {d = d} m h e l) =
+      Printing.shown-suc i r s d p _ _ (omega arith) (sym m) (sym e) ∙ Printing.node-variable i r s _ p 0x02 _ refl
+  shown-reads {p = p} (a-constant {d = d} m w h e l) =
+      let x = w .below in
+      Printing.shown-suc i r s d p _ _ (omega arith) (sym m) (sym (w .same)) ∙ Printing.node-constant i r s _ p 0x0C _ refl ∙ rw e
+  shown-reads {p = p} (an-unknown {d = d} m w) =
+      let x = w .below in
+      Printing.shown-suc i r s d p _ _ (omega arith) (sym m) (sym (w .same)) ∙ Printing.node-unknown i r s _ p 0x04 _ refl
+  shown-reads {p = p} (a-unary {d = d} {o = o} {a = a} m w x) =
+      let b = w .below in
+      let l = w .most in
+      Printing.shown-suc i r s d p _ _ (omega arith) (sym m) (sym (w .same))
+      ∙ Printing.node-operator i r s _ p 0x11 _ (omega arith) (omega arith) (omega arith)
+      ∙ ap (λ (n : ℕ). behind (ascii "(") (operandsAt (shownAt i r s d) o n (p + 2))) (operands-one o (omega arith))
+      ∙ ap (behind (ascii "(")) (Printing.operands-one (shownAt i r s d) o (p + 2) (shown-reads x))
+      ∙ ap (λ (t : List ℕ). shown (a .next) (ascii "(" ++ t))
+      (rw (lead-last o (omega arith)) (append-assoc (sign o) (exprText (plainName i r) (a .item)) (ascii ")")))
+  shown-reads {p = p} (a-binary {d = d} {o = o} {a = a} {b = b} m w x y e) =
+      let below = w .below in
+      let low = w .least in
+      let high = w .most in
+      Printing.shown-suc i r s d p _ _ (omega arith) (sym m) (sym (w .same))
+      ∙ Printing.node-operator i r s _ p 0x31 _ (omega arith) (omega arith) (omega arith)
+      ∙ ap (λ (n : ℕ). behind (ascii "(") (operandsAt (shownAt i r s d) o n (p + 2))) (operands-two o (omega arith) (omega arith))
+      ∙ ap (behind (ascii "(")) (Printing.operands-two (shownAt i r s d) o (p + 2) (shown-reads x) (shown-reads y))
+      ∙ ap (λ (t : List ℕ). shown (b .next) (ascii "(" ++ t))
+      (rw (lead-first o (omega arith), lead-last o (omega arith))
+      (ap (λ (t : List ℕ). exprText (plainName i r) (a .item) ++ t)
+      (append-assoc (sign o) (exprText (plainName i r) (b .item)) (ascii ")"))))
+  shown-reads {p = p} (a-conditional {d = d} {o = o} {c = c} {a = a} {b = b} m w z x y e) =
+      let below = w .below in
+      let ten : o ≡ 10 = omega (arith, w .least, w .most) in
+      Printing.shown-suc i r s d p _ _ (omega arith) (sym m) (sym (w .same))
+      ∙ Printing.node-operator i r s _ p 0x71 _ (omega arith) (omega arith) (omega arith)
+      ∙ ap (λ (n : ℕ). behind (ascii "(") (operandsAt (shownAt i r s d) n (operands n) (p + 2))) ten
+      ∙ ap (behind (ascii "(")) (choice-shown i r s d (p + 2) (shown-reads z) (shown-reads x) (shown-reads y))
+
+  -- ---- waits
+
+  pub terms-reads : {n p : ℕ} {ts : List EdgeTerm} → ReadsTerms ws s n p ts → (k : ℕ)
+      → termsAt i r s n k p ≡ termsText (plainName i r) k ts
+  unfolding termsAt termAt termsText termText
+  terms-reads no-terms k = refl
+  terms-reads (a-term w h e l ts) k = rw (w .same, e, terms-reads ts (k + 1)) refl
+
+-- ---- statements
+
+module _ (i r : ℕ) (c : Scope) (s : List ℕ) where
+  -- An expression that was read.
+  tree-shown : (p : ℕ) {e : Parsed Expr} → tree s (c .widths) p ≡ ok e
+      → shownAt i r s 16 p ≡ shown (e .next) (exprText (plainName i r) (e .item))
+  unfolding tree
+  tree-shown p h = shown-reads i r (derive (c .widths) s 16 p h)
+
+  word-shown : (n p : ℕ) (word : List ℕ) → wordAt word n p ≡ shown (p + 1) (indent n & word)
+  unfolding wordAt
+  word-shown n p word = refl
+
+  module _ (n p : ℕ) {e : Parsed Expr} where
+    condition-reads : (word : List ℕ) → tree s (c .widths) (p + 1) ≡ ok e
+        → conditionAt i r s word n p ≡ shown (e .next) (indent n & word & exprText (plainName i r) (e .item) & ascii ") begin\n")
+    unfolding conditionAt
+    condition-reads word h = ap (λ (x : Shown). shown (x .next) (indent n & word & x .text & ascii ") begin\n"))
+        (tree-shown (p + 1) h)
+
+    assign-reads : (sign : List ℕ) {t : ℕ} → getD s (p + 1) 0 ≡ t → tree s (c .widths) (p + 2) ≡ ok e
+        → assignAt i r s sign n p ≡ shown (e .next)
+        (indent n & plainName i r t & sign & exprText (plainName i r) (e .item) & ascii ";\n")
+    unfolding assignAt
+    assign-reads sign {t} v h =
+        ap (λ (x : Shown). shown (x .next) (indent n & plainName i r (getD s (p + 1) 0) & sign & x .text & ascii ";\n"))
+        (tree-shown (p + 2) h)
+        ∙ ap (λ (x : ℕ). shown (e .next) (indent n & plainName i r x & sign & exprText (plainName i r) (e .item) & ascii ";\n")) v
+
+  wait-reads : (n p : ℕ) {k : ℕ} {ts : List EdgeTerm} → getD s (p + 1) 0 ≡ k → ReadsTerms (c .widths) s k (p + 2) ts
+      → waitAt i r s n p ≡ shown (p + 2 + 2 * k) (indent n & ascii "@(" & termsText (plainName i r) 0 ts & ascii ");\n")
+  unfolding waitAt
+  wait-reads n p e ts = rw (e, terms-reads i r ts 0) refl
+
+  pub stmt-reads : {d p : ℕ} {b : Body Expr} → ReadsStmt (tree s) c s d p b → (n : ℕ)
+      → stmtAt i r s d n p ≡ shown (b .next) (stmtText (plainName i r) n (b .stmt))
+  unfolding stmtText bodiesOf innerLevel closingAt
+  stmt-reads {p = p} (an-empty {d = d} l m) n =
+      Printing.stmt-suc i r s d n p 0x00 l (sym m) ∙ form-none i r s _ n p 0x00
+      (Printing.heading-empty i r s n p 0x00 refl ∙ word-shown n p (ascii ";\n")) refl
+  stmt-reads {p = p} (an-assign {d = d} l m t g e w) n =
+      Printing.stmt-suc i r s d n p 0x03 (omega arith) (sym m)
+      ∙ form-none i r s _ n p 0x03 (Printing.heading-assign i r s n p 0x03 refl ∙ assign-reads n p (ascii " = ") t e) refl
+  stmt-reads {p = p} (a-later {d = d} l m t g e w) n =
+      Printing.stmt-suc i r s d n p 0x23 (omega arith) (sym m)
+      ∙ form-none i r s _ n p 0x23 (Printing.heading-later i r s n p 0x23 refl ∙ assign-reads n p (ascii " <= ") t e) refl
+  stmt-reads {p = p} (a-sequence {d = d} {b = b} l m x y) n =
+      Printing.stmt-suc i r s d n p 0x0C l (sym m)
+      ∙ form-two i r s _ n p 0x0C (Printing.heading-sequence i r s n p 0x0C refl) refl (stmt-reads x n) (stmt-reads y n)
+      ∙ simp append-nil
+  stmt-reads {p = p} (an-if {d = d} l m e x) n =
+      Printing.stmt-suc i r s d n p 0x06 l (sym m)
+      ∙ form-one i r s _ n p 0x06 (Printing.heading-if i r s n p 0x06 refl ∙ condition-reads n p (ascii "if (") e) refl
+      (stmt-reads x (n + 1))
+      ∙ simp append-assoc
+  stmt-reads {p = p} (an-if-else {d = d} l m e x y) n =
+      Printing.stmt-suc i r s d n p 0x0E l (sym m)
+      ∙ form-two i r s _ n p 0x0E (Printing.heading-if-else i r s n p 0x0E refl ∙ condition-reads n p (ascii "if (") e) refl
+      (stmt-reads x (n + 1)) (stmt-reads y (n + 1))
+      ∙ simp append-assoc
+  stmt-reads {p = p} (a-while {d = d} l m e x) n =
+      Printing.stmt-suc i r s d n p 0x46 l (sym m)
+      ∙ form-one i r s _ n p 0x46 (Printing.heading-while i r s n p 0x46 refl ∙ condition-reads n p (ascii "while (") e) refl
+      (stmt-reads x (n + 1))
+      ∙ simp append-assoc
+  stmt-reads {p = p} (a-forever {d = d} l m x) n =
+      Printing.stmt-suc i r s d n p 0x44 l (sym m)
+      ∙ form-one i r s _ n p 0x44 (Printing.heading-forever i r s n p 0x44 refl ∙ word-shown n p (ascii "forever begin\n")) refl
+      (stmt-reads x (n + 1))
+      ∙ simp append-assoc
+  stmt-reads {p = p} (a-wait {d = d} {n = k} {ts = vs} m w ts f) n =
+      let b = w .below in
+      Printing.stmt-suc i r s d n p 0x10 (omega arith) (sym m)
+      ∙ form-none i r s _ n p 0x10 (Printing.heading-wait i r s n p 0x10 refl ∙ wait-reads n p (w .same) ts) refl
+
+  -- ---- wires and threads
+
+  wires-step : (n v p : ℕ) {q x : ℕ} {t u : List ℕ} → wireAt i r s v p ≡ shown q t → wiresAt i r s n (v + 1) q ≡ shown x u
+      → wiresAt i r s (suc n) v p ≡ shown x (t ++ u)
+  unfolding wiresAt behind
+  wires-step n v p {t = t} e f = ap (λ (y : Shown). behind (y .text) (wiresAt i r s n (v + 1) (y .next))) e ∙ ap (behind t) f
+
+  wire-reads : (v p : ℕ) {e : Parsed Expr} → tree s (c .widths) p ≡ ok e
+      → wireAt i r s v p ≡ shown (e .next)
+      (ascii "  assign " & plainName i r v & ascii " = " & exprText (plainName i r) (e .item) & ascii ";\n")
+  unfolding wireAt
+  wire-reads v p h = ap (λ (x : Shown). shown (x .next)
+      (ascii "  assign " & plainName i r v & ascii " = " & x .text & ascii ";\n")) (tree-shown p h)
+
+  pub wires-reads : (n v p : ℕ) {l : Listed Expr} → readWires (tree s) c s n v p ≡ ok l
+      → wiresAt i r s n v p ≡ shown (l .next) (wiresText (plainName i r) v (l .items))
+  unfolding readWires wiresAt wiresText
+  wires-reads zero v p h = rw (← ok-injective h) refl
+  wires-reads (suc n) v p h =
+      let e = bind-ok (tree s (c .widths) p) _ h in
+      let w = check-ok (eqb (e .0 .width) (getD (c .widths) v 0)) 8 p _ (e .2) in
+      let es = bind-ok (readWires (tree s) c s n (v + 1) (e .0 .next)) _ (w .1) in
+      rw (← ok-injective (es .2)) (wires-step n v p (wire-reads v p (e .1)) (wires-reads n (v + 1) (e .0 .next) (es .1))
+      ∙ simp append-assoc)
+
+  threads-step : (n p : ℕ) {q x : ℕ} {t u : List ℕ} → threadAt i r s p ≡ shown q t → threadsAt i r s n q ≡ shown x u
+      → threadsAt i r s (suc n) p ≡ shown x (t ++ u)
+  unfolding threadsAt behind
+  threads-step n p {t = t} e f = ap (λ (y : Shown). behind (y .text) (threadsAt i r s n (y .next))) e ∙ ap (behind t) f
+
+  thread-reads : (p : ℕ) {b : Body Expr} → ReadsStmt (tree s) c s 64 p b
+      → threadAt i r s p ≡ shown (b .next) (ascii "  always begin\n" & stmtText (plainName i r) 2 (b .stmt) & ascii "  end\n")
+  unfolding threadAt
+  thread-reads p x = ap (λ (y : Shown). shown (y .next) (ascii "  always begin\n" & y .text & ascii "  end\n")) (stmt-reads x 2)
+
+  pub threads-reads : (n p : ℕ) {l : Listed (Stmt Expr)} → readThreads (tree s) c s n p ≡ ok l
+      → threadsAt i r s n p ≡ shown (l .next) (threadsText (plainName i r) (l .items))
+  unfolding readThreads threadsAt threadsText
+  threads-reads zero p h = rw (← ok-injective h) refl
+  threads-reads (suc n) p h =
+      let b = bind-ok (readStmt (tree s) c s 64 p) _ h in
+      let k = check-ok (leb (size (b .0 .stmt) + 1) 256) 11 p _ (b .2) in
+      let bs = bind-ok (readThreads (tree s) c s n (b .0 .next)) _ (k .1) in
+      rw (← ok-injective (bs .2)) (threads-step n p (thread-reads p (derive-stmt (tree s) c s 64 p (b .1)))
+      (threads-reads n (b .0 .next) (bs .1)) ∙ simp append-assoc)
+
+-- ---- declarations
+
+pub declarations-reads : (i r : ℕ) (s : List ℕ) (n v : ℕ) → 4 + v + n ≤ length s
+    → declarationsAt i r s n v ≡ declarationsText (plainName i r) i r v (take n (drop (4 + v) s))
+unfolding declarationsAt declarationsText
+declarations-reads i r s zero v h = refl
+declarations-reads i r s (suc n) v h =
+    let f : suc (4 + v) ≡ 4 + (v + 1) = omega arith in
+    let e : drop (4 + v) s ≡ getD s (4 + v) 0 ∷ drop (4 + (v + 1)) s = drop-cons s (4 + v) 0 (omega arith) ∙ ap
+    (λ (k : ℕ). getD s (4 + v) 0 ∷ drop k s) f in
+    rw (e, declarations-reads i r s n (v + 1) (omega arith)) refl
+
+-- ---- the sheet
+
+pub module-reads : (s : List ℕ) {x : Sheet Expr} → readSheet (tree s) s ≡ ok x
+    → moduleAt (x .contents .scope .inputs) (x .contents .scope .registers) s (length (x .contents .wires))
+    (length (x .contents .threads)) ≡ verilogText (x .contents)
+unfolding readSheet moduleAt verilogText moduleText
+module-reads s h =
+    let k = check-ok (leb (length s) 8192) 1 8192 _ h in
+    let hd = bind-ok (readHead s) _ (k .1) in
+    let c = hd .0 .scope in
+    let es = bind-ok (readWires (tree s) c s (hd .0 .wires) (c .inputs + c .registers) (hd .0 .next)) _ (hd .2) in
+    let ts = bind-ok (readThreads (tree s) c s (hd .0 .threads) (es .0 .next)) _ (es .2) in
+    let z = check-ok (eqb (ts .0 .next) (length s)) 10 (ts .0 .next) _ (ts .2) in
+    let y = headed s (hd .1) in
+    let w = wires-count (tree s) c s (hd .0 .wires) (c .inputs + c .registers) (hd .0 .next) (es .1) in
+    let t = threads-count (tree s) c s (hd .0 .threads) (es .0 .next) (ts .1) in
+    let n = c .inputs + c .registers + hd .0 .wires in
+    let widths : c .widths ≡ take n (drop 4 s) = ap (λ (g : Head). g .scope .widths) (y .same) in
+    let next : hd .0 .next ≡ 4 + n = ap (λ (g : Head). g .next) (y .same) in
+    let b = y .inside in
+    let many : length (c .widths) ≡ n = ap length widths ∙ simp (length-take, length-drop) (omega arith) in
+    let wires : wiresAt (c .inputs) (c .registers) s (hd .0 .wires) (c .inputs + c .registers) (4 + n) ≡ shown (es .0 .next)
+    (wiresText (plainName (c .inputs) (c .registers)) (c .inputs + c .registers) (es .0 .items)) =
+    ap (wiresAt (c .inputs) (c .registers) s (hd .0 .wires) (c .inputs + c .registers)) (sym next)
+    ∙ wires-reads (c .inputs) (c .registers) c s (hd .0 .wires) (c .inputs + c .registers) (hd .0 .next) (es .1) in
+    let threads = threads-reads (c .inputs) (c .registers) c s (hd .0 .threads) (es .0 .next) (ts .1) in
+    let declared : declarationsAt (c .inputs) (c .registers) s n 0 ≡ declarationsText (plainName (c .inputs) (c .registers))
+    (c .inputs) (c .registers) 0 (c .widths) =
+    declarations-reads (c .inputs) (c .registers) s n 0 (omega arith) ∙ ap
+    (declarationsText (plainName (c .inputs) (c .registers)) (c .inputs) (c .registers) 0) (sym widths) in
+    rw (← ok-injective (z .1)) (rw (← w, ← t) (rw (many, declared, wires, threads) refl))
+
+-- ---- what the call gives, by the answer of reading
+
+abbrev number-of : SheetRead → ℕ
+number-of a = a .number
+
+module _ (s buffer : List ℕ) (a : SheetRead) (e : a ≡ sheetAnswer (readSheet (located s) s)) where
+  pub print-refused : (a .number ≡ 0 → ⊥) → answer (a .number) (filled buffer 0) ≡ verilogOf s buffer
+  unfolding sheetAnswer verilogOf printed mapRes
+  print-refused h = by (readSheet (located s) s) refl ∙ ap (printed buffer) (sym (read-located s))
+    where
+      by : (x : Res (Sheet ℕ)) → readSheet (located s) s ≡ x
+          → answer (a .number) (filled buffer 0) ≡ printed buffer (mapRes (λ r. trees s r .contents) x)
+      by (ok q) g = absurd (h (ap number-of e ∙ ap (λ (y : Res (Sheet ℕ)). sheetAnswer y .number) g))
+      by (no n p) g = ap (λ (k : ℕ). answer k (filled buffer 0))
+          (ap number-of e ∙ ap (λ (y : Res (Sheet ℕ)). sheetAnswer y .number) g)
+
+  pub print-read : {t : Text} → a .number ≡ 0
+      → t ≡ puts (filled buffer 0) (moduleAt (a .layout .inputs) (a .layout .registers) s (a .layout .wires) (a .layout .threads))
+      → answer 0 t ≡ verilogOf s buffer
+  unfolding sheetAnswer layoutOf verilogOf printed mapRes trees mapModule
+  print-read {t} h f = by (readSheet (located s) s) refl ∙ ap (printed buffer) (sym (read-located s))
+    where
+      by : (x : Res (Sheet ℕ)) → readSheet (located s) s ≡ x → answer 0 t ≡ printed buffer (mapRes (λ r. trees s r .contents) x)
+      by (ok q) g =
+          let l : a ≡ sheetAnswer (ok q) = e ∙ ap sheetAnswer g in
+          let m = module-reads s (sheet-located s ∙ ap (mapRes (trees s)) g) in
+          ap (answer 0) (f ∙ ap (λ (b : SheetRead). puts (filled buffer 0)
+          (moduleAt (b .layout .inputs) (b .layout .registers) s (b .layout .wires) (b .layout .threads))) l
+          ∙ ap (puts (filled buffer 0)) (simp length-map at m))
+      by (no n p) g =
+          let k : n ≡ 0 = sym (ap number-of e ∙ ap (λ (y : Res (Sheet ℕ)). sheetAnswer y .number) g) ∙ h in
+          let z = numbered-no (sheet-numbered (located s) (located-numbered s) s) g in
+          absurd (omega arith)

@@ -1,0 +1,198 @@
+-- The same text over any bytes, as the code prints it; where the sheet was read, it is the module's (proofs/Printing.antt).
+use Prim.Native.Nat.{ℕ, zero, suc, _+_, _*_}
+use mathlib.Core.List.{List, [], _++_}
+use lib.ListN.{length, getD}
+use lib.Dec.{ltb}
+use Rattle.values.specs.Values.{pick, _is_then_else_}
+use Rattle.values.specs.Edges.{edgeOf}
+use Rattle.sheet.specs.Reading.{wordOf}
+use Rattle.writing.specs.Ascii.{ascii}
+use Rattle.writing.specs.Buffer.{Text, filled, puts}
+use Rattle.naming.specs.Naming.{plainName}
+use Rattle.signs.specs.Signs.{operands, lead, constantText, unknownText}
+use Rattle.verilog.specs.declared.Printed.{Printed}
+use Rattle.verilog.specs.Verilog.{_&_, indent, before, edgeText, portsText, declarationText}
+
+-- ---- what is shown: a text, and the next place in the sheet
+
+pub record Shown : Type 0 where
+  pub next : ℕ
+  pub text : List ℕ
+
+abbrev pub shown : ℕ → List ℕ → Shown
+shown next text = record { next = next; text = text }
+
+-- A text in front of what is shown.
+unfoldable pub behind : List ℕ → Shown → Shown
+behind t q = shown (q .next) (t ++ q .text)
+
+-- ---- what printing leaves: the next place in the sheet, and the buffer
+
+pub record Left : Type 0 where
+  pub next : ℕ
+  pub text : Text
+
+abbrev pub left : ℕ → Text → Left
+left next text = record { next = next; text = text }
+
+-- The code's answer, with the buffer's bytes.
+abbrev pub told : Printed → List ℕ → Left
+told r bytes = left (r .next) (filled bytes (r .pos))
+
+-- What printing that into a buffer leaves.
+unfoldable pub leaves : Text → Shown → Left
+leaves t q = left (q .next) (puts t (q .text))
+
+-- ---- operands
+
+-- n operands of operator o and the closing parenthesis. `operand` shows the one at a place.
+unfoldable pub operandsAt : (ℕ → Shown) → ℕ → ℕ → ℕ → Shown
+operandsAt operand o zero p = shown p (ascii ")")
+operandsAt operand o (suc n) p = behind (lead o (suc n) ++ operand p .text) (operandsAt operand o n (operand p .next))
+
+-- ---- a line with nothing from the sheet
+
+unfoldable pub wordAt : List ℕ → ℕ → ℕ → Shown
+wordAt word n p = shown (p + 1) (indent n & word)
+
+-- ---- bodies
+
+-- How many bodies a map has: "2 and 3 statements".
+unfoldable pub bodiesOf : ℕ → ℕ
+bodiesOf m =
+    m is 0x0C then 2 else
+    m is 0x06 then 1 else
+    m is 0x0E then 2 else
+    m is 0x46 then 1 else
+    m is 0x44 then 1 else
+    0
+
+-- The level of a body.
+unfoldable pub innerLevel : ℕ → ℕ → ℕ
+innerLevel m n = m is 0x0C then n else n + 1
+
+-- What stands behind a body, when k bodies were still to come.
+unfoldable pub closingAt : ℕ → ℕ → ℕ → List ℕ
+closingAt m k n =
+    m is 0x0C then [] else
+    k is 2 then indent n & ascii "end else begin\n" else
+    indent n & ascii "end\n"
+
+-- k bodies of a statement with map m, n levels in. `stmt` shows the statement at a level and a place.
+unfoldable pub bodiesAt : (ℕ → ℕ → Shown) → ℕ → ℕ → ℕ → ℕ → Shown
+bodiesAt stmt m n zero p = shown p []
+bodiesAt stmt m n (suc k) p =
+    let a = stmt (innerLevel m n) p in
+    behind (a .text ++ closingAt m (suc k) n) (bodiesAt stmt m n k (a .next))
+
+-- ---- the parts of a sheet s with i inputs and r registers
+
+module _ (i r : ℕ) (s : List ℕ) where
+  -- ---- expressions
+
+  -- The node whose map stands at p, with the byte after it: variable, constant, unknown constant, operator.
+  unfoldable pub nodeAt : (ℕ → Shown) → ℕ → ℕ → ℕ → Shown
+  nodeAt operand p m b =
+      m is 0x02 then shown (p + 2) (plainName i r b) else
+      m is 0x0C then shown (p + 6) (constantText b (wordOf s (p + 2))) else
+      m is 0x04 then shown (p + 2) (unknownText b) else
+      behind (ascii "(") (operandsAt operand b (operands b) (p + 2))
+
+  -- The expression at p, with so many levels left; nothing past the sheet's end.
+  unfoldable pub shownAt : ℕ → ℕ → Shown
+  shownAt zero p = shown p []
+  shownAt (suc d) p = pick (ltb p (length s)) (nodeAt (shownAt d) p (getD s p 0) (getD s (p + 1) 0)) (shown p [])
+
+  -- ---- statements
+
+  -- The pair of a wait at p, which is the wait's kth.
+  unfoldable pub termAt : ℕ → ℕ → List ℕ
+  termAt k p = before (ascii " or ") k & edgeText (edgeOf (getD s p 0)) & plainName i r (getD s (p + 1) 0)
+
+  -- n pairs of a wait, the first at p.
+  unfoldable pub termsAt : ℕ → ℕ → ℕ → List ℕ
+  termsAt zero k p = []
+  termsAt (suc n) k p = termAt k p & termsAt n (k + 1) (p + 2)
+
+  -- An assignment whose map stands at p.
+  unfoldable pub assignAt : List ℕ → ℕ → ℕ → Shown
+  assignAt sign n p =
+      let e = shownAt 16 (p + 2) in
+      shown (e .next) (indent n & plainName i r (getD s (p + 1) 0) & sign & e .text & ascii ";\n")
+
+  -- A word, a condition and the beginning of a block.
+  unfoldable pub conditionAt : List ℕ → ℕ → ℕ → Shown
+  conditionAt word n p =
+      let e = shownAt 16 (p + 1) in
+      shown (e .next) (indent n & word & e .text & ascii ") begin\n")
+
+  -- A wait whose map stands at p.
+  unfoldable pub waitAt : ℕ → ℕ → Shown
+  waitAt n p =
+      let k = getD s (p + 1) 0 in
+      shown (p + 2 + 2 * k) (indent n & ascii "@(" & termsAt k 0 (p + 2) & ascii ");\n")
+
+  -- What stands in front of a statement's first body: of a statement without a body all of it. Its map m stands at p.
+  unfoldable pub headingAt : ℕ → ℕ → ℕ → Shown
+  headingAt n p m =
+      m is 0x00 then wordAt (ascii ";\n") n p else
+      m is 0x03 then assignAt (ascii " = ") n p else
+      m is 0x23 then assignAt (ascii " <= ") n p else
+      m is 0x0C then shown (p + 1) [] else
+      m is 0x06 then conditionAt (ascii "if (") n p else
+      m is 0x0E then conditionAt (ascii "if (") n p else
+      m is 0x46 then conditionAt (ascii "while (") n p else
+      m is 0x44 then wordAt (ascii "forever begin\n") n p else
+      m is 0x10 then waitAt n p else
+      shown p []
+
+  -- The statement at p, n levels in, whose map is m.
+  unfoldable pub formAt : (ℕ → ℕ → Shown) → ℕ → ℕ → ℕ → Shown
+  formAt stmt n p m =
+      let h = headingAt n p m in
+      behind (h .text) (bodiesAt stmt m n (bodiesOf m) (h .next))
+
+  -- With so many levels left; nothing past the sheet's end.
+  unfoldable pub stmtAt : ℕ → ℕ → ℕ → Shown
+  stmtAt zero n p = shown p []
+  stmtAt (suc d) n p = pick (ltb p (length s)) (formAt (stmtAt d) n p (getD s p 0)) (shown p [])
+
+  -- ---- the module's parts
+
+  -- n variables from v on, their widths from byte 4 on.
+  unfoldable pub declarationsAt : ℕ → ℕ → List ℕ
+  declarationsAt zero v = []
+  declarationsAt (suc n) v = declarationText (plainName i r) i r v (getD s (4 + v) 0) & declarationsAt n (v + 1)
+
+  -- The assignment of wire v, whose expression stands at p.
+  unfoldable pub wireAt : ℕ → ℕ → Shown
+  wireAt v p =
+      let e = shownAt 16 p in
+      shown (e .next) (ascii "  assign " & plainName i r v & ascii " = " & e .text & ascii ";\n")
+
+  -- n wires, the first variable v with its expression at p.
+  unfoldable pub wiresAt : ℕ → ℕ → ℕ → Shown
+  wiresAt zero v p = shown p []
+  wiresAt (suc n) v p = behind (wireAt v p .text) (wiresAt n (v + 1) (wireAt v p .next))
+
+  -- The thread whose statement stands at p.
+  unfoldable pub threadAt : ℕ → Shown
+  threadAt p =
+      let a = stmtAt 64 2 p in
+      shown (a .next) (ascii "  always begin\n" & a .text & ascii "  end\n")
+
+  -- n threads, the first one's statement at p.
+  unfoldable pub threadsAt : ℕ → ℕ → Shown
+  threadsAt zero p = shown p []
+  threadsAt (suc n) p = behind (threadAt p .text) (threadsAt n (threadAt p .next))
+
+  -- The module with w wires and t threads.
+  unfoldable pub moduleAt : ℕ → ℕ → List ℕ
+  moduleAt w t =
+      let n = i + r + w in
+      let es = wiresAt w (i + r) (4 + n) in
+      ascii "module walbryts (" & portsText (plainName i r) n 0 & ascii ");\n"
+      & declarationsAt n 0
+      & es .text
+      & threadsAt t (es .next) .text
+      & ascii "endmodule\n"

@@ -1,0 +1,170 @@
+-- The module as Verilog text.
+--
+-- Widths. Verilog works an operand out at the widest width of its surroundings (IEEE 1364, expression bit lengths), document 01 at
+-- its own. The two agree, since nothing in a sheet that was read is narrower than its surroundings: operands of 3 to 9 and both
+-- arms of ?: have equal widths, and a target or wire has its expression's width. What has a width of its own has it in Verilog
+-- too: the operands of == and < (their result is one bit), the operand of !, the condition of ?:, if and while. So ~ of a
+-- comparison is worked out at one bit, (a == b) + c with a one-bit c wraps at one bit, and !a of a wide a is one bit in a
+-- one-bit place. Every constant has its width and no sign, so < is unsigned.
+--
+-- Unknown values. Document 01's x is x as a whole, Verilog's x stands bit by bit: x & 0 is x here and 0 there. A condition that
+-- isn't known fails in both: if takes its second leg, while ends.
+--
+-- A thread that can come round without a wait is text that Icarus refuses or never leaves; extraction refuses it too (17).
+use Prim.Native.Nat.{ℕ, zero, suc, _+_, _-_, _*_}
+use mathlib.Core.List.{List, [], _∷_, _++_}
+use lib.ListN.{length, replicate}
+use lib.Dec.{ltb}
+use Rattle.values.specs.Values.{pick, _is_then_else_}
+use Rattle.values.specs.declared.Edge.{Edge}
+use Rattle.values.specs.declared.Edge.the-variants.{Change, Posedge, Negedge}
+use Rattle.sheet.specs.declared.EdgeTerm.{EdgeTerm}
+use Rattle.sheet.specs.Reading.{Res, ok, no}
+use Rattle.sheet.specs.Expression.{Expr, variable, constant, unknown, unary, binary, conditional}
+use Rattle.sheet.specs.Statement.{Stmt, empty, assign, later, sequence, ifThen, ifElse, while, forever, wait}
+use Rattle.sheet.specs.Module.{Module, read}
+use Rattle.writing.specs.Ascii.{ascii, byte}
+use Rattle.writing.specs.Numbers.{decimal}
+use Rattle.writing.specs.Buffer.{Text, filled, puts}
+use Rattle.naming.specs.Naming.{plainName}
+use Rattle.signs.specs.Signs.{sign, constantText, unknownText}
+
+infixr 60 _&_
+-- One text and then the other.
+abbrev pub _&_ : List ℕ → List ℕ → List ℕ
+_&_ a b = a ++ b
+
+-- Two blanks a level.
+unfoldable pub indent : ℕ → List ℕ
+indent level = replicate (2 * level) (byte " ")
+
+-- A separator in front of every item but the first.
+unfoldable pub before : List ℕ → ℕ → List ℕ
+before separator k = k is 0 then [] else separator
+
+-- "edge (0 any change, 1 posedge, 2 negedge)"
+unfoldable pub edgeText : Edge → List ℕ
+edgeText Change = []
+edgeText Posedge = ascii "posedge "
+edgeText Negedge = ascii "negedge "
+
+-- Of a variable that is wider than one bit.
+unfoldable pub rangeText : ℕ → List ℕ
+rangeText w = w is 1 then [] else ascii "[" & decimal (w - 1) & ascii ":0] "
+
+-- What a variable is, with so many inputs and registers.
+unfoldable pub directionText : ℕ → ℕ → ℕ → List ℕ
+directionText i r v =
+    pick (ltb v i) (ascii "input ")
+    (pick (ltb v (i + r)) (ascii "output reg ")
+    (ascii "output wire "))
+
+-- name gives a variable's name.
+module _ (name : ℕ → List ℕ) where
+  -- ---- expressions: every operator with its operands stands in parentheses
+
+  unfoldable pub exprText : Expr → List ℕ
+  exprText (variable v) = name v
+  exprText (constant w v) = constantText w v
+  exprText (unknown w) = unknownText w
+  exprText (unary o w a) = ascii "(" & sign o & exprText a & ascii ")"
+  exprText (binary o w a b) = ascii "(" & exprText a & sign o & exprText b & ascii ")"
+  exprText (conditional c a b) = ascii "(" & exprText c & ascii " ? " & exprText a & ascii " : " & exprText b & ascii ")"
+
+  -- ---- waits: posedge i0 or negedge i2 or r1
+
+  -- The wait's kth pair.
+  unfoldable pub termText : ℕ → EdgeTerm → List ℕ
+  termText k t = before (ascii " or ") k & edgeText (t .edge) & name (t .variable)
+
+  -- Its pairs from the kth on.
+  unfoldable pub termsText : ℕ → List EdgeTerm → List ℕ
+  termsText k [] = []
+  termsText k (t ∷ ts) = termText k t & termsText (k + 1) ts
+
+  -- ---- statements, n levels in. The parts of a sequence stand in one block; every other body has a block of its own.
+
+  unfoldable pub stmtText : ℕ → Stmt Expr → List ℕ
+  stmtText n empty = indent n & ascii ";\n"
+  stmtText n (assign t e) = indent n & name t & ascii " = " & exprText e & ascii ";\n"
+  stmtText n (later t e) = indent n & name t & ascii " <= " & exprText e & ascii ";\n"
+  stmtText n (sequence a b) = stmtText n a & stmtText n b
+  stmtText n (ifThen e a) =
+      indent n & ascii "if (" & exprText e & ascii ") begin\n"
+      & stmtText (n + 1) a
+      & indent n & ascii "end\n"
+  stmtText n (ifElse e a b) =
+      indent n & ascii "if (" & exprText e & ascii ") begin\n"
+      & stmtText (n + 1) a
+      & indent n & ascii "end else begin\n"
+      & stmtText (n + 1) b
+      & indent n & ascii "end\n"
+  stmtText n (while e a) =
+      indent n & ascii "while (" & exprText e & ascii ") begin\n"
+      & stmtText (n + 1) a
+      & indent n & ascii "end\n"
+  stmtText n (forever a) =
+      indent n & ascii "forever begin\n"
+      & stmtText (n + 1) a
+      & indent n & ascii "end\n"
+  stmtText n (wait ts) = indent n & ascii "@(" & termsText 0 ts & ascii ");\n"
+
+  -- ---- the module's parts
+
+  unfoldable pub portText : ℕ → List ℕ
+  portText v = before (ascii ", ") v & name v
+
+  -- The names of n variables, from v on.
+  unfoldable pub portsText : ℕ → ℕ → List ℕ
+  portsText zero v = []
+  portsText (suc n) v = portText v & portsText n (v + 1)
+
+  -- An assignment for each wire, the first that of variable v.
+  unfoldable pub wiresText : ℕ → List Expr → List ℕ
+  wiresText v [] = []
+  wiresText v (e ∷ es) = ascii "  assign " & name v & ascii " = " & exprText e & ascii ";\n" & wiresText (v + 1) es
+
+  -- "A thread is a forever of its statement."
+  unfoldable pub threadsText : List (Stmt Expr) → List ℕ
+  threadsText [] = []
+  threadsText (a ∷ bs) = ascii "  always begin\n" & stmtText 2 a & ascii "  end\n" & threadsText bs
+
+  -- One line for a variable of width w.
+  unfoldable pub declarationText : ℕ → ℕ → ℕ → ℕ → List ℕ
+  declarationText i r v w = ascii "  " & directionText i r v & rangeText w & name v & ascii ";\n"
+
+  -- The variables from v on, by their widths.
+  unfoldable pub declarationsText : ℕ → ℕ → ℕ → List ℕ → List ℕ
+  declarationsText i r v [] = []
+  declarationsText i r v (w ∷ ws) = declarationText i r v w & declarationsText i r (v + 1) ws
+
+  unfoldable pub moduleText : Module Expr → List ℕ
+  moduleText m =
+      let c = m .scope in
+      ascii "module walbryts (" & portsText (length (c .widths)) 0 & ascii ");\n"
+      & declarationsText (c .inputs) (c .registers) 0 (c .widths)
+      & wiresText (c .inputs + c .registers) (m .wires)
+      & threadsText (m .threads)
+      & ascii "endmodule\n"
+
+-- ---- verilogText: the module with plain names, i0.., r0.., w0..
+
+unfoldable pub verilogText : Module Expr → List ℕ
+verilogText m = moduleText (plainName (m .scope .inputs) (m .scope .registers)) m
+
+-- ---- printed: what the call gives: number 0 and the text at the front of the buffer, or the refusal's number and the buffer as
+-- it was. What would pass the buffer's end isn't put.
+
+pub record Answer : Type 0 where
+  pub number : ℕ
+  pub text : Text
+
+abbrev pub answer : ℕ → Text → Answer
+answer number text = record { number = number; text = text }
+
+unfoldable pub printed : List ℕ → Res (Module Expr) → Answer
+printed buffer (ok m) = answer 0 (puts (filled buffer 0) (verilogText m))
+printed buffer (no n p) = answer n (filled buffer 0)
+
+unfoldable pub verilogOf : List ℕ → List ℕ → Answer
+verilogOf s buffer = printed buffer (read s)

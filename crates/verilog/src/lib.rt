@@ -1,0 +1,667 @@
+// The module as Verilog text (specs/Verilog.antt), written into a lent buffer of 65,536 bytes.
+// Every contract says: next place in the sheet, buffer and new position are what printing the text at the old position leaves.
+use naming::put_plain;
+use sheet::byte_at;
+use signs::put_lead;
+use writing::put_byte;
+use writing::put_decimal;
+use writing::put_many;
+use writing::put_word;
+ghost use mathlib.Core.Path.{_≡_};
+ghost use Prim.Native.Nat.{_+_, _-_, _<_, _≤_};
+ghost use lib.ListN.{length};
+ghost use Rattle.values.specs.Edges.{edgeOf};
+ghost use Rattle.writing.specs.Buffer.{filled, puts};
+ghost use Rattle.naming.specs.Naming.{plainName};
+ghost use Rattle.verilog.specs.Verilog.{indent, before, edgeText, directionText, rangeText, portsText, declarationText};
+ghost use Rattle.verilog.specs.Verilog.{portText, answer, verilogOf};
+ghost use Rattle.verilog.specs.Printing.{told, leaves, operandsAt, wordAt, bodiesOf, innerLevel, closingAt, bodiesAt};
+ghost use Rattle.verilog.specs.Printing.{shownAt, termAt, termsAt, assignAt, conditionAt, waitAt, headingAt, stmtAt};
+ghost use Rattle.verilog.specs.Printing.{declarationsAt, wireAt, wiresAt, threadAt, threadsAt, moduleAt};
+
+// What printing a part gives: the next place in the sheet and the next position in the buffer.
+pub struct Printed {
+    pub next: usize,
+    pub pos: usize,
+}
+
+// What printing a sheet gives: number 0 and the text's length, or the refusal's number and 0.
+pub struct Text {
+    pub number: u8,
+    pub length: usize,
+}
+
+// A byte as a number of its own.
+fn wide(b: u8) -> usize
+    ensures { λ r. ⌜ r ≡ b ⌝ }
+{
+    b as usize
+}
+
+// ---- expressions
+
+// `n` operands of an operator and the closing parenthesis.
+fn print_operands(
+    sheet: &[u8],
+    at: usize,
+    depth: u8,
+    n: u8,
+    op: u8,
+    inputs: u8,
+    registers: u8,
+    text: &mut [u8; 65536],
+    pos: usize,
+) -> Printed
+    ensures { λ r. ⌜ told r (now (text .exit)) ≡ leaves (filled (now (text .entry)) pos)
+        (operandsAt (shownAt inputs registers (now (sheet .entry)) depth) op n at) ⌝ }
+{
+    if n == 0 {
+        let p = put_byte(b')', text, pos);
+        return Printed { next: at, pos: p };
+    }
+    let p = put_lead(op, n, text, pos);
+    let a = print_expr(sheet, at, depth, inputs, registers, text, p);
+    let next = a.next;
+    let q = a.pos;
+    print_operands(sheet, next, depth, n - 1, op, inputs, registers, text, q)
+}
+
+// The expression at a place of the sheet, with so many levels left.
+fn print_expr(
+    sheet: &[u8],
+    at: usize,
+    depth: u8,
+    inputs: u8,
+    registers: u8,
+    text: &mut [u8; 65536],
+    pos: usize,
+) -> Printed
+    ensures { λ r. ⌜ told r (now (text .exit)) ≡ leaves (filled (now (text .entry)) pos)
+        (shownAt inputs registers (now (sheet .entry)) depth at) ⌝ }
+{
+    if depth == 0 {
+        return Printed { next: at, pos };
+    }
+    if sheet.len() <= at {
+        return Printed { next: at, pos };
+    }
+    let map = byte_at(sheet, at);
+    let b = byte_at(sheet, at + 1);
+    if map == 0x02 {
+        let p = put_plain(inputs, registers, wide(b), text, pos);
+        return Printed {
+            next: at + 2,
+            pos: p,
+        };
+    }
+    if map == 0x0C {
+        let value = sheet::word_at(sheet, at + 2);
+        let p = signs::put_constant(b, value, text, pos);
+        return Printed {
+            next: at + 6,
+            pos: p,
+        };
+    }
+    if map == 0x04 {
+        let p = signs::put_unknown(b, text, pos);
+        return Printed {
+            next: at + 2,
+            pos: p,
+        };
+    }
+    let p = put_byte(b'(', text, pos);
+    let n = signs::operands(b);
+    print_operands(sheet, at + 2, depth - 1, n, b, inputs, registers, text, p)
+}
+
+// ---- waits
+
+// A separator in front of every item but the first.
+fn put_before(separator: &[u8], k: usize, text: &mut [u8; 65536], pos: usize) -> usize
+    ensures { λ r. ⌜ filled (now (text .exit)) r ≡
+        puts (filled (now (text .entry)) pos) (before (now (separator .entry)) k) ⌝ }
+{
+    if k == 0 {
+        return pos;
+    }
+    put_word(separator, text, pos)
+}
+
+// The word of an edge by its number in the sheet.
+fn put_edge(edge: u8, text: &mut [u8; 65536], pos: usize) -> usize
+    ensures { λ r. ⌜ filled (now (text .exit)) r ≡ puts (filled (now (text .entry)) pos) (edgeText (edgeOf edge)) ⌝ }
+{
+    match edge {
+        0 => pos,
+        1 => put_word(b"posedge ", text, pos),
+        _ => put_word(b"negedge ", text, pos),
+    }
+}
+
+// The pair of a wait at a place, which is its kth.
+fn put_term(
+    sheet: &[u8],
+    at: usize,
+    k: usize,
+    inputs: u8,
+    registers: u8,
+    text: &mut [u8; 65536],
+    pos: usize,
+) -> usize
+    requires { ⌜ at < length (now sheet) + 1000 ⌝ }
+    ensures { λ r. ⌜ filled (now (text .exit)) r ≡
+        puts (filled (now (text .entry)) pos) (termAt inputs registers (now (sheet .entry)) k at) ⌝ }
+{
+    let edge = byte_at(sheet, at);
+    let v = byte_at(sheet, at + 1);
+    let p = put_before(b" or ", k, text, pos);
+    let q = put_edge(edge, text, p);
+    put_plain(inputs, registers, wide(v), text, q)
+}
+
+// The pairs of a wait, the first at a place.
+fn put_terms(
+    sheet: &[u8],
+    at: usize,
+    n: u8,
+    inputs: u8,
+    registers: u8,
+    text: &mut [u8; 65536],
+    pos: usize,
+) -> usize
+    requires { ⌜ at < length (now sheet) + 3 ⌝ }
+    ensures { λ r. ⌜ filled (now (text .exit)) r ≡
+        puts (filled (now (text .entry)) pos) (termsAt inputs registers (now (sheet .entry)) n 0 at) ⌝ }
+{
+    let count = wide(n);
+    let mut p = pos;
+    let mut k: usize = 0;
+    let mut q = at;
+    while k < count {
+        p = put_term(sheet, q, k, inputs, registers, text, p);
+        k += 1;
+        q += 2;
+    }
+    p
+}
+
+// ---- statements
+
+// Two blanks a level.
+fn put_indent(level: u8, text: &mut [u8; 65536], pos: usize) -> usize
+    ensures { λ r. ⌜ filled (now (text .exit)) r ≡ puts (filled (now (text .entry)) pos) (indent level) ⌝ }
+{
+    put_many(b' ', 2 * wide(level), text, pos)
+}
+
+// An assignment whose map stands at `at`.
+fn print_assign(
+    sheet: &[u8],
+    at: usize,
+    sign: &[u8],
+    level: u8,
+    inputs: u8,
+    registers: u8,
+    text: &mut [u8; 65536],
+    pos: usize,
+) -> Printed
+    requires { ⌜ at < length (now sheet) ⌝ }
+    ensures { λ r. ⌜ told r (now (text .exit)) ≡ leaves (filled (now (text .entry)) pos)
+        (assignAt inputs registers (now (sheet .entry)) (now (sign .entry)) level at) ⌝ }
+{
+    let target = byte_at(sheet, at + 1);
+    let p = put_indent(level, text, pos);
+    let q = put_plain(inputs, registers, wide(target), text, p);
+    let w = put_word(sign, text, q);
+    let e = print_expr(sheet, at + 2, 16, inputs, registers, text, w);
+    let end = put_word(b";\n", text, e.pos);
+    Printed {
+        next: e.next,
+        pos: end,
+    }
+}
+
+// A word, the condition behind the map at `at`, and the beginning of a block.
+fn print_condition(
+    sheet: &[u8],
+    at: usize,
+    word: &[u8],
+    level: u8,
+    inputs: u8,
+    registers: u8,
+    text: &mut [u8; 65536],
+    pos: usize,
+) -> Printed
+    requires { ⌜ at < length (now sheet) ⌝ }
+    ensures { λ r. ⌜ told r (now (text .exit)) ≡ leaves (filled (now (text .entry)) pos)
+        (conditionAt inputs registers (now (sheet .entry)) (now (word .entry)) level at) ⌝ }
+{
+    let p = put_indent(level, text, pos);
+    let w = put_word(word, text, p);
+    let e = print_expr(sheet, at + 1, 16, inputs, registers, text, w);
+    let end = put_word(b") begin\n", text, e.pos);
+    Printed {
+        next: e.next,
+        pos: end,
+    }
+}
+
+// A wait whose map stands at `at`.
+fn print_wait(
+    sheet: &[u8],
+    at: usize,
+    level: u8,
+    inputs: u8,
+    registers: u8,
+    text: &mut [u8; 65536],
+    pos: usize,
+) -> Printed
+    requires { ⌜ at < length (now sheet) ⌝ }
+    ensures { λ r. ⌜ told r (now (text .exit)) ≡ leaves (filled (now (text .entry)) pos)
+        (waitAt inputs registers (now (sheet .entry)) level at) ⌝ }
+{
+    let n = byte_at(sheet, at + 1);
+    let p = put_indent(level, text, pos);
+    let q = put_word(b"@(", text, p);
+    let w = put_terms(sheet, at + 2, n, inputs, registers, text, q);
+    let end = put_word(b");\n", text, w);
+    Printed {
+        next: at + 2 + 2 * wide(n),
+        pos: end,
+    }
+}
+
+// A line with nothing from the sheet, for a map at `at`.
+fn print_word(word: &[u8], at: usize, level: u8, text: &mut [u8; 65536], pos: usize) -> Printed
+    requires { ⌜ at < 9223372036854775807 ⌝ }
+    ensures { λ r. ⌜ told r (now (text .exit)) ≡ leaves (filled (now (text .entry)) pos)
+        (wordAt (now (word .entry)) level at) ⌝ }
+{
+    let p = put_indent(level, text, pos);
+    let end = put_word(word, text, p);
+    Printed {
+        next: at + 1,
+        pos: end,
+    }
+}
+
+// What stands in front of the first body of the statement whose map stands at `at`.
+fn print_heading(
+    sheet: &[u8],
+    at: usize,
+    map: u8,
+    level: u8,
+    inputs: u8,
+    registers: u8,
+    text: &mut [u8; 65536],
+    pos: usize,
+) -> Printed
+    requires { ⌜ at < length (now sheet) ⌝ }
+    ensures { λ r. ⌜ told r (now (text .exit)) ≡ leaves (filled (now (text .entry)) pos)
+        (headingAt inputs registers (now (sheet .entry)) level at map) ⌝ }
+{
+    match map {
+        0x00 => print_word(b";\n", at, level, text, pos),
+        0x03 => print_assign(sheet, at, b" = ", level, inputs, registers, text, pos),
+        0x23 => print_assign(sheet, at, b" <= ", level, inputs, registers, text, pos),
+        0x0C => Printed { next: at + 1, pos },
+        0x06 => print_condition(sheet, at, b"if (", level, inputs, registers, text, pos),
+        0x0E => print_condition(sheet, at, b"if (", level, inputs, registers, text, pos),
+        0x46 => print_condition(sheet, at, b"while (", level, inputs, registers, text, pos),
+        0x44 => print_word(b"forever begin\n", at, level, text, pos),
+        0x10 => print_wait(sheet, at, level, inputs, registers, text, pos),
+        _ => Printed { next: at, pos },
+    }
+}
+
+// How many bodies a map has.
+fn bodies_of(map: u8) -> u8
+    ensures { λ r. ⌜ r ≡ bodiesOf map ⌝ }
+{
+    match map {
+        0x0C => 2,
+        0x06 => 1,
+        0x0E => 2,
+        0x46 => 1,
+        0x44 => 1,
+        _ => 0,
+    }
+}
+
+// The level of a body.
+fn inner_level(map: u8, level: u8) -> u8
+    requires { ⌜ level < 255 ⌝ }
+    ensures { λ r. ⌜ r ≡ innerLevel map level ⌝ }
+{
+    if map == 0x0C { level } else { level + 1 }
+}
+
+// What stands behind a body, when `k` bodies were still to come.
+fn put_closing(map: u8, k: u8, level: u8, text: &mut [u8; 65536], pos: usize) -> usize
+    ensures { λ r. ⌜ filled (now (text .exit)) r ≡ puts (filled (now (text .entry)) pos) (closingAt map k level) ⌝ }
+{
+    if map == 0x0C {
+        return pos;
+    }
+    let p = put_indent(level, text, pos);
+    if k == 2 {
+        return put_word(b"end else begin\n", text, p);
+    }
+    put_word(b"end\n", text, p)
+}
+
+// `k` bodies of a statement, the first at a place.
+fn print_bodies(
+    sheet: &[u8],
+    at: usize,
+    depth: u8,
+    k: u8,
+    map: u8,
+    level: u8,
+    inputs: u8,
+    registers: u8,
+    text: &mut [u8; 65536],
+    pos: usize,
+) -> Printed
+    requires { ⌜ level + depth < 128 ⌝ }
+    ensures { λ r. ⌜ told r (now (text .exit)) ≡ leaves (filled (now (text .entry)) pos)
+        (bodiesAt (stmtAt inputs registers (now (sheet .entry)) depth) map level k at) ⌝ }
+{
+    if k == 0 {
+        return Printed { next: at, pos };
+    }
+    let inner = inner_level(map, level);
+    let a = print_stmt(sheet, at, depth, inner, inputs, registers, text, pos);
+    let next = a.next;
+    let p = put_closing(map, k, level, text, a.pos);
+    print_bodies(
+        sheet,
+        next,
+        depth,
+        k - 1,
+        map,
+        level,
+        inputs,
+        registers,
+        text,
+        p,
+    )
+}
+
+// The statement at a place of the sheet, with so many levels left.
+fn print_stmt(
+    sheet: &[u8],
+    at: usize,
+    depth: u8,
+    level: u8,
+    inputs: u8,
+    registers: u8,
+    text: &mut [u8; 65536],
+    pos: usize,
+) -> Printed
+    requires { ⌜ level + depth ≤ 128 ⌝ }
+    ensures { λ r. ⌜ told r (now (text .exit)) ≡ leaves (filled (now (text .entry)) pos)
+        (stmtAt inputs registers (now (sheet .entry)) depth level at) ⌝ }
+{
+    if depth == 0 {
+        return Printed { next: at, pos };
+    }
+    if sheet.len() <= at {
+        return Printed { next: at, pos };
+    }
+    let map = byte_at(sheet, at);
+    let h = print_heading(sheet, at, map, level, inputs, registers, text, pos);
+    let next = h.next;
+    let p = h.pos;
+    let k = bodies_of(map);
+    print_bodies(
+        sheet,
+        next,
+        depth - 1,
+        k,
+        map,
+        level,
+        inputs,
+        registers,
+        text,
+        p,
+    )
+}
+
+// ---- the module's parts
+
+// What a variable is.
+fn put_direction(inputs: u8, registers: u8, v: usize, text: &mut [u8; 65536], pos: usize) -> usize
+    ensures { λ r. ⌜ filled (now (text .exit)) r ≡
+        puts (filled (now (text .entry)) pos) (directionText inputs registers v) ⌝ }
+{
+    if v < wide(inputs) {
+        return put_word(b"input ", text, pos);
+    }
+    if v < wide(inputs) + wide(registers) {
+        return put_word(b"output reg ", text, pos);
+    }
+    put_word(b"output wire ", text, pos)
+}
+
+// One less, 0 for 0.
+fn less(width: u8) -> usize
+    ensures { λ r. ⌜ r ≡ width - 1 ⌝ }
+{
+    if width == 0 { 0 } else { wide(width) - 1 }
+}
+
+// The range of a variable that is wider than one bit.
+fn put_range(width: u8, text: &mut [u8; 65536], pos: usize) -> usize
+    ensures { λ r. ⌜ filled (now (text .exit)) r ≡ puts (filled (now (text .entry)) pos) (rangeText width) ⌝ }
+{
+    if width == 1 {
+        return pos;
+    }
+    let p = put_word(b"[", text, pos);
+    let q = put_decimal(less(width), text, p);
+    put_word(b":0] ", text, q)
+}
+
+// The line of a variable.
+fn put_declaration(
+    inputs: u8,
+    registers: u8,
+    v: usize,
+    width: u8,
+    text: &mut [u8; 65536],
+    pos: usize,
+) -> usize
+    ensures { λ r. ⌜ filled (now (text .exit)) r ≡
+        puts (filled (now (text .entry)) pos) (declarationText (plainName inputs registers) inputs registers v width) ⌝ }
+{
+    let p = put_word(b"  ", text, pos);
+    let q = put_direction(inputs, registers, v, text, p);
+    let w = put_range(width, text, q);
+    let e = put_plain(inputs, registers, v, text, w);
+    put_word(b";\n", text, e)
+}
+
+// The lines of the first `n` variables.
+fn put_declarations(
+    sheet: &[u8],
+    n: usize,
+    inputs: u8,
+    registers: u8,
+    text: &mut [u8; 65536],
+    pos: usize,
+) -> usize
+    requires { ⌜ n < 1000 ⌝ }
+    ensures { λ r. ⌜ filled (now (text .exit)) r ≡
+        puts (filled (now (text .entry)) pos) (declarationsAt inputs registers (now (sheet .entry)) n 0) ⌝ }
+{
+    let mut p = pos;
+    let mut v = 0;
+    while v < n {
+        let width = byte_at(sheet, 4 + v);
+        p = put_declaration(inputs, registers, v, width, text, p);
+        v += 1;
+    }
+    p
+}
+
+// A name behind a comma, the first behind nothing.
+fn put_port(inputs: u8, registers: u8, v: usize, text: &mut [u8; 65536], pos: usize) -> usize
+    ensures { λ r. ⌜ filled (now (text .exit)) r ≡
+        puts (filled (now (text .entry)) pos) (portText (plainName inputs registers) v) ⌝ }
+{
+    let p = put_before(b", ", v, text, pos);
+    put_plain(inputs, registers, v, text, p)
+}
+
+// The names of the first `n` variables.
+fn put_ports(n: usize, inputs: u8, registers: u8, text: &mut [u8; 65536], pos: usize) -> usize
+    ensures { λ r. ⌜ filled (now (text .exit)) r ≡
+        puts (filled (now (text .entry)) pos) (portsText (plainName inputs registers) n 0) ⌝ }
+{
+    let mut p = pos;
+    let mut v = 0;
+    while v < n {
+        p = put_port(inputs, registers, v, text, p);
+        v += 1;
+    }
+    p
+}
+
+// The assignment of wire `v`, whose expression stands at `at`.
+fn print_wire(
+    sheet: &[u8],
+    at: usize,
+    v: usize,
+    inputs: u8,
+    registers: u8,
+    text: &mut [u8; 65536],
+    pos: usize,
+) -> Printed
+    ensures { λ r. ⌜ told r (now (text .exit)) ≡ leaves (filled (now (text .entry)) pos)
+        (wireAt inputs registers (now (sheet .entry)) v at) ⌝ }
+{
+    let p = put_word(b"  assign ", text, pos);
+    let q = put_plain(inputs, registers, v, text, p);
+    let w = put_word(b" = ", text, q);
+    let e = print_expr(sheet, at, 16, inputs, registers, text, w);
+    let end = put_word(b";\n", text, e.pos);
+    Printed {
+        next: e.next,
+        pos: end,
+    }
+}
+
+// The assignments of `n` wires, the first variable `first` with its expression at `at`.
+fn print_wires(
+    sheet: &[u8],
+    at: usize,
+    n: usize,
+    first: usize,
+    inputs: u8,
+    registers: u8,
+    text: &mut [u8; 65536],
+    pos: usize,
+) -> Printed
+    requires { ⌜ first + n < 1000 ⌝ }
+    ensures { λ r. ⌜ told r (now (text .exit)) ≡ leaves (filled (now (text .entry)) pos)
+        (wiresAt inputs registers (now (sheet .entry)) n first at) ⌝ }
+{
+    let mut next = at;
+    let mut p = pos;
+    let mut k = 0;
+    while k < n {
+        let w = print_wire(sheet, next, first + k, inputs, registers, text, p);
+        next = w.next;
+        p = w.pos;
+        k += 1;
+    }
+    Printed { next, pos: p }
+}
+
+// The thread whose statement stands at `at`.
+fn print_thread(
+    sheet: &[u8],
+    at: usize,
+    inputs: u8,
+    registers: u8,
+    text: &mut [u8; 65536],
+    pos: usize,
+) -> Printed
+    ensures { λ r. ⌜ told r (now (text .exit)) ≡ leaves (filled (now (text .entry)) pos)
+        (threadAt inputs registers (now (sheet .entry)) at) ⌝ }
+{
+    let p = put_word(b"  always begin\n", text, pos);
+    let a = print_stmt(sheet, at, 64, 2, inputs, registers, text, p);
+    let end = put_word(b"  end\n", text, a.pos);
+    Printed {
+        next: a.next,
+        pos: end,
+    }
+}
+
+// `n` threads, the first one's statement at `at`.
+fn print_threads(
+    sheet: &[u8],
+    at: usize,
+    n: u8,
+    inputs: u8,
+    registers: u8,
+    text: &mut [u8; 65536],
+    pos: usize,
+) -> Printed
+    ensures { λ r. ⌜ told r (now (text .exit)) ≡ leaves (filled (now (text .entry)) pos)
+        (threadsAt inputs registers (now (sheet .entry)) n at) ⌝ }
+{
+    let mut next = at;
+    let mut p = pos;
+    let mut k: u8 = 0;
+    while k < n {
+        let a = print_thread(sheet, next, inputs, registers, text, p);
+        next = a.next;
+        p = a.pos;
+        k += 1;
+    }
+    Printed { next, pos: p }
+}
+
+// The module with these counts.
+fn print_module(
+    sheet: &[u8],
+    inputs: u8,
+    registers: u8,
+    wires: u8,
+    threads: u8,
+    text: &mut [u8; 65536],
+) -> usize
+    ensures { λ r. ⌜ filled (now (text .exit)) r ≡
+        puts (filled (now (text .entry)) 0) (moduleAt inputs registers (now (sheet .entry)) wires threads) ⌝ }
+{
+    let first = wide(inputs) + wide(registers);
+    let n = first + wide(wires);
+    let a = put_word(b"module walbryts (", text, 0);
+    let b = put_ports(n, inputs, registers, text, a);
+    let c = put_word(b");\n", text, b);
+    let d = put_declarations(sheet, n, inputs, registers, text, c);
+    let w = print_wires(sheet, 4 + n, wide(wires), first, inputs, registers, text, d);
+    let t = print_threads(sheet, w.next, threads, inputs, registers, text, w.pos);
+    put_word(b"endmodule\n", text, t.pos)
+}
+
+// ---- the call
+
+// The module of a sheet as Verilog text at the front of the buffer. What would pass the buffer's end isn't put. A refused sheet
+// leaves the buffer as it was.
+pub fn print(sheet: &[u8], text: &mut [u8; 65536]) -> Text
+    ensures { λ r. ⌜ answer (r .number) (filled (now (text .exit)) (r .length)) ≡
+        verilogOf (now (sheet .entry)) (now (text .entry)) ⌝ }
+{
+    let read = sheet::read(sheet);
+    let number = read.number;
+    if number != 0 {
+        return Text { number, length: 0 };
+    }
+    let l = read.layout;
+    let length = print_module(sheet, l.inputs, l.registers, l.wires, l.threads, text);
+    Text { number: 0, length }
+}
