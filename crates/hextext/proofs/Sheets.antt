@@ -1,0 +1,67 @@
+-- THE THEOREM: a sheet that is read is never taken for hex text. Its first three bytes are at most 32, so neither `#` nor a digit; its
+-- fourth, the number of threads from 1 to 8, is no blank and no line end either. Assumes nothing.
+use mathlib.Core.Path.{_≡_, refl, sym, ap, _∙_}
+use mathlib.Core.Bool.{Bool, true, false}
+use mathlib.Core.List.{List, [], _∷_}
+use Prim.Native.Nat.{ℕ, suc, _+_, _<_, _≤_}
+use native.Mathlib.Omega.{arith}
+use borrow.Author.Tests.{lt-ltb, ne-eqb}
+use lib.ListN.{length, getD}
+use lib.Dec.{leb, eqb}
+use Rattle.values.specs.Values.{pick}
+use Rattle.sheet.specs.Reading.{ok, within}
+use Rattle.sheet.specs.Expression.{Expr, tree}
+use Rattle.sheet.specs.Module.{Module, readHead, readSheet, read}
+use Rattle.sheet.proofs.Reading.{bind-ok, check-ok, within-ok}
+use Rattle.hextext.specs.Characters.{digitOf, isDigit, isBlank, isGap, isText}
+
+small-digit : (b : ℕ) → b < 48 → isDigit b ≡ false
+unfolding isDigit digitOf
+small-digit b h = rw (lt-ltb b 48 h)
+
+-- A byte of at most 32 in front doesn't make a text.
+small-front : (b : ℕ) (bs : List ℕ) → b ≤ 32 → isText bs ≡ false → isText (b ∷ bs) ≡ false
+unfolding isText
+small-front b bs h e =
+    rw (ne-eqb b 35 (λ p. omega arith), small-digit b (omega arith), e) (pick-false (isGap b))
+  where
+    pick-false : (t : Bool) → pick t false false ≡ false
+    pick-false true = refl
+    pick-false false = refl
+
+-- A byte from 1 to 8 is the first that counts.
+few-front : (b : ℕ) (bs : List ℕ) → b ≤ 8 → isText (b ∷ bs) ≡ false
+unfolding isText isGap isBlank
+few-front b bs h =
+    rw (
+      ne-eqb b 35 (λ p. omega arith),
+      small-digit b (omega arith),
+      ne-eqb b 10 (λ p. omega arith),
+      ne-eqb b 32 (λ p. omega arith),
+      ne-eqb b 9 (λ p. omega arith),
+      ne-eqb b 13 (λ p. omega arith),
+    )
+
+head-front : (s : List ℕ) → 3 < length s → getD s 0 0 ≤ 16 → getD s 1 0 ≤ 32 → getD s 2 0 ≤ 32 → getD s 3 0 ≤ 8 → isText s ≡ false
+head-front (a ∷ b ∷ c ∷ d ∷ s) l x y z w =
+    small-front a _ (omega arith) (small-front b _ y (small-front c _ z (few-front d s w)))
+head-front (a ∷ b ∷ c ∷ []) l x y z w = absurd (omega arith)
+head-front (a ∷ b ∷ []) l x y z w = absurd (omega arith)
+head-front (a ∷ []) l x y z w = absurd (omega arith)
+head-front [] l x y z w = absurd (omega arith)
+
+pub sheet-no-text : (s : List ℕ) {m : Module Expr} → read s ≡ ok m → isText s ≡ false
+unfolding read readSheet readHead
+sheet-no-text s e =
+    let r = bind-ok (readSheet (tree s) s) _ e in
+    let l = check-ok (leb (length s) 8192) 1 8192 _ (r .1) in
+    let h = bind-ok (readHead s) _ (l .1) in
+    let a = bind-ok (within 1 16 3 s 0) _ (h .1) in
+    let b = bind-ok (within 1 32 3 s 1) _ (a .2) in
+    let c = bind-ok (within 0 32 3 s 2) _ (b .2) in
+    let d = bind-ok (within 1 8 3 s 3) _ (c .2) in
+    let i = within-ok 1 16 3 s 0 (a .1) in
+    let j = within-ok 1 32 3 s 1 (b .1) in
+    let k = within-ok 0 32 3 s 2 (c .1) in
+    let t = within-ok 1 8 3 s 3 (d .1) in
+    head-front s (t .below) (omega arith) (omega arith) (omega arith) (omega arith)
