@@ -1,0 +1,147 @@
+-- Laws of a line's values: each is taken within the line, and a turn of the loop takes one more. Assumes nothing.
+use mathlib.Core.Path.{_≡_, refl, sym, ap, _∙_}
+use mathlib.Core.Bool.{Bool, true, false, _&&_}
+use mathlib.Core.List.{List, [], _∷_}
+use Prim.Native.Nat.{ℕ, zero, suc, _+_, _-_, _<_, _≤_}
+use native.Mathlib.Omega.{arith}
+use borrow.Author.Tests.{ltb-true, lt-ltb, le-ltb, ltb-false, eq-eqb, ne-eqb}
+use lib.Dec.{ltb, eqb}
+use lib.ListN.{length, getD, set, drop, replicate}
+use Rattle.values.specs.declared.Value.the-variants.{Known}
+use Rattle.values.specs.Values.{pick, fits}
+use Rattle.stimulus.specs.declared.Class.{Class}
+use Rattle.stimulus.specs.declared.Class.the-variants.{Separator, Word}
+use Rattle.stimulus.specs.declared.Number.{Number}
+use Rattle.stimulus.specs.declared.Entry.{Entry}
+use Rattle.stimulus.specs.declared.Taken.{Taken}
+use Rattle.stimulus.specs.Words.{runEnd, ended}
+use Rattle.stimulus.specs.Numbers.{numberOf, isX, isHex}
+use Rattle.stimulus.specs.Lines.{entry, fitted, entryOf, took, wordAt, taken, slots, surplus, lineWith, valuesFrom, valuesOf, firstPlace, lineOf}
+use Rattle.stimulus.proofs.Runs.{run-inside, ended-not}
+
+-- ---- slots
+
+pub slots-few : (inputs : ℕ) → slots inputs ≤ 16
+unfolding slots
+slots-few inputs = by (ltb inputs 16) refl
+  where
+    by : (t : Bool) → ltb inputs 16 ≡ t → slots inputs ≤ 16
+    by true e = let h = ltb-true inputs 16 e in rw e (omega arith)
+    by false e = rw e (omega arith)
+
+-- ---- fitted, entryOf, by row
+
+module _ (w : ℕ) (a : Number) where
+  pub fitted-bad : a .good ≡ false → entry 2 false 0 ≡ fitted w a
+  unfolding fitted
+  fitted-bad e = rw e
+
+  module _ (e : a .good ≡ true) where
+    pub fitted-long : 4294967296 ≤ a .n → entry 3 false 0 ≡ fitted w a
+    unfolding fitted
+    fitted-long h = rw (e, le-ltb (a .n) 4294967296 h)
+
+    pub fitted-wide : a .n < 4294967296 → fits w (Known (a .n)) ≡ false → entry 3 false 0 ≡ fitted w a
+    unfolding fitted
+    fitted-wide h f = rw (e, lt-ltb (a .n) 4294967296 h, f)
+
+    pub fitted-is : a .n < 4294967296 → fits w (Known (a .n)) ≡ true → entry 0 false (a .n) ≡ fitted w a
+    unfolding fitted
+    fitted-is h f = rw (e, lt-ltb (a .n) 4294967296 h, f)
+
+module _ (w : ℕ) (word : List ℕ) where
+  pub entry-x : isX word ≡ true → entry 0 true 0 ≡ entryOf w word
+  unfolding entryOf
+  entry-x e = rw e
+
+  pub entry-hex : isX word ≡ false → isHex word ≡ true → fitted w (numberOf true (drop 2 word)) ≡ entryOf w word
+  unfolding entryOf
+  entry-hex e f = rw (e, f)
+
+  pub entry-decimal : isX word ≡ false → isHex word ≡ false → fitted w (numberOf false (drop 0 word)) ≡ entryOf w word
+  unfolding entryOf
+  entry-decimal e f = rw (e, f)
+
+-- ---- taken
+
+module _ (line : List ℕ) (at w p : ℕ) (r : p ≡ runEnd Separator line at) where
+  pub taken-none : ended line p ≡ true → took p p (entry 4 false 0) ≡ taken line at w
+  unfolding taken
+  taken-none e = rw (← r, e)
+
+  pub taken-word :
+      (to : ℕ) (e : Entry) → ended line p ≡ false → to ≡ runEnd Word line p → e ≡ entryOf w (wordAt line p to) → took p to e ≡ taken line at w
+  unfolding taken
+  taken-word to e f g h = rw (← r, f, ← g, h)
+
+pub taken-inside : (line : List ℕ) (at w : ℕ) → at ≤ length line → taken line at w .to ≤ length line
+unfolding taken
+taken-inside line at w h = by (ended line (runEnd Separator line at)) refl
+  where
+    by : (t : Bool) → ended line (runEnd Separator line at) ≡ t → taken line at w .to ≤ length line
+    by true e = rw e (run-inside Separator line at h)
+    by false e = rw e (run-inside Word line (runEnd Separator line at) (run-inside Separator line at h))
+
+-- ---- valuesFrom
+
+module _ (line widths : List ℕ) (n k at : ℕ) (ns : List ℕ) (xs : List Bool) where
+  -- One value more is taken, or one that cannot be.
+  module _ (t : Taken) (e : t ≡ taken line at (getD widths k 0)) (l : k < n) where
+    pub values-turn :
+        (slot : ℕ) → slot ≡ k → t .error ≡ 0 →
+        valuesFrom line widths (n - k) k at ns xs
+        ≡ valuesFrom line widths (n - (k + 1)) (k + 1) (t .to) (set ns slot (t .number)) (set xs slot (t .unknown))
+    unfolding valuesFrom
+    values-turn slot p z =
+        let m : n - k ≡ suc (n - (k + 1)) = omega arith in rw (m, ← e, p, eq-eqb (t .error) 0 z)
+
+    pub values-stop :
+        (t .error ≡ 0 → ⊥) → valuesFrom line widths (n - k) k at ns xs ≡ lineWith (t .error) (t .column) k ns xs
+    unfolding valuesFrom
+    values-stop z = let m : n - k ≡ suc (n - (k + 1)) = omega arith in rw (m, ← e, ne-eqb (t .error) 0 z)
+
+  pub values-done :
+      (p x : ℕ) → p ≡ runEnd Separator line at → x ≡ surplus line p → n ≤ k →
+      valuesFrom line widths (n - k) k at ns xs ≡ lineWith x (p + 1) k ns xs
+  unfolding valuesFrom
+  values-done p x r e l = let m : n - k ≡ 0 = omega arith in rw (m, ← r, e)
+
+-- ---- lineOf
+
+module _ (line widths : List ℕ) (inputs p : ℕ) (r : p ≡ runEnd Separator line 0) where
+  pub line-none :
+      ended line p ≡ true → lineWith 1 (p + 1) 1 (replicate 16 0) (replicate 16 false) ≡ lineOf line widths inputs
+  unfolding lineOf
+  line-none e = rw (← r, e)
+
+  pub line-some : ended line p ≡ false → valuesOf line widths inputs (firstPlace line inputs p) ≡ lineOf line widths inputs
+  unfolding lineOf
+  line-some e = rw (← r, e)
+
+-- ---- firstPlace
+
+module _ (line : List ℕ) (inputs p : ℕ) where
+  pub first-many : 2 ≤ inputs → p ≡ firstPlace line inputs p
+  unfolding firstPlace
+  first-many h = rw (le-ltb inputs 2 h)
+
+  pub first-other : inputs < 2 → (getD line p 0 ≡ 45 → ⊥) → p ≡ firstPlace line inputs p
+  unfolding firstPlace
+  first-other h e = rw (lt-ltb inputs 2 h, ne-eqb (getD line p 0) 45 e)
+
+  pub first-long : inputs < 2 → getD line p 0 ≡ 45 → (runEnd Word line p ≡ p + 1 → ⊥) → p ≡ firstPlace line inputs p
+  unfolding firstPlace
+  first-long h e f = rw (lt-ltb inputs 2 h, eq-eqb (getD line p 0) 45 e, ne-eqb (runEnd Word line p) (p + 1) f)
+
+  pub first-dash : inputs < 2 → getD line p 0 ≡ 45 → runEnd Word line p ≡ p + 1 → p + 1 ≡ firstPlace line inputs p
+  unfolding firstPlace
+  first-dash h e f = rw (lt-ltb inputs 2 h, eq-eqb (getD line p 0) 45 e, eq-eqb (runEnd Word line p) (p + 1) f)
+
+pub first-inside : (line : List ℕ) (inputs p : ℕ) → p < length line → firstPlace line inputs p ≤ length line
+unfolding firstPlace
+first-inside line inputs p h =
+    pick-le (ltb inputs 2) (pick (eqb (getD line p 0) 45 && eqb (runEnd Word line p) (p + 1)) (p + 1) p) p (length line) (pick-le (eqb (getD line p 0) 45 && eqb (runEnd Word line p) (p + 1)) (p + 1) p (length line) (omega arith) (omega arith)) (omega arith)
+  where
+    pick-le : (t : Bool) (a b n : ℕ) → a ≤ n → b ≤ n → pick t a b ≤ n
+    pick-le true a b n x y = x
+    pick-le false a b n x y = y

@@ -1,0 +1,110 @@
+-- Samples, computed from the definitions. Assumes nothing.
+use mathlib.Core.Path.{_≡_, refl}
+use mathlib.Core.Bool.{true, false}
+use mathlib.Core.List.{List, [], _∷_}
+use Prim.Native.Nat.{ℕ}
+use Rattle.values.specs.Values.{fits}
+use Rattle.hextext.specs.Characters.{digitOf, isBlank}
+use Rattle.stimulus.specs.Words.{separates, isNamed, inClass, span, runEnd, ended}
+use Rattle.stimulus.specs.Numbers.{grown, grownBy, numberOf, isLetterX, isX, isHex}
+use Rattle.stimulus.specs.Lines.{fitted, entryOf, taken, slots, surplus, lineWith, valuesFrom, valuesOf, firstPlace, lineOf}
+use Rattle.stimulus.specs.Names.{below, variableOf, nameLine, nameError, nameAfter, nameOf}
+
+-- ---- lines of inputs: the clock, and three inputs of 8, 8 and 4 bits
+
+abbrev widths : List ℕ
+widths = 1 ∷ 8 ∷ 8 ∷ 4 ∷ []
+
+-- `12, 0x1F x # c`
+pub sample-line :
+    lineOf (49 ∷ 50 ∷ 44 ∷ 32 ∷ 48 ∷ 120 ∷ 49 ∷ 70 ∷ 32 ∷ 120 ∷ 32 ∷ 35 ∷ 32 ∷ 99 ∷ []) widths 4
+    ≡ lineWith 0 12 4
+    (0 ∷ 12 ∷ 31 ∷ 0 ∷ 0 ∷ 0 ∷ 0 ∷ 0 ∷ 0 ∷ 0 ∷ 0 ∷ 0 ∷ 0 ∷ 0 ∷ 0 ∷ 0 ∷ [])
+    (false ∷ false ∷ false ∷ true ∷ false ∷ false ∷ false ∷ false ∷ false ∷ false ∷ false ∷ false ∷ false ∷ false ∷ false ∷ false ∷ [])
+unfolding isX isHex isLetterX numberOf grownBy grown digitOf fitted entryOf fits taken runEnd span inClass separates isBlank ended slots surplus valuesFrom valuesOf firstPlace lineOf
+sample-line = refl
+
+-- `# c`: no cycle
+pub sample-comment :
+    lineOf (32 ∷ 35 ∷ 32 ∷ 99 ∷ []) widths 4
+    ≡ lineWith 1 2 1
+    (0 ∷ 0 ∷ 0 ∷ 0 ∷ 0 ∷ 0 ∷ 0 ∷ 0 ∷ 0 ∷ 0 ∷ 0 ∷ 0 ∷ 0 ∷ 0 ∷ 0 ∷ 0 ∷ [])
+    (false ∷ false ∷ false ∷ false ∷ false ∷ false ∷ false ∷ false ∷ false ∷ false ∷ false ∷ false ∷ false ∷ false ∷ false ∷ false ∷ [])
+unfolding isX isHex isLetterX numberOf grownBy grown digitOf fitted entryOf fits taken runEnd span inClass separates isBlank ended slots surplus valuesFrom valuesOf firstPlace lineOf
+sample-comment = refl
+
+-- `1 0x 2`: the second is no number
+pub sample-no-number :
+    lineOf (49 ∷ 32 ∷ 48 ∷ 120 ∷ 32 ∷ 50 ∷ []) widths 4
+    ≡ lineWith 2 3 2
+    (0 ∷ 1 ∷ 0 ∷ 0 ∷ 0 ∷ 0 ∷ 0 ∷ 0 ∷ 0 ∷ 0 ∷ 0 ∷ 0 ∷ 0 ∷ 0 ∷ 0 ∷ 0 ∷ [])
+    (false ∷ false ∷ false ∷ false ∷ false ∷ false ∷ false ∷ false ∷ false ∷ false ∷ false ∷ false ∷ false ∷ false ∷ false ∷ false ∷ [])
+unfolding isX isHex isLetterX numberOf grownBy grown digitOf fitted entryOf fits taken runEnd span inClass separates isBlank ended slots surplus valuesFrom valuesOf firstPlace lineOf
+sample-no-number = refl
+
+-- `1 2 16`: the third has 4 bits
+pub sample-wide :
+    lineOf (49 ∷ 32 ∷ 50 ∷ 32 ∷ 49 ∷ 54 ∷ []) widths 4
+    ≡ lineWith 3 5 3
+    (0 ∷ 1 ∷ 2 ∷ 0 ∷ 0 ∷ 0 ∷ 0 ∷ 0 ∷ 0 ∷ 0 ∷ 0 ∷ 0 ∷ 0 ∷ 0 ∷ 0 ∷ 0 ∷ [])
+    (false ∷ false ∷ false ∷ false ∷ false ∷ false ∷ false ∷ false ∷ false ∷ false ∷ false ∷ false ∷ false ∷ false ∷ false ∷ false ∷ [])
+unfolding isX isHex isLetterX numberOf grownBy grown digitOf fitted entryOf fits taken runEnd span inClass separates isBlank ended slots surplus valuesFrom valuesOf firstPlace lineOf
+sample-wide = refl
+
+-- `1 2`
+pub sample-few :
+    lineOf (49 ∷ 32 ∷ 50 ∷ []) widths 4
+    ≡ lineWith 4 4 3
+    (0 ∷ 1 ∷ 2 ∷ 0 ∷ 0 ∷ 0 ∷ 0 ∷ 0 ∷ 0 ∷ 0 ∷ 0 ∷ 0 ∷ 0 ∷ 0 ∷ 0 ∷ 0 ∷ [])
+    (false ∷ false ∷ false ∷ false ∷ false ∷ false ∷ false ∷ false ∷ false ∷ false ∷ false ∷ false ∷ false ∷ false ∷ false ∷ false ∷ [])
+unfolding isX isHex isLetterX numberOf grownBy grown digitOf fitted entryOf fits taken runEnd span inClass separates isBlank ended slots surplus valuesFrom valuesOf firstPlace lineOf
+sample-few = refl
+
+-- `1 2 3 4`
+pub sample-many :
+    lineOf (49 ∷ 32 ∷ 50 ∷ 32 ∷ 51 ∷ 32 ∷ 52 ∷ []) widths 4
+    ≡ lineWith 5 7 4
+    (0 ∷ 1 ∷ 2 ∷ 3 ∷ 0 ∷ 0 ∷ 0 ∷ 0 ∷ 0 ∷ 0 ∷ 0 ∷ 0 ∷ 0 ∷ 0 ∷ 0 ∷ 0 ∷ [])
+    (false ∷ false ∷ false ∷ false ∷ false ∷ false ∷ false ∷ false ∷ false ∷ false ∷ false ∷ false ∷ false ∷ false ∷ false ∷ false ∷ [])
+unfolding isX isHex isLetterX numberOf grownBy grown digitOf fitted entryOf fits taken runEnd span inClass separates isBlank ended slots surplus valuesFrom valuesOf firstPlace lineOf
+sample-many = refl
+
+-- `4294967296`: past 32 bits
+pub sample-long :
+    lineOf (52 ∷ 50 ∷ 57 ∷ 52 ∷ 57 ∷ 54 ∷ 55 ∷ 50 ∷ 57 ∷ 54 ∷ []) widths 2
+    ≡ lineWith 3 1 1
+    (0 ∷ 0 ∷ 0 ∷ 0 ∷ 0 ∷ 0 ∷ 0 ∷ 0 ∷ 0 ∷ 0 ∷ 0 ∷ 0 ∷ 0 ∷ 0 ∷ 0 ∷ 0 ∷ [])
+    (false ∷ false ∷ false ∷ false ∷ false ∷ false ∷ false ∷ false ∷ false ∷ false ∷ false ∷ false ∷ false ∷ false ∷ false ∷ false ∷ [])
+unfolding isX isHex isLetterX numberOf grownBy grown digitOf fitted entryOf fits taken runEnd span inClass separates isBlank ended slots surplus valuesFrom valuesOf firstPlace lineOf
+sample-long = refl
+
+-- `-`, where there is no input but the clock
+pub sample-dash :
+    lineOf (45 ∷ []) widths 1
+    ≡ lineWith 0 2 1
+    (0 ∷ 0 ∷ 0 ∷ 0 ∷ 0 ∷ 0 ∷ 0 ∷ 0 ∷ 0 ∷ 0 ∷ 0 ∷ 0 ∷ 0 ∷ 0 ∷ 0 ∷ 0 ∷ [])
+    (false ∷ false ∷ false ∷ false ∷ false ∷ false ∷ false ∷ false ∷ false ∷ false ∷ false ∷ false ∷ false ∷ false ∷ false ∷ false ∷ [])
+unfolding isX isHex isLetterX numberOf grownBy grown digitOf fitted entryOf fits taken runEnd span inClass separates isBlank ended slots surplus valuesFrom valuesOf firstPlace lineOf
+sample-dash = refl
+
+-- ---- lines of the names file: 3 inputs, 2 registers, 1 wire
+
+-- `r1 count # c`: variable 4
+pub sample-name : nameOf (114 ∷ 49 ∷ 32 ∷ 99 ∷ 111 ∷ 117 ∷ 110 ∷ 116 ∷ 32 ∷ 35 ∷ 32 ∷ 99 ∷ []) 3 2 1 ≡ nameLine 0 4 4 3 8
+unfolding nameOf nameAfter nameError variableOf below numberOf grownBy grown digitOf runEnd span inClass isNamed separates isBlank ended
+sample-name = refl
+
+-- a blank line
+pub sample-blank : nameOf (32 ∷ []) 3 2 1 ≡ nameLine 1 2 0 1 1
+unfolding nameOf nameAfter nameError variableOf below numberOf grownBy grown digitOf runEnd span inClass isNamed separates isBlank ended
+sample-blank = refl
+
+-- `w1 same`: there is one wire
+pub sample-no-variable : nameOf (119 ∷ 49 ∷ 32 ∷ 115 ∷ 97 ∷ 109 ∷ 101 ∷ []) 3 2 1 ≡ nameLine 2 1 0 3 7
+unfolding nameOf nameAfter nameError variableOf below numberOf grownBy grown digitOf runEnd span inClass isNamed separates isBlank ended
+sample-no-variable = refl
+
+-- `i0 9th`
+pub sample-no-name : nameOf (105 ∷ 48 ∷ 32 ∷ 57 ∷ 116 ∷ 104 ∷ []) 3 2 1 ≡ nameLine 3 4 0 3 6
+unfolding nameOf nameAfter nameError variableOf below numberOf grownBy grown digitOf runEnd span inClass isNamed separates isBlank ended
+sample-no-name = refl

@@ -1,0 +1,90 @@
+-- A line of inputs: the values of inputs 1 up in their order, separated by blanks and commas, with a comment behind them or none.
+use mathlib.Core.Bool.{Bool, true, false, _&&_}
+use mathlib.Core.List.{List}
+use Prim.Native.Nat.{ℕ, zero, suc, _+_, _-_}
+use lib.ListN.{length, getD, set, take, drop, replicate}
+use lib.Dec.{ltb, eqb}
+use Rattle.values.specs.declared.Value.the-variants.{Known}
+use Rattle.values.specs.Values.{pick, fits}
+use Rattle.stimulus.specs.declared.Class.the-variants.{Separator, Word}
+use Rattle.stimulus.specs.declared.Number.{Number}
+use Rattle.stimulus.specs.declared.Entry.{Entry}
+use Rattle.stimulus.specs.declared.Taken.{Taken}
+use Rattle.stimulus.specs.declared.Line.{Line}
+use Rattle.stimulus.specs.Words.{runEnd, ended}
+use Rattle.stimulus.specs.Numbers.{numberOf, isX, isHex}
+
+-- ---- entryOf: a word as a value of width w. Error 2: it is no number; 3: it is too wide.
+
+abbrev pub entry : ℕ → Bool → ℕ → Entry
+entry error unknown n = record { error = error; unknown = unknown; number = n }
+
+unfoldable pub fitted : ℕ → Number → Entry
+fitted w a =
+    pick (a .good)
+    (pick (ltb (a .n) 4294967296 && fits w (Known (a .n))) (entry 0 false (a .n)) (entry 3 false 0))
+    (entry 2 false 0)
+
+unfoldable pub entryOf : ℕ → List ℕ → Entry
+entryOf w word =
+    pick (isX word)
+    (entry 0 true 0)
+    (pick (isHex word) (fitted w (numberOf true (drop 2 word))) (fitted w (numberOf false (drop 0 word))))
+
+-- ---- taken: the value at a place of the line, or behind the separators there. Error 4: there is none.
+
+abbrev pub took : ℕ → ℕ → Entry → Taken
+took p to e =
+    record { error = e .error; column = p + 1; to = to; unknown = e .unknown; number = e .number }
+
+-- The word from one place to another.
+abbrev pub wordAt : List ℕ → ℕ → ℕ → List ℕ
+wordAt line p to = take (to - p) (drop p line)
+
+unfoldable pub taken : List ℕ → ℕ → ℕ → Taken
+taken line at w =
+    let p = runEnd Separator line at in
+    let to = runEnd Word line p in
+    pick (ended line p) (took p p (entry 4 false 0)) (took p to (entryOf w (wordAt line p to)))
+
+-- ---- valuesOf: as many values as there are inputs behind the clock, and nothing more (error 5)
+
+-- A row has 16 slots.
+unfoldable pub slots : ℕ → ℕ
+slots inputs = pick (ltb inputs 16) inputs 16
+
+abbrev pub lineWith : ℕ → ℕ → ℕ → List ℕ → List Bool → Line
+lineWith error column count ns xs =
+    record { error = error; column = column; count = count; value = ns; unknown = xs }
+
+-- A value where the line should end is one too many.
+unfoldable pub surplus : List ℕ → ℕ → ℕ
+surplus line p = pick (ended line p) 0 5
+
+module _ (line widths : List ℕ) where
+  -- n values from input k on, from a place on, put in their slots.
+  unfoldable pub valuesFrom : ℕ → ℕ → ℕ → List ℕ → List Bool → Line
+  valuesFrom zero k at ns xs =
+      let p = runEnd Separator line at in lineWith (surplus line p) (p + 1) k ns xs
+  valuesFrom (suc n) k at ns xs =
+      let t = taken line at (getD widths k 0) in
+      pick (eqb (t .error) 0)
+      (valuesFrom n (k + 1) (t .to) (set ns k (t .number)) (set xs k (t .unknown)))
+      (lineWith (t .error) (t .column) k ns xs)
+
+  -- The clock's slot in front stays 0.
+  unfoldable pub valuesOf : ℕ → ℕ → Line
+  valuesOf inputs at = valuesFrom (slots inputs - 1) 1 at (replicate 16 0) (replicate 16 false)
+
+-- ---- lineOf: a blank line or a comment is no cycle (error 1). Where there is no input but the clock, a cycle is written `-` (45).
+
+unfoldable pub firstPlace : List ℕ → ℕ → ℕ → ℕ
+firstPlace line inputs p =
+    pick (ltb inputs 2) (pick (eqb (getD line p 0) 45 && eqb (runEnd Word line p) (p + 1)) (p + 1) p) p
+
+unfoldable pub lineOf : List ℕ → List ℕ → ℕ → Line
+lineOf line widths inputs =
+    let p = runEnd Separator line 0 in
+    pick (ended line p)
+    (lineWith 1 (p + 1) 1 (replicate 16 0) (replicate 16 false))
+    (valuesOf line widths inputs (firstPlace line inputs p))

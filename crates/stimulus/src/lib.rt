@@ -1,0 +1,265 @@
+// The lines of the two files that stand beside a sheet: a line of inputs, which is a clock cycle, and a line of the names file.
+// Each function equals its definition in specs/, for every line.
+mod names;
+mod numbers;
+mod words;
+
+use numbers::is_hex;
+use numbers::is_x;
+use numbers::number_of;
+use values::Value;
+use words::at_end;
+use words::byte_at;
+use words::place;
+use words::run_end;
+ghost use mathlib.Core.Path.{_≡_};
+ghost use lib.ListN.{length};
+ghost use Prim.Native.Nat.{_≤_};
+ghost use Rattle.stimulus.specs.Lines.{fitted, entryOf, taken, slots, surplus, firstPlace, valuesOf, lineOf};
+ghost use Rattle.stimulus.specs.Names.{nameOf};
+
+// Kinds of characters: blanks; blanks and commas; what a word is made of, all others but `#`; letters, digits and `_`.
+pub enum Class {
+    Blank,
+    Separator,
+    Word,
+    Name,
+}
+
+// What a line of inputs holds. error: 0 a value for each input, 1 no cycle (blank, or a comment), 2 a value that is no number,
+// 3 one too wide for its input, 4 too few values, 5 too many; column, from 1: of the value concerned, for 4 of the line's end.
+// Input k's value stands in slot k, the clock's slot 0 is 0; count: the slots that are filled, the clock's with them.
+pub struct Line {
+    pub error: u8,
+    pub column: usize,
+    pub count: u8,
+    pub value: [u32; 16],
+    pub unknown: [bool; 16],
+}
+
+// What a line of the names file holds. error: 0 a variable and its name, line[from..to]; 1 none (blank, or a comment); 2 no such
+// variable; 3 a name that is not allowed. column, from 1: of the word or the name concerned.
+pub struct NameLine {
+    pub error: u8,
+    pub column: usize,
+    pub variable: u8,
+    pub from: usize,
+    pub to: usize,
+}
+
+// Digits that were read: was each a digit, and their number.
+pub struct Number {
+    pub good: bool,
+    pub n: u64,
+}
+
+// A word read as a value: the error, 0, 2 or 3; is it x; the number, 0 under x.
+pub struct Entry {
+    pub error: u8,
+    pub unknown: bool,
+    pub number: u32,
+}
+
+// A value taken from a line: its error, 0, 2, 3 or 4; its column; the place behind it; the value.
+pub struct Taken {
+    pub error: u8,
+    pub column: usize,
+    pub to: usize,
+    pub unknown: bool,
+    pub number: u32,
+}
+
+// ---- values
+
+// A number as a value of a width.
+fn fitted(width: u8, a: Number) -> Entry
+    ensures { λ r. ⌜ r ≡ fitted width a ⌝ }
+{
+    if !a.good {
+        return Entry {
+            error: 2,
+            unknown: false,
+            number: 0,
+        };
+    }
+    let n = a.n;
+    if 4294967296 <= n {
+        return Entry {
+            error: 3,
+            unknown: false,
+            number: 0,
+        };
+    }
+    let number = n as u32;
+    if !values::fits(width, Value::Known(number)) {
+        return Entry {
+            error: 3,
+            unknown: false,
+            number: 0,
+        };
+    }
+    Entry {
+        error: 0,
+        unknown: false,
+        number,
+    }
+}
+
+// A word as a value of a width.
+fn entry_of(width: u8, word: &[u8]) -> Entry
+    ensures { λ r. ⌜ r ≡ entryOf width (now (word .entry)) ⌝ }
+{
+    if is_x(word) {
+        return Entry {
+            error: 0,
+            unknown: true,
+            number: 0,
+        };
+    }
+    if is_hex(word) {
+        let a = number_of(true, word, 2);
+        return fitted(width, a);
+    }
+    let a = number_of(false, word, 0);
+    fitted(width, a)
+}
+
+// The value at a place of the line, or behind the separators there.
+fn take_value(line: &[u8], at: usize, width: u8) -> Taken
+    requires { ⌜ at ≤ length (now line) ⌝ }
+    ensures { λ r. ⌜ r ≡ taken (now (line .entry)) at width ⌝ }
+{
+    let p = run_end(line, at, Class::Separator);
+    if at_end(line, p) {
+        return Taken {
+            error: 4,
+            column: p + 1,
+            to: p,
+            unknown: false,
+            number: 0,
+        };
+    }
+    let to = run_end(line, p, Class::Word);
+    let word = &line[p..to];
+    let e = entry_of(width, word);
+    Taken {
+        error: e.error,
+        column: p + 1,
+        to,
+        unknown: e.unknown,
+        number: e.number,
+    }
+}
+
+// ---- lines
+
+// The slots of a row that so many inputs take, at most 16.
+fn slots(inputs: u8) -> u8
+    ensures { λ r. ⌜ r ≡ slots inputs ⌝ }
+{
+    if inputs < 16 { inputs } else { 16 }
+}
+
+// 0 where the line ends at that place, else 5.
+fn surplus(line: &[u8], p: usize) -> u8
+    ensures { λ r. ⌜ r ≡ surplus (now (line .entry)) p ⌝ }
+{
+    if at_end(line, p) { 0 } else { 5 }
+}
+
+// The values from a place on, and nothing behind them.
+fn read_values(line: &[u8], widths: &[u8], inputs: u8, from: usize) -> Line
+    requires { ⌜ from ≤ length (now line) ⌝ }
+    ensures { λ r. ⌜ r ≡ valuesOf (now (line .entry)) (now (widths .entry)) inputs from ⌝ }
+{
+    let n = slots(inputs);
+    let mut value = [0u32; 16];
+    let mut unknown = [false; 16];
+    let mut at = from;
+    let mut k: u8 = 1;
+    while k < n {
+        let slot = place(k);
+        let t = take_value(line, at, byte_at(widths, slot));
+        if t.error != 0 {
+            return Line {
+                error: t.error,
+                column: t.column,
+                count: k,
+                value,
+                unknown,
+            };
+        }
+        value[slot] = t.number;
+        unknown[slot] = t.unknown;
+        at = t.to;
+        k += 1;
+    }
+    let p = run_end(line, at, Class::Separator);
+    let error = surplus(line, p);
+    Line {
+        error,
+        column: p + 1,
+        count: k,
+        value,
+        unknown,
+    }
+}
+
+// Where the values start. Where there is none but the clock, a cycle is written `-`.
+fn first_place(line: &[u8], inputs: u8, p: usize) -> usize
+    requires { ⌜ p ≤ length (now line) ⌝ }
+    ensures { λ r. ⌜ r ≡ firstPlace (now (line .entry)) inputs p ⌝ }
+{
+    if 2 <= inputs {
+        return p;
+    }
+    if byte_at(line, p) != 45 {
+        return p;
+    }
+    let next = p + 1;
+    let end = run_end(line, p, Class::Word);
+    if end != next {
+        return p;
+    }
+    next
+}
+
+// A line of inputs, without its line end.
+pub fn parse(line: &[u8], widths: &[u8], inputs: u8) -> Line
+    ensures { λ r. ⌜ r ≡ lineOf (now (line .entry)) (now (widths .entry)) inputs ⌝ }
+{
+    let p = run_end(line, 0, Class::Separator);
+    if at_end(line, p) {
+        return Line {
+            error: 1,
+            column: p + 1,
+            count: 1,
+            value: [0u32; 16],
+            unknown: [false; 16],
+        };
+    }
+    let from = first_place(line, inputs, p);
+    read_values(line, widths, inputs, from)
+}
+
+// ---- names
+
+// A line of the names file, without its line end.
+pub fn parse_name(line: &[u8], inputs: u8, registers: u8, wires: u8) -> NameLine
+    ensures { λ r. ⌜ r ≡ nameOf (now (line .entry)) inputs registers wires ⌝ }
+{
+    let p = run_end(line, 0, Class::Blank);
+    if at_end(line, p) {
+        return NameLine {
+            error: 1,
+            column: p + 1,
+            variable: 0,
+            from: p,
+            to: p,
+        };
+    }
+    let to = run_end(line, p, Class::Word);
+    let word = &line[p..to];
+    let v = names::variable_of(word, inputs, registers, wires);
+    names::name_after(line, p, to, v)
+}
