@@ -1,0 +1,58 @@
+-- One node of lent tables, as the code reads it.
+use Prim.Native.Nat.{ℕ, zero, suc, _+_, _-_, _*_}
+use mathlib.Core.Bool.{Bool, true, false, _&&_}
+use mathlib.Core.List.{List}
+use lib.ListN.{getD}
+use lib.Dec.{ltb, leb, eqb}
+use Rattle.values.specs.Values.{pick}
+use Rattle.nextstate.specs.Nodes.{Node, aVariable, aConstant, anUnknown, aUnary, aBinary, aConditional, aBranch, nodeAt}
+use Rattle.netlist.specs.declared.Cell.{Cell}
+use Rattle.netlist.specs.declared.Cell.the-variants.{Variable, Constant, Unknown, Unary, Binary, Conditional, Branch}
+
+-- ---- the code's answer as a node
+
+unfoldable pub nodeOf : Cell → Node
+nodeOf (Variable v) = aVariable v
+nodeOf (Constant w n) = aConstant w n
+nodeOf (Unknown w) = anUnknown w
+nodeOf (Unary o a) = aUnary o a
+nodeOf (Binary o a b) = aBinary o a b
+nodeOf (Conditional c a b) = aConditional c a b
+nodeOf (Branch c a b) = aBranch c a b
+
+-- The last clause of `nodeFrom`.
+unfoldable pub operatorOf : ℕ → ℕ → ℕ → Node
+operatorOf k a b =
+    pick (leb 11 k) (pick (leb k 12) (aUnary (k - 10) a) (pick (leb k 19) (aBinary (k - 10) a b) (anUnknown 0))) (anUnknown 0)
+
+-- ---- nodeIn: node n of the 4,096 in the lent words; past them an unknown constant of width 0, which no table may hold
+
+unfoldable pub nodeIn : List ℕ → ℕ → Node
+nodeIn ws n = pick (ltb n 4096) (nodeAt ws n) (anUnknown 0)
+
+-- ---- isOperator: is a node one that works something out, and no variable or constant?
+
+unfoldable pub isOperator : Node → Bool
+isOperator (aVariable v) = false
+isOperator (aConstant w n) = false
+isOperator (anUnknown w) = false
+isOperator (aUnary o a) = true
+isOperator (aBinary o a b) = true
+isOperator (aConditional c a b) = true
+isOperator (aBranch c a b) = true
+
+-- ---- nodeCount: one past the last node with a word that isn't 0. "What isn't filled is set to 0"; node 0, which is variable 0,
+-- has no other words and is always there.
+
+-- Are node n's four words 0?
+unfoldable pub blank : List ℕ → ℕ → Bool
+blank ws n =
+    eqb (getD ws (4 * n) 0) 0 && (eqb (getD ws (4 * n + 1) 0) 0 && (eqb (getD ws (4 * n + 2) 0) 0 && eqb (getD ws (4 * n + 3) 0) 0))
+
+-- Among the nodes below n.
+unfoldable pub countBelow : List ℕ → ℕ → ℕ
+countBelow ws zero = 1
+countBelow ws (suc n) = pick (blank ws n) (countBelow ws n) (suc n)
+
+unfoldable pub nodeCount : List ℕ → ℕ
+nodeCount ws = countBelow ws 4096

@@ -1,0 +1,4 @@
+pub mod Cells
+pub mod Uses
+pub mod Infix
+pub mod Dot
