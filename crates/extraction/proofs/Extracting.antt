@@ -145,13 +145,13 @@ module _ (s : List ℕ) (r : SheetRead) (given : r ≡ sheetAnswer (readSheet (l
           rw (rw h at (read-located s)) (rw (given, h) refl, l .0)
 
   -- An accepted sheet and its module.
-  record Accepted : Type 0 where
-    sheet-read : Sheet ℕ
-    located-as : readSheet (located s) s ≡ ok sheet-read
-    read-as : read s ≡ ok (trees s sheet-read .contents)
-    layout : r .layout ≡ layoutOf sheet-read
+  pub record Accepted : Type 0 where
+    pub sheet-read : Sheet ℕ
+    pub located-as : readSheet (located s) s ≡ ok sheet-read
+    pub read-as : read s ≡ ok (trees s sheet-read .contents)
+    pub layout : r .layout ≡ layoutOf sheet-read
 
-  accepted : r .number ≡ 0 → Accepted
+  pub accepted : r .number ≡ 0 → Accepted
   unfolding sheetAnswer mapRes
   accepted zero-number = by (readSheet (located s) s) refl
     where

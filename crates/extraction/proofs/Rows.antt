@@ -110,7 +110,7 @@ threads-more : (m : Module Expr) (k : ℕ) → waitsBelow m k ≤ waitsBelow m (
 unfolding waitsBelow
 threads-more m k = omega arith
 
-waits-below : (m : Module Expr) (n k : ℕ) → n ≤ k → waitsBelow m n ≤ waitsBelow m k
+pub waits-below : (m : Module Expr) (n k : ℕ) → n ≤ k → waitsBelow m n ≤ waitsBelow m k
 waits-below m n k h = rises (waitsBelow m) (threads-more m) n k h
 
 -- ---- a wait by its instruction and as it was fetched
@@ -196,7 +196,7 @@ module _ (s code : List ℕ) (t : Thread) (size : ℕ) where
       by true false = e
       by false c = e
 
-  below-full : (p : ℕ) (x : Filling) → x .extent .nodes ≡ 4097 → walksBelowAt s code t size p x .extent .nodes ≡ 4097
+  pub below-full : (p : ℕ) (x : Filling) → x .extent .nodes ≡ 4097 → walksBelowAt s code t size p x .extent .nodes ≡ 4097
   unfolding walksBelowAt
   below-full zero x e = e
   below-full (suc p) x e = from-full p (walksBelowAt s code t size p x) (below-full p x e)
@@ -257,7 +257,7 @@ module _ (m : Module Expr) (z : Sound m) (s code : List ℕ) (fetched : AllFetch
     from-then p inside {x} (spilled e) few = spilled (from-full s code mine size p x e)
 
     module _ (T : Tables) (r : ℕ) (here : length (T .rows) ≡ 33 * r) (room : length (T .nodes) ≤ 4096) (few : r + waitsBefore (codeOf m i) size ≤ 32) where
-      below-filled : (n : ℕ) → n ≤ size
+      pub below-filled : (n : ℕ) → n ≤ size
           → Fills (walksBelowAt s code mine size n (filling (extent (length (T .nodes)) r) (tableOf (T .nodes)) (padded 1056 (T .rows))))
           (r + waitsBefore (codeOf m i) n) (walksBelow m i n T)
       unfolding walksBelowAt walksBelow waitsBefore instrAt

@@ -75,7 +75,7 @@ fn walk_row(
 }
 
 // The walk from a place, if it is a wait.
-fn walk_from(
+pub fn walk_from(
     sheet: &[u8],
     code: &[u16; 4096],
     t: Thread,
@@ -127,7 +127,7 @@ fn walk_thread(
 }
 
 // The marks of either set.
-fn both(a: u32, b: u32) -> u32
+pub fn both(a: u32, b: u32) -> u32
     ensures { λ r. ⌜ r ≡ mask (either (bits a) (bits b)) ⌝ }
 {
     masks::union(a, b)

@@ -1,6 +1,6 @@
 // Extraction (document 01, "Extraction and the cycle run"): the next-state expressions of a sheet, as nodes and rows in lent words.
 mod express;
-mod filling;
+pub mod filling;
 mod walk;
 
 use filling::put_variables;

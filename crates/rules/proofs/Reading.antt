@@ -63,7 +63,7 @@ marks-then {k} {rs} {f = f} {g = g} a b =
     }
 
 module _ (ws s : List ℕ) (few : length ws ≤ 80) (k : ℕ) (low : k < 32) where
-  instr-marks : {x : Instr Expr} {y : Instruction} → Expressed ws s x y → (rs : List ℕ) → length rs ≡ 80
+  pub instr-marks : {x : Instr Expr} {y : Instruction} → Expressed ws s x y → (rs : List ℕ) → length rs ≡ 80
       → Marks k rs (markInstr s k y rs) (λ v. readsAt v x)
   unfolding markInstr readsAt
   instr-marks of-wait rs long = marks-none k rs long
@@ -122,7 +122,7 @@ reading-more m n {rs} {ss} b x =
 
 module _ {s : List ℕ} {m : Module Expr} {starts sizes code readers : List ℕ} {watched : List Bool}
     (z : Sound m) (h : Holding s m starts sizes code readers watched) (e : Expressions s m code) where
-  few-widths : length (m .scope .widths) ≤ 80
+  pub few-widths : length (m .scope .widths) ≤ 80
   few-widths = omega (arith, z .variables, z .inputs-most, z .registers-most, z .wires-most)
 
   thread-reading : (i : ℕ) → i < length (m .threads) → (rs : List ℕ) → length rs ≡ 80

@@ -62,11 +62,11 @@ marked-at : (ms : List ℕ) (i r : ℕ) → i < 8 → marked ms i r ≡ getD (bi
 unfolding marked
 marked-at ms i r h = simp (lt-ltb i 8 h)
 
-entry-at : (rs : List ℕ) (v : ℕ) → v < 80 → entry rs v ≡ getD rs v 0
+pub entry-at : (rs : List ℕ) (v : ℕ) → v < 80 → entry rs v ≡ getD rs v 0
 unfolding entry
 entry-at rs v h = simp (lt-ltb v 80 h)
 
-sizeOf-at : (sizes : List ℕ) (i : ℕ) → i < 8 → sizeOf sizes i ≡ atMost 256 (getD sizes i 0)
+pub sizeOf-at : (sizes : List ℕ) (i : ℕ) → i < 8 → sizeOf sizes i ≡ atMost 256 (getD sizes i 0)
 unfolding sizeOf
 sizeOf-at sizes i h = simp (lt-ltb i 8 h)
 
@@ -78,7 +78,7 @@ and-swap false false c = refl
 -- ---- waits, by the instruction that was fetched
 
 module _ {s ws : List ℕ} where
-  other-fetched : {x : Instr Expr} {y : Instruction} → Fetched s ws x y → otherWaitOf y ≡ otherWaitAt x
+  pub other-fetched : {x : Instr Expr} {y : Instruction} → Fetched s ws x y → otherWaitOf y ≡ otherWaitAt x
   unfolding otherWaitOf otherWaitAt clockEdge termsOf
   other-fetched (a-wait {ts = []} h) = refl
   other-fetched (a-wait {ts = t ∷ []} h) = refl
@@ -121,22 +121,22 @@ module _ {s : List ℕ} {m : Module Expr} {starts sizes code readers : List ℕ}
   abbrev reading : List ℕ
   reading = readingBelow s code sizes (length (m .threads)) (replicate 80 0)
 
-  low : (i : ℕ) → i < threads → i < 8
+  pub low : (i : ℕ) → i < threads → i < 8
   low i l = omega (arith, z .threads-most)
 
-  marks-plain : (i r : ℕ) → i < threads → marked ps i r ≡ sets m i (inputs + r)
+  pub marks-plain : (i r : ℕ) → i < threads → marked ps i r ≡ sets m i (inputs + r)
   marks-plain i r l = marked-at ps i r (low i l) ∙ plain-law z h (replicate 8 0) refl i r l
 
-  marks-later : (i r : ℕ) → i < threads → marked ls i r ≡ defers m i (inputs + r)
+  pub marks-later : (i r : ℕ) → i < threads → marked ls i r ≡ defers m i (inputs + r)
   marks-later i r l = marked-at ls i r (low i l) ∙ later-law z h (replicate 8 0) refl i r l
 
   -- ---- 12
 
-  marks-both : (i r : ℕ) → i < threads → writesAt ps ls i r ≡ writes m i (inputs + r)
+  pub marks-both : (i r : ℕ) → i < threads → writesAt ps ls i r ≡ writes m i (inputs + r)
   unfolding writesAt writes
   marks-both i r l = λ j. (marks-plain i r l j || marks-later i r l j)
 
-  again : (i r : ℕ) → i < threads
+  pub again : (i r : ℕ) → i < threads
       → writesToo ps ls threads r i
       ≡ anyBelow threads (λ j. not (eqb i j) && (writes m i (inputs + r) && writes m j (inputs + r)))
   unfolding writesToo writtenAgain otherWrites
@@ -148,7 +148,7 @@ module _ {s : List ℕ} {m : Module Expr} {starts sizes code readers : List ℕ}
       (λ j k. ap (λ t. writes m i (inputs + r) && (not (eqb i j) && t)) (marks-both j r k)
       ∙ and-swap (writes m i (inputs + r)) (not (eqb i j)) (writes m j (inputs + r)))
 
-  two-law : twoWritersAt ps ls threads registers ≡ twoWriters m
+  pub two-law : twoWritersAt ps ls threads registers ≡ twoWriters m
   unfolding twoWritersAt writtenTwice twoWriters someRegister someThread
   two-law =
       any-same (writtenTwice ps ls threads)
@@ -159,15 +159,15 @@ module _ {s : List ℕ} {m : Module Expr} {starts sizes code readers : List ℕ}
 
   -- ---- 13
 
-  by-plain : (r : ℕ) → writtenBy ps threads r ≡ someThread m (λ i. sets m i (inputs + r))
+  pub by-plain : (r : ℕ) → writtenBy ps threads r ≡ someThread m (λ i. sets m i (inputs + r))
   unfolding writtenBy someThread
   by-plain r = any-same (λ i. marked ps i r) (λ i. sets m i (inputs + r)) threads (λ i l. marks-plain i r l)
 
-  by-later : (r : ℕ) → writtenBy ls threads r ≡ someThread m (λ i. defers m i (inputs + r))
+  pub by-later : (r : ℕ) → writtenBy ls threads r ≡ someThread m (λ i. defers m i (inputs + r))
   unfolding writtenBy someThread
   by-later r = any-same (λ i. marked ls i r) (λ i. defers m i (inputs + r)) threads (λ i l. marks-later i r l)
 
-  both-law : bothWaysAt ps ls threads registers ≡ bothWays m
+  pub both-law : bothWaysAt ps ls threads registers ≡ bothWays m
   unfolding bothWaysAt writtenBoth bothWays someRegister
   both-law =
       any-same (writtenBoth ps ls threads)
@@ -176,7 +176,7 @@ module _ {s : List ℕ} {m : Module Expr} {starts sizes code readers : List ℕ}
 
   -- ---- 14
 
-  by-thread : Reading m threads reading
+  pub by-thread : Reading m threads reading
   by-thread = reading-law z h e threads (le-refl threads)
 
   threads-reading : (v : ℕ) → v < 80 → anyMark (bits (getD reading v 0)) ≡ someThread m (λ j. threadReads m j v)
@@ -198,14 +198,14 @@ module _ {s : List ℕ} {m : Module Expr} {starts sizes code readers : List ℕ}
       (λ j l. mark-clear bs i j ∙ ap (λ t. not (eqb i j) && t) (by-thread .own v j k l))
       (λ j l. clear-past bs i j (by-thread .none v j l))
 
-  elsewhere : (i v : ℕ) → v < 80 → readElsewhereAt reading readers i v ≡ readElsewhere m i v
+  pub elsewhere : (i v : ℕ) → v < 80 → readElsewhereAt reading readers i v ≡ readElsewhere m i v
   unfolding readElsewhereAt readElsewhere
   elsewhere i v k =
       let a = ap (λ (w : ℕ). anyMark (set (bits w) i false)) (entry-at reading v k) ∙ others-reading i v k in
       let b = ap (λ (w : ℕ). anyMark (bits w)) (entry-at readers v k) ∙ wires-reading v k in
       λ j. (a j || b j)
 
-  shared-law : plainlySharedAt ps reading readers threads inputs registers ≡ plainlyShared m
+  pub shared-law : plainlySharedAt ps reading readers threads inputs registers ≡ plainlyShared m
   unfolding plainlySharedAt sharedAt sharedBy plainlyShared someRegister someThread
   shared-law =
       any-same (λ r. sharedAt ps reading readers threads r (inputs + r))
@@ -216,7 +216,7 @@ module _ {s : List ℕ} {m : Module Expr} {starts sizes code readers : List ℕ}
 
   -- ---- 15
 
-  other-law : otherWaitBelow s code sizes threads ≡ otherWait m
+  pub other-law : otherWaitBelow s code sizes threads ≡ otherWait m
   unfolding otherWaitBelow otherWaitIn otherWait someThread
   other-law =
       any-same (λ i. otherWaitIn s code i (sizeOf sizes i)) (λ i. anyInstr otherWaitAt (codeOf m i)) threads
@@ -225,11 +225,11 @@ module _ {s : List ℕ} {m : Module Expr} {starts sizes code readers : List ℕ}
 
   -- ---- 18, 19
 
-  clock-law : clockReadAt reading readers ≡ clockRead m
+  pub clock-law : clockReadAt reading readers ≡ clockRead m
   unfolding clockReadAt clockRead
   clock-law = λ j. (threads-reading 0 (omega arith) j || wires-reading 0 (omega arith) j)
 
-  upward-at : (k j : ℕ) → k < wires → j < wires
+  pub upward-at : (k j : ℕ) → k < wires → j < wires
       → upwardAt readers k (inputs + registers + j) j ≡ (leb k j && wireReads m k (wireVariable m j))
   unfolding upwardAt wireReads wireExpr wireVariable
   upward-at k j l n =
@@ -237,7 +237,7 @@ module _ {s : List ℕ} {m : Module Expr} {starts sizes code readers : List ℕ}
       let most : v < 80 = omega (arith, z .inputs-most, z .registers-most, z .wires-most) in
       ap (λ t. leb k j && t) (ap (λ (w : ℕ). getD (bits w) k false) (entry-at readers v most) ∙ h .read-by v k most l)
 
-  upward-law : readsUpwardAt readers inputs registers wires ≡ readsUpward m
+  pub upward-law : readsUpwardAt readers inputs registers wires ≡ readsUpward m
   unfolding readsUpwardAt readsAbove readsUpward someWire
   upward-law =
       any-same (readsAbove readers inputs registers wires)
@@ -247,7 +247,7 @@ module _ {s : List ℕ} {m : Module Expr} {starts sizes code readers : List ℕ}
 
   -- ---- 20
 
-  waits-in : (i : ℕ) → i < threads → (n : ℕ) → n ≤ length (codeOf m i) → waitsIn s code i n ≡ waitsBefore (codeOf m i) n
+  pub waits-in : (i : ℕ) → i < threads → (n : ℕ) → n ≤ length (codeOf m i) → waitsIn s code i n ≡ waitsBefore (codeOf m i) n
   unfolding waitsIn waitsBefore codeOf
   waits-in i l zero k = refl
   waits-in i l (suc n) k =
@@ -255,7 +255,7 @@ module _ {s : List ℕ} {m : Module Expr} {starts sizes code readers : List ℕ}
       let b = wait-fetched (h .fetched i n l k) in
       λ j. a j + b j
 
-  waits-law : (n : ℕ) → n ≤ threads → waitsOf s code sizes n ≡ waitsBelow m n
+  pub waits-law : (n : ℕ) → n ≤ threads → waitsOf s code sizes n ≡ waitsBelow m n
   unfolding waitsOf waitsBelow
   waits-law zero k = refl
   waits-law (suc n) k =
@@ -264,7 +264,7 @@ module _ {s : List ℕ} {m : Module Expr} {starts sizes code readers : List ℕ}
       let b = ap (waitsIn s code n) c ∙ waits-in n k (length (codeOf m n)) (le-refl (length (codeOf m n))) in
       λ j. a j + b j
 
-  many-law : manyWaitsAt s code sizes threads ≡ manyWaits m
+  pub many-law : manyWaitsAt s code sizes threads ≡ manyWaits m
   unfolding manyWaitsAt manyWaits
   many-law = ap (ltb 32) (waits-law threads (le-refl threads))
 
@@ -295,25 +295,25 @@ module _ (s : List ℕ) (x : Sheet ℕ) (m : Module Expr) (h : readSheet (locate
   abbrev at : ℕ → Expr
   at = exprAt s (x .contents .scope .widths)
 
-  scope-same : x .contents .scope ≡ m .scope
+  pub scope-same : x .contents .scope ≡ m .scope
   unfolding trees mapModule
   scope-same = ap (λ (n : Module Expr). n .scope) (module-same s x m h e)
 
-  wires-same : length (x .contents .wires) ≡ length (m .wires)
+  pub wires-same : length (x .contents .wires) ≡ length (m .wires)
   unfolding trees mapModule
   wires-same = sym (length-map (x .contents .wires) at) ∙ ap (λ (n : Module Expr). length (n .wires)) (module-same s x m h e)
 
-  threads-same : length (x .contents .threads) ≡ length (m .threads)
+  pub threads-same : length (x .contents .threads) ≡ length (m .threads)
   unfolding trees mapModule
   threads-same =
       sym (length-map (x .contents .threads) (mapStmt at)) ∙ ap (λ (n : Module Expr). length (n .threads)) (module-same s x m h e)
 
-  stmts-same : map (mapStmt at) (x .contents .threads) ≡ m .threads
+  pub stmts-same : map (mapStmt at) (x .contents .threads) ≡ m .threads
   unfolding trees mapModule
   stmts-same = ap (λ (n : Module Expr). n .threads) (module-same s x m h e)
 
   -- 16
-  starts-law : startsRunningFrom s (length (m .threads)) (x .body) ≡ startsRunning m
+  pub starts-law : startsRunningFrom s (length (m .threads)) (x .body) ≡ startsRunning m
   unfolding startsRunning someThread bodyOf
   starts-law =
       let t = threads-of s x h in
@@ -324,7 +324,7 @@ module _ (s : List ℕ) (x : Sheet ℕ) (m : Module Expr) (h : readSheet (locate
       ∙ λ j. anyBelow (threads-same j) (runsAt (stmts-same j))
 
   -- 17
-  away-law : runsAwayFrom s (length (m .threads)) (x .body) ≡ runsAway m
+  pub away-law : runsAwayFrom s (length (m .threads)) (x .body) ≡ runsAway m
   unfolding runsAway someThread bodyOf loopsWait
   away-law =
       let t = threads-of s x h in

@@ -131,7 +131,7 @@ pub fn writers(
 }
 
 // Marks a thread at the variables that an instruction reads.
-fn mark_instr(sheet: &[u8], i: Instruction, thread: usize, reading: &mut [u32; 80])
+pub fn mark_instr(sheet: &[u8], i: Instruction, thread: usize, reading: &mut [u32; 80])
     ensures { λ _. ⌜ now (reading .exit) ≡ markInstr (now (sheet .entry)) thread i (now (reading .entry)) ⌝ }
 {
     let Instruction::Act(a) = i else {
@@ -187,7 +187,7 @@ pub fn thread_readers(
 }
 
 // Is register `r` marked at thread `i`?
-fn marked(table: &[u32; 8], i: usize, r: usize) -> bool
+pub fn marked(table: &[u32; 8], i: usize, r: usize) -> bool
     ensures { λ b. ⌜ b ≡ marked (now (table .entry)) i r ⌝ }
 {
     if 8 <= i {
@@ -197,7 +197,7 @@ fn marked(table: &[u32; 8], i: usize, r: usize) -> bool
 }
 
 // The marks of a variable.
-fn entry(table: &[u32; 80], v: usize) -> u32
+pub fn entry(table: &[u32; 80], v: usize) -> u32
     ensures { λ m. ⌜ m ≡ entry (now (table .entry)) v ⌝ }
 {
     if 80 <= v {
@@ -207,7 +207,7 @@ fn entry(table: &[u32; 80], v: usize) -> u32
 }
 
 // How many instructions of a thread are looked at.
-fn size_of(sizes: &[usize; 8], i: usize) -> usize
+pub fn size_of(sizes: &[usize; 8], i: usize) -> usize
     ensures { λ n. ⌜ n ≡ sizeOf (now (sizes .entry)) i ⌝ }
 {
     if 8 <= i {
@@ -217,7 +217,7 @@ fn size_of(sizes: &[usize; 8], i: usize) -> usize
 }
 
 // Do both hold?
-fn both(a: bool, b: bool) -> bool
+pub fn both(a: bool, b: bool) -> bool
     ensures { λ r. ⌜ r ≡ (a && b) ⌝ }
 {
     if a {
@@ -237,14 +237,14 @@ fn one_of(a: bool, b: bool) -> bool
 }
 
 // Does thread `i` write register `r`?
-fn writes(plain: &[u32; 8], later: &[u32; 8], i: usize, r: usize) -> bool
+pub fn writes(plain: &[u32; 8], later: &[u32; 8], i: usize, r: usize) -> bool
     ensures { λ b. ⌜ b ≡ writesAt (now (plain .entry)) (now (later .entry)) i r ⌝ }
 {
     one_of(marked(plain, i, r), marked(later, i, r))
 }
 
 // Is `j` a thread other than `i` that writes register `r`?
-fn other_writes(plain: &[u32; 8], later: &[u32; 8], i: usize, r: usize, j: usize) -> bool
+pub fn other_writes(plain: &[u32; 8], later: &[u32; 8], i: usize, r: usize, j: usize) -> bool
     ensures { λ b. ⌜ b ≡ otherWrites (now (plain .entry)) (now (later .entry)) i r j ⌝ }
 {
     if i == j {
@@ -278,7 +278,7 @@ fn writes_too(plain: &[u32; 8], later: &[u32; 8], threads: usize, r: usize, i: u
 }
 
 // Do two threads write register `r`?
-fn written_twice(plain: &[u32; 8], later: &[u32; 8], threads: usize, r: usize) -> bool
+pub fn written_twice(plain: &[u32; 8], later: &[u32; 8], threads: usize, r: usize) -> bool
     ensures { λ b. ⌜ b ≡ writtenTwice (now (plain .entry)) (now (later .entry)) threads r ⌝ }
 {
     let mut i: usize = 0;
@@ -292,7 +292,7 @@ fn written_twice(plain: &[u32; 8], later: &[u32; 8], threads: usize, r: usize) -
 }
 
 // Number 12: two threads write one register.
-fn two_writers(plain: &[u32; 8], later: &[u32; 8], threads: usize, registers: usize) -> bool
+pub fn two_writers(plain: &[u32; 8], later: &[u32; 8], threads: usize, registers: usize) -> bool
     ensures { λ b. ⌜ b ≡ twoWritersAt (now (plain .entry)) (now (later .entry)) threads registers ⌝ }
 {
     let mut r: usize = 0;
@@ -320,14 +320,14 @@ fn written_by(table: &[u32; 8], threads: usize, r: usize) -> bool
 }
 
 // Is register `r` written by plain and by later assignment?
-fn written_both(plain: &[u32; 8], later: &[u32; 8], threads: usize, r: usize) -> bool
+pub fn written_both(plain: &[u32; 8], later: &[u32; 8], threads: usize, r: usize) -> bool
     ensures { λ b. ⌜ b ≡ writtenBoth (now (plain .entry)) (now (later .entry)) threads r ⌝ }
 {
     both(written_by(plain, threads, r), written_by(later, threads, r))
 }
 
 // Number 13: a register is written both ways.
-fn both_ways(plain: &[u32; 8], later: &[u32; 8], threads: usize, registers: usize) -> bool
+pub fn both_ways(plain: &[u32; 8], later: &[u32; 8], threads: usize, registers: usize) -> bool
     ensures { λ b. ⌜ b ≡ bothWaysAt (now (plain .entry)) (now (later .entry)) threads registers ⌝ }
 {
     let mut r: usize = 0;
@@ -349,7 +349,7 @@ fn read_elsewhere(reading: &[u32; 80], readers: &[u32; 80], i: usize, v: usize) 
 }
 
 // Does thread `i` write register `r` plainly, with variable `v` read elsewhere?
-fn shared_by(
+pub fn shared_by(
     plain: &[u32; 8],
     reading: &[u32; 80],
     readers: &[u32; 80],
@@ -366,7 +366,7 @@ fn shared_by(
 }
 
 // Does some thread write register `r` plainly, with variable `v` read elsewhere?
-fn shared(
+pub fn shared(
     plain: &[u32; 8],
     reading: &[u32; 80],
     readers: &[u32; 80],
@@ -387,7 +387,7 @@ fn shared(
 }
 
 // Number 14: a register that is written by plain assignment is read by another thread or a wire.
-fn plainly_shared(
+pub fn plainly_shared(
     plain: &[u32; 8],
     reading: &[u32; 80],
     readers: &[u32; 80],
@@ -421,7 +421,7 @@ fn other_edge(e: Edge) -> bool
 }
 
 // Is an instruction a wait other than that for the single posedge of input 0?
-fn other_wait_of(i: Instruction) -> bool
+pub fn other_wait_of(i: Instruction) -> bool
     ensures { λ b. ⌜ b ≡ otherWaitOf i ⌝ }
 {
     let Instruction::Wait(t) = i else {
@@ -439,7 +439,7 @@ fn other_wait_of(i: Instruction) -> bool
 }
 
 // Is one of a thread's first instructions such a wait?
-fn other_wait_in(sheet: &[u8], code: &[u16; 4096], thread: usize, n: usize) -> bool
+pub fn other_wait_in(sheet: &[u8], code: &[u16; 4096], thread: usize, n: usize) -> bool
     ensures { λ b. ⌜ b ≡ otherWaitIn (now (sheet .entry)) (now (code .entry)) thread n ⌝ }
 {
     let mut p: usize = 0;
@@ -453,7 +453,7 @@ fn other_wait_in(sheet: &[u8], code: &[u16; 4096], thread: usize, n: usize) -> b
 }
 
 // Number 15: there is a wait other than the single posedge of input 0.
-fn other_wait(sheet: &[u8], code: &[u16; 4096], sizes: &[usize; 8], threads: usize) -> bool
+pub fn other_wait(sheet: &[u8], code: &[u16; 4096], sizes: &[usize; 8], threads: usize) -> bool
     ensures { λ b. ⌜ b ≡ otherWaitBelow (now (sheet .entry)) (now (code .entry)) (now (sizes .entry)) threads ⌝ }
 {
     let mut i: usize = 0;
@@ -551,7 +551,7 @@ fn in_forever(a: Waiting) -> Waiting
 }
 
 // How the statement at a place waits, with so many levels left.
-fn walk(sheet: &[u8], at: usize, depth: u8) -> Waiting
+pub fn walk(sheet: &[u8], at: usize, depth: u8) -> Waiting
     ensures { λ r. ⌜ r ≡ walkAt depth (now (sheet .entry)) at ⌝ }
 {
     if depth == 0 {
@@ -589,7 +589,7 @@ fn walk(sheet: &[u8], at: usize, depth: u8) -> Waiting
 }
 
 // Number 16: a thread doesn't start with a wait. So many threads stand from a place on.
-fn starts_running(sheet: &[u8], threads: u8, body: usize) -> bool
+pub fn starts_running(sheet: &[u8], threads: u8, body: usize) -> bool
     ensures { λ b. ⌜ b ≡ startsRunningFrom (now (sheet .entry)) threads body ⌝ }
 {
     let mut left = threads;
@@ -606,7 +606,7 @@ fn starts_running(sheet: &[u8], threads: u8, body: usize) -> bool
 }
 
 // Number 17: the body of a loop or of a thread doesn't surely wait. So many threads stand from a place on.
-fn runs_away(sheet: &[u8], threads: u8, body: usize) -> bool
+pub fn runs_away(sheet: &[u8], threads: u8, body: usize) -> bool
     ensures { λ b. ⌜ b ≡ runsAwayFrom (now (sheet .entry)) threads body ⌝ }
 {
     let mut left = threads;
@@ -623,14 +623,14 @@ fn runs_away(sheet: &[u8], threads: u8, body: usize) -> bool
 }
 
 // Number 18: the clock is read in an expression.
-fn clock_read(reading: &[u32; 80], readers: &[u32; 80]) -> bool
+pub fn clock_read(reading: &[u32; 80], readers: &[u32; 80]) -> bool
     ensures { λ b. ⌜ b ≡ clockReadAt (now (reading .entry)) (now (readers .entry)) ⌝ }
 {
     one_of(masks::any(reading[0]), masks::any(readers[0]))
 }
 
 // Is variable `v`, wire `j`, read by wire `k`, which is no higher?
-fn upward(readers: &[u32; 80], k: usize, v: usize, j: usize) -> bool
+pub fn upward(readers: &[u32; 80], k: usize, v: usize, j: usize) -> bool
     ensures { λ b. ⌜ b ≡ upwardAt (now (readers .entry)) k v j ⌝ }
 {
     if k <= j {
@@ -640,7 +640,7 @@ fn upward(readers: &[u32; 80], k: usize, v: usize, j: usize) -> bool
 }
 
 // Does wire `k` read itself or a higher wire?
-fn reads_above(readers: &[u32; 80], inputs: u8, registers: u8, wires: u8, k: usize) -> bool
+pub fn reads_above(readers: &[u32; 80], inputs: u8, registers: u8, wires: u8, k: usize) -> bool
     ensures { λ b. ⌜ b ≡ readsAbove (now (readers .entry)) inputs registers wires k ⌝ }
 {
     let first = inputs as usize + registers as usize;
@@ -656,7 +656,7 @@ fn reads_above(readers: &[u32; 80], inputs: u8, registers: u8, wires: u8, k: usi
 }
 
 // Number 19: a wire reads itself or a higher wire.
-fn reads_upward(readers: &[u32; 80], inputs: u8, registers: u8, wires: u8) -> bool
+pub fn reads_upward(readers: &[u32; 80], inputs: u8, registers: u8, wires: u8) -> bool
     ensures { λ b. ⌜ b ≡ readsUpwardAt (now (readers .entry)) inputs registers wires ⌝ }
 {
     let count = wires as usize;
@@ -681,7 +681,7 @@ fn wait_of(i: Instruction) -> usize
 }
 
 // How many of a thread's first instructions are waits.
-fn waits_in(sheet: &[u8], code: &[u16; 4096], thread: usize, n: usize) -> usize
+pub fn waits_in(sheet: &[u8], code: &[u16; 4096], thread: usize, n: usize) -> usize
     ensures { λ k. ⌜ k ≡ waitsIn (now (sheet .entry)) (now (code .entry)) thread n ⌝ }
 {
     let mut count: usize = 0;
@@ -694,7 +694,7 @@ fn waits_in(sheet: &[u8], code: &[u16; 4096], thread: usize, n: usize) -> usize
 }
 
 // How many waits so many threads have.
-fn waits_of(sheet: &[u8], code: &[u16; 4096], sizes: &[usize; 8], threads: u8) -> usize
+pub fn waits_of(sheet: &[u8], code: &[u16; 4096], sizes: &[usize; 8], threads: u8) -> usize
     ensures { λ k. ⌜ k ≡ waitsOf (now (sheet .entry)) (now (code .entry)) (now (sizes .entry)) threads ⌝ }
 {
     let last = threads as usize;
@@ -708,7 +708,7 @@ fn waits_of(sheet: &[u8], code: &[u16; 4096], sizes: &[usize; 8], threads: u8) -
 }
 
 // Number 20: there are over 32 waits.
-fn many_waits(sheet: &[u8], code: &[u16; 4096], sizes: &[usize; 8], threads: u8) -> bool
+pub fn many_waits(sheet: &[u8], code: &[u16; 4096], sizes: &[usize; 8], threads: u8) -> bool
     ensures { λ b. ⌜ b ≡ manyWaitsAt (now (sheet .entry)) (now (code .entry)) (now (sizes .entry)) threads ⌝ }
 {
     32 < waits_of(sheet, code, sizes, threads)
