@@ -1,0 +1,9 @@
+pub mod Lowest
+pub mod Refusals
+pub mod Breaking
+pub mod Marks
+pub mod Bodies
+pub mod Codes
+pub mod Seeking
+pub mod Ways
+pub mod Samples
