@@ -3,11 +3,12 @@
 use mathlib.Core.Path.{_≡_, refl, sym, ap, _∙_}
 use mathlib.Core.Bool.{Bool, true, false, not, _&&_, _||_}
 use mathlib.Core.List.{List, []}
-use Prim.Native.Nat.{ℕ, zero, suc, _+_, _%_, _≤_, _<_}
+use Prim.Native.Nat.{ℕ, zero, suc, _+_, _-_, _*_, _%_, _≤_, _<_}
 use native.Mathlib.Nat.{le-refl}
 use native.Mathlib.Omega.{arith}
-use borrow.Author.Tests.{lt-ltb, le-ltb, ltb-true, ltb-false}
-use lib.ListN.{length, getD, replicate, List·getD-eq-default}
+use borrow.Author.Tests.{lt-ltb, ltb-true, ltb-false, eqb-true}
+use lib.ListN.{length, getD, set, length-set, List·getD-eq-default}
+use lib.Seq.{getD-set-same, getD-set-other}
 use lib.Dec.{ltb, eqb}
 use Rattle.values.specs.declared.Value.{Value}
 use Rattle.values.specs.declared.Value.the-variants.{Known, Unknown}
@@ -18,25 +19,27 @@ use Rattle.sheet.specs.Module.{Module}
 use Rattle.pseudocode.specs.Translation.{Instr, go}
 use Rattle.masks.specs.Masks.{bits}
 use Rattle.state.specs.Saved.{listOf}
-use Rattle.soundness.specs.Soundness.{Sound}
+use Rattle.state.proofs.Rows.{length-listOf}
+use Rattle.soundness.specs.Soundness.{Fitting, Sound}
 use Rattle.events.specs.declared.Inputs.{Inputs}
 use Rattle.events.specs.Cycle.{codeOf, instrAt, isWait, wireVariable, allBelow}
 use Rattle.events.specs.Calls.{widthOf}
-use Rattle.events.proofs.Cycle.{absurd-bool, and-left, and-right, all-below}
+use Rattle.events.proofs.Cycle.{absurd-bool, and-left, and-right, all-below, Below, at-end, before, below-suc}
 use Rattle.tables.specs.Holding.{Holding}
 use Rattle.nextstate.specs.declared.Registers.{Registers}
 use Rattle.nextstate.specs.declared.Clocked.{Clocked}
 use Rattle.nextstate.specs.Rules.{writes, someThread}
 use Rattle.nextstate.specs.Nodes.{nodeAt}
 use Rattle.nextstate.specs.Extraction.{Tables}
-use Rattle.nextstate.specs.Book.{Book, settle, settled, entry, worth, taken, nextPlace, rise}
+use Rattle.nextstate.specs.Book.{Book, settle, settled, rowOf, entry, worth, taken, nextPlace, rise}
 use Rattle.nextstate.specs.CycleRun.{nodesFit, widthsFrom, landings, registerFits, rowFits, rowsFit, tablesFit, tablesIn, registersFit, handed, clocked, withRegister, storeRegisters, storePlaces, withWait, stored, wireValue, given}
 use Rattle.cycles.specs.Cells.{sizeIn, nodesIn}
 use Rattle.cycles.specs.Checking.{rowsTo}
+use Rattle.cycles.specs.Rounds.{Reached}
 use Rattle.cycles.specs.Running.{Planes, planes, valuesIn, putAll, settleAt, workBelow, Stand, Course, course, takeBelow, Step, stepAt, handAt, keepRegisters, answerAt, clockAt}
 use Rattle.cycles.proofs.Settling.{Long, settle-all}
-use Rattle.cycles.proofs.Working.{works, all-worth, place-worth}
-use Rattle.cycles.proofs.Taking.{Ready, Taken, threads-taken}
+use Rattle.cycles.proofs.Working.{works, nodes-worth, mark-below, place-worth, worth-fits}
+use Rattle.cycles.proofs.Taking.{writes-register, Ready, Taken, threads-taken}
 use Rattle.cycles.proofs.Handing.{blank, blank-long, handed-long, handed-values, registers-kept, wires-kept}
 
 -- A wait stands inside its thread.
@@ -134,18 +137,17 @@ module _ {s : List ℕ} {m : Module Expr} {starts sizes code readers : List ℕ}
         unfolding answerAt given
         answer-same = rw (kept, places-kept, wires)
 
-    -- ---- the cycle
+    -- ---- the cycle, from planes that settle to what is handed, with so many nodes worked out that the rows' entries are among them
 
     module _ (fit : nodesFit m (listOf 4096 (nodeAt ns)) [] ≡ true) (rows : rowsFit m T ≡ true)
         (all : List Bool) (v : (r : ℕ) → getD all r false ≡ someThread m (λ i. writes m i (m .scope .inputs + r)))
         (g : Registers) (right : registersFit m g ≡ true) (eight : length (g .places) ≡ 8) (a : Inputs)
+        (fed : Planes) (room : Long 80 fed) (same : settle m (valuesIn fed) ≡ settle m (handed m g a .values))
+        (old : Planes) (old-room : Long 4096 old) (count : ℕ) (reached : Reached rs count)
       where
         -- The planes and the book before the clock rises.
-        abbrev before : Planes
-        before = handAt (m .scope .inputs) (m .scope .registers) (valueAt (g .value) (g .unknown)) (valueAt (a .value) (a .unknown)) (blank 80)
-
         abbrev ready : Planes
-        ready = settleAt s (m .scope .widths) starts (m .scope .inputs + m .scope .registers) (length (m .wires)) before
+        ready = settleAt s (m .scope .widths) starts (m .scope .inputs + m .scope .registers) (length (m .wires)) fed
 
         abbrev low : Book
         low = settled m (handed m g a)
@@ -154,19 +156,22 @@ module _ {s : List ℕ} {m : Module Expr} {starts sizes code readers : List ℕ}
         high = rise m T low
 
         ready-long : Long 80 ready
-        ready-long = settle-all z h before (handed-long z g a) .0
+        ready-long = settle-all z h fed room .0
 
         ready-values : valuesIn ready ≡ low .values
         unfolding settled
-        ready-values = settle-all z h before (handed-long z g a) .1 ∙ ap (settle m) (handed-values z g a)
+        ready-values = settle-all z h fed room .1 ∙ same
 
         abbrev nodes : Planes
-        nodes = workBelow ns (sizeIn us) (valuesIn ready) 4096 (blank 4096)
+        nodes = workBelow ns (sizeIn us) (valuesIn ready) count old
 
-        node-worth : (n : ℕ) → nodesIn (nodes .value) (nodes .unknown) n ≡ worth m T (low .values) n
-        node-worth n =
-            all-worth m ns fit us filled (valuesIn ready) (blank 4096) (blank-long 4096) rs n
-            ∙ ap (λ (x : ℕ → Value). worth m T x n) ready-values
+        pub nodes-long : Long 4096 nodes
+        nodes-long = works m ns fit us filled (valuesIn ready) old old-room count (reached .most) .0
+
+        node-worth : (j : ℕ) → getD rs j 0 < 4096 → nodesIn (nodes .value) (nodes .unknown) (getD rs j 0) ≡ worth m T (low .values) (getD rs j 0)
+        node-worth j l =
+            nodes-worth m ns fit us filled (valuesIn ready) old old-room rs count (getD rs j 0) (reached .most) (reached .entry j l)
+            ∙ ap (λ (x : ℕ → Value). worth m T x (getD rs j 0)) ready-values
 
         -- Each thread stands at a wait, whose row is in order.
         waits : (i : ℕ) → i < length (m .threads) → isWait (instrAt (codeOf m i) (low .places i)) ≡ true
@@ -192,6 +197,44 @@ module _ {s : List ℕ} {m : Module Expr} {starts sizes code readers : List ℕ}
         abbrev node : ℕ → ℕ → ℕ
         node i c = entry m T i (low .places i) c
 
+        abbrev registersIn : ℕ → Bool
+        registersIn i = allBelow (m .scope .registers) (λ r. not (writes m i (m .scope .inputs + r)) || registerFits m T i (low .places i) r)
+
+        abbrev landsIn : ℕ → Bool
+        landsIn i = getD (landings m i (listOf 4096 (nodeAt ns)) []) (node i 32) false
+
+        -- The entry of a register that is written is a node of the register's width.
+        register-right :
+            (i r : ℕ) → i < length (m .threads) → r < m .scope .registers → writes m i (m .scope .inputs + r) ≡ true →
+            registerFits m T i (low .places i) r ≡ true
+        unfolding rowFits tablesIn
+        register-right i r l o u =
+            let t =
+            all-below (λ r. not (writes m i (m .scope .inputs + r)) || registerFits m T i (low .places i) r) (m .scope .registers)
+            (and-left (registersIn i) (landsIn i) (row-right i l)) r o in
+            rw u at t
+
+        register-inside :
+            (i r : ℕ) → i < length (m .threads) → r < m .scope .registers → writes m i (m .scope .inputs + r) ≡ true → node i r < 4096
+        unfolding registerFits tablesIn
+        register-inside i r l o u =
+            let n = node i r in
+            let long = length-listOf (nodeAt ns) 4096 in
+            let t =
+            and-left (ltb n (length (listOf 4096 (nodeAt ns))))
+            (eqb (getD (widthsFrom m (listOf 4096 (nodeAt ns)) []) n 0) (widthOf m (m .scope .inputs + r))) (register-right i r l o u) in
+            omega (arith, ltb-true n (length (listOf 4096 (nodeAt ns))) t)
+
+        place-right : (i : ℕ) → i < length (m .threads) → landsIn i ≡ true
+        unfolding rowFits tablesIn
+        place-right i l = and-right (registersIn i) (landsIn i) (row-right i l)
+
+        -- A thread's next place is a wait.
+        pub place-lands :
+            (i : ℕ) → i < length (m .threads) →
+            (p : ℕ) × (worth m T (low .values) (node i 32) ≡ Known p) × (isWait (instrAt (codeOf m i) p) ≡ true)
+        place-lands i l = place-worth m ns fit us filled (low .values) i rs (node i 32) (place-right i l)
+
         small : (i p : ℕ) → i < length (m .threads) → isWait (instrAt (codeOf m i) p) ≡ true → p % 256 ≡ p
         unfolding codeOf
         small i p l o =
@@ -199,14 +242,16 @@ module _ {s : List ℕ} {m : Module Expr} {starts sizes code readers : List ℕ}
             let y = z .code i l .most in
             omega arith
 
+        entry-worth : (i c : ℕ) → node i c < 4096 → nodesIn (nodes .value) (nodes .unknown) (node i c) ≡ worth m T (low .values) (node i c)
+        unfolding entry tablesIn
+        entry-worth i c l = node-worth (33 * rowOf m T i (low .places i) + c) l
+
         place-same : (i : ℕ) → i < length (m .threads) → numberOf (nodesIn (nodes .value) (nodes .unknown) (node i 32)) % 256 ≡ settled m high .places i
-        unfolding settled rise nextPlace rowFits numberOf tablesIn
+        unfolding settled rise nextPlace numberOf
         place-same i l =
-            let x = place-worth m ns fit us filled (low .values) i rs (node i 32)
-            (and-right
-            (allBelow (m .scope .registers) (λ r. not (writes m i (m .scope .inputs + r)) || registerFits m T i (low .places i) r))
-            (getD (landings m i (listOf 4096 (nodeAt ns)) []) (node i 32) false) (row-right i l)) in
-            rw (node-worth (node i 32), lt-ltb i (length (m .threads)) l, x .1) (small i (x .0) l (x .2))
+            let x = place-lands i l in
+            rw (entry-worth i 32 (mark-below m ns fit us filled (low .values) i 4096 (node i 32) (place-right i l)), lt-ltb i (length (m .threads)) l, x .1)
+            (small i (x .0) l (x .2))
 
         threads-ready :
             Ready z h firsts written f w ns rs us filled low (settled m high) g (nodesIn (nodes .value) (nodes .unknown))
@@ -216,14 +261,14 @@ module _ {s : List ℕ} {m : Module Expr} {starts sizes code readers : List ℕ}
               stands = λ i. refl;
               eight = eight;
               inside = λ i l. let o = wait-inside (codeOf m i) (low .places i) (waits i l) in omega arith;
-              register = λ i r l o u. node-worth (node i r);
+              register = λ i r l o u. entry-worth i r (register-inside i r l o u);
               place = place-same;
             }
 
         abbrev start : Stand
         start = record { planes = ready; places = g .places }
 
-        abbrev end : Stand
+        abbrev pub end : Stand
         end = takeBelow k (nodesIn (nodes .value) (nodes .unknown)) (length (m .threads)) start
 
         first :
@@ -231,7 +276,7 @@ module _ {s : List ℕ} {m : Module Expr} {starts sizes code readers : List ℕ}
         unfolding taken storePlaces
         first = record { room = ready-long; values = λ v. ap (λ (x : ℕ → Value). x v) ready-values; places = refl }
 
-        last :
+        pub last :
             Taken z h firsts written f w ns rs us filled low (settled m high) g (nodesIn (nodes .value) (nodes .unknown))
             (length (m .threads)) end
         last =
@@ -242,7 +287,93 @@ module _ {s : List ℕ} {m : Module Expr} {starts sizes code readers : List ℕ}
         unfolding rise
         high-values = λ i v. last .values v i
 
+        pub stepped-same :
+            answerAt s (m .scope .widths) starts (m .scope .inputs) (m .scope .registers) (length (m .wires)) all g
+            (stepAt k (m .scope .widths) starts ns us (length (m .wires)) (length (m .threads)) count old
+            (record { planes = fed; places = g .places }) .stand)
+            ≡ given m (clocked m T g a) g
+        unfolding stepAt clocked
+        stepped-same = answer-same all v g high end (last .room) high-values (last .places)
+
+        -- ---- what the cycle leaves: what no thread writes stays, values fit their widths, and places are waits
+
+        taken-none : (n u : ℕ) → ((i : ℕ) → i < n → writes m i u ≡ false) → taken m T low n u ≡ low .values u
+        unfolding taken
+        taken-none zero u d = refl
+        taken-none (suc i) u d = rw (d i (omega arith)) (taken-none i u (λ j l. d j (omega arith)))
+
+        pub end-other : (u : ℕ) → ((i : ℕ) → i < length (m .threads) → writes m i u ≡ false) → valuesIn (end .planes) u ≡ low .values u
+        end-other u d = last .values u ∙ taken-none (length (m .threads)) u d
+
+        taken-fits : Fitting (m .scope) (low .values) → (n u : ℕ) → n ≤ length (m .threads) → u < length (m .scope .widths) →
+            fits (getD (m .scope .widths) u 0) (taken m T low n u) ≡ true
+        unfolding taken registerFits widthOf tablesIn
+        taken-fits q zero u l o = q u o
+        taken-fits q (suc i) u l o = by (writes m i u) refl (taken-fits q i u (omega arith) o)
+          where
+            written-fits :
+                writes m i u ≡ true → fits (getD (m .scope .widths) u 0) (worth m T (low .values) (node i (u - m .scope .inputs))) ≡ true
+            written-fits e =
+                let x = writes-register z i u l e in
+                let r = u - m .scope .inputs in
+                let same : m .scope .inputs + r ≡ u = omega (arith, x .0) in
+                let below : r < m .scope .registers = omega (arith, x .0, x .1) in
+                let on : writes m i (m .scope .inputs + r) ≡ true = rw same e in
+                let n = node i r in
+                let t =
+                and-right (ltb n (length (listOf 4096 (nodeAt ns))))
+                (eqb (getD (widthsFrom m (listOf 4096 (nodeAt ns)) []) n 0) (getD (m .scope .widths) (m .scope .inputs + r) 0)) (register-right i r l below on) in
+                let w = eqb-true (getD (widthsFrom m (listOf 4096 (nodeAt ns)) []) n 0) (getD (m .scope .widths) (m .scope .inputs + r) 0) t in
+                let k = worth-fits m ns rs (low .values) q fit n (register-inside i r l below on) in
+                rw (w, same) at k
+
+            by :
+                (t : Bool) → writes m i u ≡ t → fits (getD (m .scope .widths) u 0) (taken m T low i u) ≡ true →
+                fits (getD (m .scope .widths) u 0) (pick t (worth m T (low .values) (node i (u - m .scope .inputs))) (taken m T low i u)) ≡ true
+            by true e ih = written-fits e
+            by false e ih = ih
+
+        pub end-fits : Fitting (m .scope) (low .values) → Fitting (m .scope) (valuesIn (end .planes))
+        end-fits q u l = rw (last .values u) (taken-fits q (length (m .threads)) u (le-refl (length (m .threads))) l)
+
+        abbrev next : ℕ → List ℕ
+        next n = storePlaces m (settled m high) n g .places
+
+        next-eight : (n : ℕ) → length (next n) ≡ 8
+        unfolding storePlaces withWait
+        next-eight zero = eight
+        next-eight (suc n) = length-set (next n) n (settled m high .places n) ∙ next-eight n
+
+        pub end-eight : length (end .places) ≡ 8
+        end-eight = ap length (last .places) ∙ next-eight (length (m .threads))
+
+        next-own : (n i : ℕ) → n ≤ 8 → i < n → getD (next n) i 0 ≡ settled m high .places i
+        unfolding storePlaces withWait
+        next-own zero i l o = absurd (omega arith)
+        next-own (suc n) i l o = by (λ q. next-own n i (omega arith) q) (below-suc n i o)
+          where
+            by : (i < n → getD (next n) i 0 ≡ settled m high .places i) → Below n i →
+                getD (set (next n) n (settled m high .places n)) i 0 ≡ settled m high .places i
+            by r (at-end e) = rw e (getD-set-same (next n) n (settled m high .places n) 0 (omega (arith, next-eight n)))
+            by r (before q) = getD-set-other (next n) n i (settled m high .places n) 0 (λ e. omega arith) ∙ r q
+
+        pub end-waits : (i : ℕ) → i < length (m .threads) → isWait (instrAt (codeOf m i) (getD (end .places) i 0)) ≡ true
+        unfolding settled rise nextPlace numberOf
+        end-waits i l =
+            let x = place-lands i l in
+            rw (last .places, next-own (length (m .threads)) i (z .threads-most) l, lt-ltb i (length (m .threads)) l, x .1) (x .2)
+
+    -- ---- a single cycle: all nodes, on blank planes
+
+    module _ (fit : nodesFit m (listOf 4096 (nodeAt ns)) [] ≡ true) (rows : rowsFit m T ≡ true)
+        (all : List Bool) (v : (r : ℕ) → getD all r false ≡ someThread m (λ i. writes m i (m .scope .inputs + r)))
+        (g : Registers) (right : registersFit m g ≡ true) (eight : length (g .places) ≡ 8) (a : Inputs)
+      where
         pub cycle-same :
             clockAt k (m .scope .widths) starts ns us (length (m .wires)) (length (m .threads)) all g a ≡ given m (clocked m T g a) g
-        unfolding clockAt stepAt clocked
-        cycle-same = answer-same all v g high end (last .room) high-values (last .places)
+        unfolding clockAt
+        cycle-same =
+            stepped-same fit rows all v g right eight a
+            (handAt (m .scope .inputs) (m .scope .registers) (valueAt (g .value) (g .unknown)) (valueAt (a .value) (a .unknown)) (blank 80))
+            (handed-long z g a) (ap (settle m) (handed-values z g a)) (blank 4096) (blank-long 4096) 4096
+            (record { most = le-refl 4096; entry = λ j l. l })

@@ -33,13 +33,19 @@ use Rattle.cycles.specs.Context.{Context, TablesJudged, RegistersJudged,
 use Rattle.cycles.proofs.Rows.{rows-judged, place-same}
 use Rattle.cycles.proofs.Clocking.{cycle-same}
 
--- ---- registers passed by value: there are eight places
+-- ---- registers passed by value: there are eight places, and 32 numbers and flags
 
 abbrev pub Good : Registers → Type 0
 Good g = Is the-row g (val the-type the-laws g ∷ [])
 
 pub eight-places : (g : Registers) → Good g → length (g .places) ≡ 8
 eight-places g h = search needs
+
+pub numbers-32 : (g : Registers) → Good g → length (g .value) ≡ 32
+numbers-32 g h = search needs
+
+pub flags-32 : (g : Registers) → Good g → length (g .unknown) ≡ 32
+flags-32 g h = search needs
 
 -- ---- 24
 

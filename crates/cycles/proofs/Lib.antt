@@ -9,6 +9,9 @@ pub mod Rows
 pub mod Taking
 pub mod Handing
 pub mod Clocking
+pub mod Keeping
+pub mod Reaching
+pub mod Rounds
 pub mod Judging
 pub mod Sheets
 pub mod Masks

@@ -22,6 +22,7 @@ use Rattle.rules.specs.Writers.{plainBelow, laterBelow}
 use Rattle.simulator.specs.Filled.{shapeOf, widthsEnd}
 use Rattle.nextstate.specs.declared.Registers.{Registers}
 use Rattle.nextstate.specs.declared.Clocked.{Clocked}
+use Rattle.nextstate.specs.Rules.{rule}
 use Rattle.nextstate.specs.Extraction.{rightLengths}
 use Rattle.nextstate.specs.CycleRun.{tablesIn, extractable, clockedIn, cycleRun, refused}
 use Rattle.cycles.specs.declared.Cycled.{Cycled}
@@ -79,12 +80,12 @@ module _ (s : List ℕ) (y : Layout) (end : ℕ) (ending : end ≡ widthsEnd y) 
     (same-firsts : firsts ≡ firstsTo s code lengths (y .threads) (replicate 8 0)) (same-shape : shape ≡ shapeOf y)
   where
     at-hand :
-        (x : Sheet ℕ) (m : Module Expr) → readSheet (located s) s ≡ ok x → read s ≡ ok m → y ≡ layoutOf x →
+        (x : Sheet ℕ) (m : Module Expr) → readSheet (located s) s ≡ ok x → read s ≡ ok m → rule m ≡ 0 → y ≡ layoutOf x →
         Context s m (take (end - 4) (drop 4 s)) (y .starts) code lengths firsts written all shape
-    at-hand x m h e o =
+    at-hand x m h e k o =
         rw (ending, same-firsts, same-code, same-lengths, o)
         (context s x m h e plain later written all (rw (same-code, same-lengths, o) at same-plain)
-        (rw (same-code, same-lengths, o) at same-later) joined (rw o at united) shape (rw o at same-shape))
+        (rw (same-code, same-lengths, o) at same-later) joined (rw o at united) k shape (rw o at same-shape))
 
     pub many-whole :
         (ns rs : List ℕ) (g : Registers) (value : List ℕ) (unknown : List Bool) (r : Cycled) → length ns ≡ 16384 → length rs ≡ 1056 →
@@ -96,4 +97,4 @@ module _ (s : List ℕ) (y : Layout) (end : ℕ) (ending : end ≡ widthsEnd y) 
         let mine = own s t read-it n q z in
         let m = trees s (mine .sheet) .contents in
         many-accepted s ns rs g value unknown r e f m (mine .extractable)
-        (h m (at-hand (mine .sheet) m (mine .place) (mine .same) (w ∙ mine .layout)))
+        (h m (at-hand (mine .sheet) m (mine .place) (mine .same) (mine .unbroken) (w ∙ mine .layout)))

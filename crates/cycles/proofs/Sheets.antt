@@ -38,7 +38,9 @@ use Rattle.simulator.proofs.Reading.{ReadAs, accepted, refused, read-as}
 use Rattle.simulator.proofs.Plan.{widths-inside, plan-of}
 use Rattle.nextstate.specs.declared.Registers.{Registers}
 use Rattle.nextstate.specs.declared.Clocked.{Clocked}
-use Rattle.nextstate.specs.Rules.{sets, defers, writes, someThread}
+use Rattle.nextstate.specs.Rules.{sets, defers, writes, someThread, rule}
+use Rattle.nextstate.proofs.Numbers.{extracted-rule}
+use Rattle.threads.proofs.Ruled.{ruled}
 use Rattle.nextstate.specs.Extraction.{Tables, extracted, expressions, rightLengths}
 use Rattle.nextstate.specs.CycleRun as run
 use Rattle.nextstate.specs.CycleRun.{tablesIn, extractable, clockedOr, clockedIn, cycleRun}
@@ -118,13 +120,14 @@ module _ (s : List ℕ) (x : Sheet ℕ) (m : Module Expr) (h : readSheet (locate
           ∙ rw (a, b, plain-law z holding (replicate 8 0) n i r o, later-law z holding (replicate 8 0) n i r o)
 
       pub context :
-          (shape : Shape) → shape ≡ shapeOf l →
+          rule m ≡ 0 → (shape : Shape) → shape ≡ shapeOf l →
           Context s m (take (widthsEnd l - 4) (drop 4 s)) (l .starts) (c .code) (c .sizes)
           (firstsTo s (c .code) (c .sizes) (l .threads) (replicate 8 0)) written all shape
       unfolding someThread
-      context shape w =
+      context k shape w =
           record {
             sound = z;
+            ruled = ruled m z k;
             readers = readersBelow s (l .starts) (atMost 32 (length (x .contents .wires))) (replicate 80 0);
             watched = watchedBelow s (c .code) (c .sizes) (atMost 8 (length (x .contents .threads))) (replicate 80 false);
             holding = holding;
@@ -173,6 +176,15 @@ extracted-own x f {m} e n z q = rw e (by (f m) (rw e at q))
     by (ok T) b = refl
     by (no k p) b = absurd (omega (arith, b .0, b .1))
 
+extracted-unbroken : (x : Res (Module Expr)) {m : Module Expr} →
+    x ≡ ok m → (n : ℕ) → n ≡ 0 → Numbered (x >>= (λ m. extracted m >>= (λ T. ok m))) n → rule m ≡ 0
+unfolding Numbered
+extracted-unbroken x {m} e n z q = by (extracted m) refl (rw e at q)
+  where
+    by : (y : Res Tables) → extracted m ≡ y → Numbered (y >>= (λ T. ok m)) n → rule m ≡ 0
+    by (ok T) h b = extracted-rule m h
+    by (no k p) h b = absurd (omega (arith, b .0, b .1))
+
 refused-never : (x : Res (Module Expr)) (f : Module Expr → Res Tables) {k p : ℕ} →
     x ≡ no k p → 1 ≤ k → (n : ℕ) → n ≡ 0 → Numbered (x >>= (λ m. f m >>= (λ T. ok m))) n → ⊥
 unfolding Numbered
@@ -184,6 +196,7 @@ pub record Own (s : List ℕ) (r : SheetRead) : Type 0 where
   pub same : read s ≡ ok (trees s sheet .contents)
   pub layout : r .layout ≡ layoutOf sheet
   pub extractable : extractable s ≡ ok (trees s sheet .contents)
+  pub unbroken : rule (trees s sheet .contents) ≡ 0
 
 module _ (s : List ℕ) (r : SheetRead) (e : r ≡ sheetAnswer (readSheet (located s) s)) (n : ℕ) (q : Numbered (extractable s) n) (z : n ≡ 0) where
   pub own : Own s r
@@ -191,7 +204,15 @@ module _ (s : List ℕ) (r : SheetRead) (e : r ≡ sheetAnswer (readSheet (locat
   own = by (read-as s r e)
     where
       by : ReadAs s r → Own s r
-      by (accepted x h m o l) = record { sheet = x; place = h; same = m; layout = l; extractable = extracted-own (read s) extracted m n z q }
+      by (accepted x h m o l) =
+          record {
+            sheet = x;
+            place = h;
+            same = m;
+            layout = l;
+            extractable = extracted-own (read s) extracted m n z q;
+            unbroken = extracted-unbroken (read s) m n z q;
+          }
       by (refused k p h o b l) = absurd (refused-never (read s) extracted h b n z q)
 
   pub own-inside : widthsEnd (r .layout) ≤ length s
@@ -236,12 +257,12 @@ module _ (s : List ℕ) (y : Layout) (end : ℕ) (ending : end ≡ widthsEnd y) 
     (same-firsts : firsts ≡ firstsTo s code lengths (y .threads) (replicate 8 0)) (same-shape : shape ≡ shapeOf y)
   where
     at-hand :
-        (x : Sheet ℕ) (m : Module Expr) → readSheet (located s) s ≡ ok x → read s ≡ ok m → y ≡ layoutOf x →
+        (x : Sheet ℕ) (m : Module Expr) → readSheet (located s) s ≡ ok x → read s ≡ ok m → rule m ≡ 0 → y ≡ layoutOf x →
         Context s m (take (end - 4) (drop 4 s)) (y .starts) code lengths firsts written all shape
-    at-hand x m h e o =
+    at-hand x m h e k o =
         rw (ending, same-firsts, same-code, same-lengths, o)
         (context s x m h e plain later written all (rw (same-code, same-lengths, o) at same-plain)
-        (rw (same-code, same-lengths, o) at same-later) joined (rw o at united) shape (rw o at same-shape))
+        (rw (same-code, same-lengths, o) at same-later) joined (rw o at united) k shape (rw o at same-shape))
 
     pub cycle-whole :
         (ns rs : List ℕ) (g : Registers) (a : Inputs) (r : Clocked) → length ns ≡ 16384 → length rs ≡ 1056 →
@@ -252,4 +273,4 @@ module _ (s : List ℕ) (y : Layout) (end : ℕ) (ending : end ≡ widthsEnd y) 
     cycle-whole ns rs g a r e f t read-it w n q z h =
         let mine = own s t read-it n q z in
         let m = trees s (mine .sheet) .contents in
-        cycle-accepted s ns rs g a r e f m (mine .extractable) (h m (at-hand (mine .sheet) m (mine .place) (mine .same) (w ∙ mine .layout)))
+        cycle-accepted s ns rs g a r e f m (mine .extractable) (h m (at-hand (mine .sheet) m (mine .place) (mine .same) (mine .unbroken) (w ∙ mine .layout)))

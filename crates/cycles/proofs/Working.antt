@@ -3,7 +3,7 @@
 use mathlib.Core.Path.{_≡_, refl, sym, ap, _∙_}
 use mathlib.Core.Bool.{Bool, true, false, _&&_}
 use mathlib.Core.List.{List, [], _∷_, _++_}
-use Prim.Native.Nat.{ℕ, zero, suc, _+_, _≤_, _<_}
+use Prim.Native.Nat.{ℕ, zero, suc, _+_, _^_, _≤_, _<_}
 use native.Mathlib.Nat.{not-suc-le-zero, le-refl}
 use native.Mathlib.Numerals.{add-one}
 use native.Mathlib.Decide.{ℕ-discrete, decLt}
@@ -14,21 +14,24 @@ use lib.Seq.{getD-at}
 use lib.Dec.{ltb, eqb}
 use Rattle.values.specs.declared.Value.{Value}
 use Rattle.values.specs.declared.Value.the-variants.{Known, Unknown}
-use Rattle.values.specs.Values.{pick, holds}
+use Rattle.values.specs.Values.{pick, holds, fits}
+use Rattle.values.proofs.Values.{fits-known, fits-unknown, pick-fits}
+use Rattle.values.proofs.Operators.{unary-fits, binary-fits, choice-fits}
 use Rattle.values.specs.Planes.{valueAt}
 use Rattle.values.proofs.Planes.{valueAt-past, valueAt-unknown, valueAt-known}
 use Rattle.sheet.specs.Expression.{Expr}
 use Rattle.sheet.specs.Module.{Module}
 use Rattle.state.specs.Saved.{listOf}
+use Rattle.soundness.specs.Soundness.{Fitting}
 use Rattle.events.specs.Cycle.{variables, codeOf, instrAt, isWait}
 use Rattle.events.proofs.Cycle.{absurd-bool, and-left, and-right, Below, at-end, before, below-suc}
 use Rattle.nextstate.specs.Nodes.{Node, aVariable, aConstant, anUnknown, aUnary, aBinary, aConditional, aBranch, nodeAt, nodeWidth, nodeValue, Worked, workOut, worked}
 use Rattle.nextstate.specs.Book.{put, worth}
-use Rattle.nextstate.specs.CycleRun.{nodeFits, nodesFit, widthsFrom, lands, landings, tablesIn}
+use Rattle.nextstate.specs.CycleRun.{width?, nodeFits, nodesFit, widthsFrom, lands, landings, tablesIn}
 use Rattle.cycles.specs.Cells.{sizeIn, nodesIn, fitsAt, worthAt}
 use Rattle.cycles.specs.Running.{Planes, planes, valuesIn, putAt, workBelow}
 use Rattle.cycles.proofs.Cells.{fits-list, fits-same, worth-same}
-use Rattle.cycles.proofs.Passes.{widthsTo, widths-next, length-widths, fit-node, landings-next, length-landings}
+use Rattle.cycles.proofs.Passes.{widthsTo, widths-next, length-widths, fit-first, fit-node, landings-next, length-landings}
 use Rattle.cycles.proofs.Settling.{Long, put-long, values-put}
 
 -- ---- one node more at the end
@@ -189,20 +192,6 @@ module _ (m : Module Expr) (ns : List ℕ) (fit : nodesFit m (listOf 4096 (nodeA
           let w = works count h in
           nodes-values (at count) (w .0) n ∙ w .1 n o ∙ sym (value-first (m .scope .widths) f (nodeAt ns) 4096 count n h o)
 
-      -- All of them: also past the last.
-      pub all-worth : (rs : List ℕ) (n : ℕ) → nodesIn (at 4096 .value) (at 4096 .unknown) n ≡ worth m (tablesIn ns rs) f n
-      unfolding worth tablesIn nodesIn
-      all-worth rs n = by (decLt n 4096)
-        where
-          by :
-              Dec (n < 4096) →
-              nodesIn (at 4096 .value) (at 4096 .unknown) n ≡ getD (workedTo (m .scope .widths) f (nodeAt ns) 4096 .values) n Unknown
-          by (yes h) = nodes-worth rs 4096 n (le-refl 4096) h
-          by (no d) =
-              rw (le-ltb n 4096 (omega arith))
-              (sym (List·getD-eq-default (workedTo (m .scope .widths) f (nodeAt ns) 4096 .values) Unknown
-              (omega (arith, length-worked (m .scope .widths) f (nodeAt ns) 4096))))
-
     -- ---- what stands for a wait of thread i is worth its place
 
     module _ (i : ℕ) where
@@ -212,7 +201,7 @@ module _ (m : Module Expr) (ns : List ℕ) (fit : nodesFit m (listOf 4096 (nodeA
       abbrev mark : ℕ → ℕ → Bool
       mark n a = getD (landings m i (listOf n (nodeAt ns)) []) a false
 
-      mark-below : (n a : ℕ) → mark n a ≡ true → a < n
+      pub mark-below : (n a : ℕ) → mark n a ≡ true → a < n
       mark-below n a h = by (ltb a n) refl
         where
           by : (t : Bool) → ltb a n ≡ t → a < n
@@ -269,3 +258,63 @@ module _ (m : Module Expr) (ns : List ℕ) (fit : nodesFit m (listOf 4096 (nodeA
           (rs : List ℕ) (n : ℕ) → getD (landings m i (listOf 4096 (nodeAt ns)) []) n false ≡ true → Lands (worth m (tablesIn ns rs) f n)
       unfolding worth tablesIn
       place-worth rs n h = lands-worth 4096 n h
+
+-- ---- where the variables' values fit their widths, what a node is worth fits the node's
+
+arms-fit :
+    (us : List ℕ) (vs : List Value) → ((a : ℕ) → a < length us → fits (getD us a 0) (getD vs a Unknown) ≡ true) → (a b : ℕ) →
+    (ltb a (length us) && (ltb b (length us) && eqb (getD us a 0) (getD us b 0))) ≡ true →
+    (fits (getD us a 0) (getD vs a Unknown) ≡ true) × (fits (getD us a 0) (getD vs b Unknown) ≡ true)
+arms-fit us vs k a b e =
+    let both = and-right (ltb a (length us)) (ltb b (length us) && eqb (getD us a 0) (getD us b 0)) e in
+    let w = eqb-true (getD us a 0) (getD us b 0) (and-right (ltb b (length us)) (eqb (getD us a 0) (getD us b 0)) both) in (
+      k a (ltb-true a (length us) (and-left (ltb a (length us)) (ltb b (length us) && eqb (getD us a 0) (getD us b 0)) e)),
+      rw w (k b (ltb-true b (length us) (and-left (ltb b (length us)) (eqb (getD us a 0) (getD us b 0)) both))),
+    )
+
+value-fits :
+    (m : Module Expr) (us : List ℕ) (f : ℕ → Value) (vs : List Value) → Fitting (m .scope) f →
+    ((a : ℕ) → a < length us → fits (getD us a 0) (getD vs a Unknown) ≡ true) → (d : Node) → nodeFits m us d ≡ true →
+    fits (nodeWidth (m .scope .widths) us d) (nodeValue us f vs d) ≡ true
+unfolding nodeFits nodeWidth nodeValue variables
+value-fits m us f vs h k (aVariable v) e = h v (ltb-true v (length (m .scope .widths)) e)
+value-fits m us f vs h k (aConstant w n) e = fits-known w n (ltb-true n (2 ^ w) (and-right (width? m w) (ltb n (2 ^ w)) e))
+value-fits m us f vs h k (anUnknown w) e = fits-unknown w
+value-fits m us f vs h k (aUnary o a) e = unary-fits o (getD us a 0) (getD vs a Unknown)
+value-fits m us f vs h k (aBinary o a b) e =
+    let p = arms-fit us vs k a b e in
+    binary-fits o (getD us a 0) (getD vs a Unknown) (getD vs b Unknown) (p .0) (p .1)
+value-fits m us f vs h k (aConditional c a b) e =
+    let p = arms-fit us vs k a b (and-right (ltb c (length us)) _ e) in
+    choice-fits (getD us a 0) (getD vs c Unknown) (getD vs a Unknown) (getD vs b Unknown) (p .0) (p .1)
+value-fits m us f vs h k (aBranch c a b) e =
+    let p = arms-fit us vs k a b (and-right (ltb c (length us)) _ e) in
+    pick-fits (getD us a 0) (holds (getD vs c Unknown)) (getD vs a Unknown) (getD vs b Unknown) (p .0) (p .1)
+
+module _ (m : Module Expr) (g : ℕ → Node) (f : ℕ → Value) (h : Fitting (m .scope) f) where
+  abbrev Fit : ℕ → ℕ → Type 0
+  Fit n a = fits (getD (widthsTo m g n) a 0) (getD (workedTo (m .scope .widths) f g n .values) a Unknown) ≡ true
+
+  width-last : (n : ℕ) → getD (widthsTo m g (suc n)) n 0 ≡ nodeWidth (m .scope .widths) (widthsTo m g n) (g n)
+  width-last n =
+      ap (λ (w : List ℕ). getD w n 0) (widths-next m g n) ∙ getD-at (widthsTo m g n) _ [] 0 n (length-widths m g n)
+
+  last-fits : (n : ℕ) → nodeFits m (widthsTo m g n) (g n) ≡ true → ((a : ℕ) → a < n → Fit n a) → Fit (suc n) n
+  last-fits n e r =
+      rw (width-last n, value-last (m .scope .widths) f g n, widths-worked m g f n)
+      (value-fits m (widthsTo m g n) f (workedTo (m .scope .widths) f g n .values) h
+      (λ a o. r a (omega (arith, length-widths m g n))) (g n) e)
+
+  worked-fits : (n : ℕ) → nodesFit m (listOf n g) [] ≡ true → (a : ℕ) → a < n → Fit n a
+  worked-fits zero e a l = absurd (not-suc-le-zero l)
+  worked-fits (suc n) e a l = by (λ b o. worked-fits n (fit-first m g (suc n) n (omega arith) e) b o) (below-suc n a l)
+    where
+      by : ((b : ℕ) → b < n → Fit n b) → Below n a → Fit (suc n) a
+      by r (at-end u) = rw u (last-fits n (fit-node m g (suc n) n (omega arith) e) r)
+      by r (before o) = rw (width-before m g n a o, value-before (m .scope .widths) f g n a o) (r a o)
+
+pub worth-fits :
+    (m : Module Expr) (ns rs : List ℕ) (f : ℕ → Value) → Fitting (m .scope) f → nodesFit m (listOf 4096 (nodeAt ns)) [] ≡ true →
+    (n : ℕ) → n < 4096 → fits (getD (widthsFrom m (listOf 4096 (nodeAt ns)) []) n 0) (worth m (tablesIn ns rs) f n) ≡ true
+unfolding worth tablesIn
+worth-fits m ns rs f h fit n l = worked-fits m (nodeAt ns) f h 4096 fit n l

@@ -21,6 +21,7 @@ use Rattle.nextstate.specs.declared.Registers.{Registers}
 use Rattle.nextstate.specs.declared.Clocked.{Clocked}
 use Rattle.nextstate.specs.Rules.{writes, someThread}
 use Rattle.nextstate.specs.Nodes.{nodeAt}
+use Rattle.threads.specs.Ruled.{Ruled}
 use Rattle.nextstate.specs.CycleRun.{widthsFrom, tablesFit, tablesIn, registersFit, clockedIn}
 use Rattle.cycles.specs.Checking.{rowsTo}
 
@@ -29,6 +30,7 @@ use Rattle.cycles.specs.Checking.{rowsTo}
 
 pub record Context (s : List ℕ) (m : Module Expr) (ws starts code lengths firsts written : List ℕ) (all : List Bool) (shape : Shape) : Type 0 where
   pub sound : Sound m
+  pub ruled : Ruled m
   pub readers : List ℕ
   pub watched : List Bool
   pub holding : Holding s m starts lengths code readers watched

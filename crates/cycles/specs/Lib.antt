@@ -2,4 +2,5 @@ pub mod Cells
 pub mod Checking
 pub mod Running
 pub mod Context
+pub mod Rounds
 pub mod Many

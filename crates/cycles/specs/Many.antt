@@ -18,7 +18,7 @@ use Rattle.nextstate.specs.declared.Clocked.{Clocked}
 use Rattle.nextstate.specs.Extraction.{Tables, rightLengths}
 use Rattle.nextstate.specs.CycleRun.{tablesFit, tablesIn, registersFit, refused, clockedIn, extractable, cycleRun}
 use Rattle.cycles.specs.declared.Cycled.{Cycled}
-use Rattle.cycles.specs.Context.{Context, TablesJudged, CycleAnswers}
+use Rattle.cycles.specs.Context.{Context, TablesJudged}
 
 -- ---- rows of 16: item 0, the clock's, isn't looked at, item v + 1 is input item v of the cycle run
 
@@ -84,17 +84,11 @@ cyclesRun s ns rs g value unknown =
 
 -- ---- what the code answers on a sheet whose tables are filled
 
--- A cycle run on lent tables that were found in order, with their nodes' widths.
-abbrev pub TurnAnswers : List ℕ → List ℕ → List ℕ → List ℕ → List ℕ → List ℕ → List ℕ → List Bool → Shape → List ℕ → List ℕ → List ℕ → Registers → Inputs → Clocked → Type 0
-TurnAnswers s ws starts code lengths firsts written all shape ns rs sizes g a r =
-    (before : List ℕ) → length before ≡ 4096 → TablesJudged s ws code lengths firsts written shape ns rs before sizes true →
-    CycleAnswers s ws starts code lengths firsts written all shape ns rs g a r
-
--- The rows on such tables.
+-- The rows, on lent tables that were found in order, with their nodes' widths, and from registers that fit.
 abbrev pub RowsAnswer : List ℕ → List ℕ → List ℕ → List ℕ → List ℕ → List ℕ → List ℕ → List Bool → Shape → List ℕ → List ℕ → List ℕ → Registers → List ℕ → List Bool → Cycled → Type 0
 RowsAnswer s ws starts code lengths firsts written all shape ns rs sizes g value unknown r =
     (before : List ℕ) → length before ≡ 4096 → TablesJudged s ws code lengths firsts written shape ns rs before sizes true →
-    (m : Module Expr) → Context s m ws starts code lengths firsts written all shape →
+    (m : Module Expr) → Context s m ws starts code lengths firsts written all shape → registersFit m g ≡ true →
     r ≡ cyclesOf (clockedIn m (tablesIn ns rs)) g value unknown (shape .inputs)
 
 -- The call from 24 on.

@@ -1,22 +1,28 @@
 // Many cycles in one call: the rows of inputs that a caller lends, and a cycle for each. The sheet and the tables are judged
 // once.
 use crate::Cycled;
-use crate::calls::inputs_right;
 use crate::calls::refused;
 use crate::calls::registers_right;
 use crate::calls::tables_fit;
-use crate::running::clock;
+use crate::running::answer;
+use crate::running::place;
+use crate::running::put_all;
+use crate::running::put_value;
+use crate::running::step;
 use crate::running::upper;
 use engine::Shape;
-use events::Inputs;
 use nextstate::Clocked;
 use nextstate::Registers;
+use sheet::byte_at;
+use values::Value;
 ghost use mathlib.Core.Path.{_≡_};
 ghost use mathlib.Core.Bool.{false};
-ghost use Prim.Native.Nat.{_+_, _≤_};
+ghost use Prim.Native.Nat.{_+_, _-_, _≤_, _<_};
 ghost use lib.ListN.{getD};
 ghost use Rattle.masks.specs.Masks.{bits};
-ghost use Rattle.cycles.specs.Many.{itemsFrom, inputsFrom, registersOf, ended, TurnAnswers, RowsAnswer, ManyAnswers};
+ghost use Rattle.cycles.specs.Running.{planes, putAll, stand};
+ghost use Rattle.cycles.specs.Many.{ended, RowsAnswer, ManyAnswers};
+ghost use Rattle.cycles.specs.Rounds.{itemAt, itemsFit, Reached, lastAt};
 
 // The number `v` places after `at`; past the end 0.
 fn number_at(numbers: &[u32], at: usize, v: usize) -> u32
@@ -44,55 +50,79 @@ fn flag_at(flags: &[bool], at: usize, v: usize) -> bool
     flags[at + v]
 }
 
-// 15 numbers from a place on.
-fn numbers_from(numbers: &[u32], at: usize) -> [u32; 16]
-    ensures { λ row. ⌜ row ≡ itemsFrom (now (numbers .entry)) 0 at ⌝ }
+// Item `v` of a row of inputs, whose first stands at a place: x where its flag is up.
+fn item_at(numbers: &[u32], flags: &[bool], at: usize, v: usize) -> Value
+    ensures { λ a. ⌜ a ≡ itemAt (now (numbers .entry)) (now (flags .entry)) at v ⌝ }
 {
-    let mut row = [0u32; 16];
-    let mut v: usize = 0;
-    while v < 15 {
-        row[v] = number_at(numbers, at, v);
-        v += 1;
+    if flag_at(flags, at, v) {
+        return Value::Unknown;
     }
-    row
+    Value::Known(number_at(numbers, at, v))
 }
 
-// 15 flags from a place on.
-fn flags_from(flags: &[bool], at: usize) -> [bool; 16]
-    ensures { λ row. ⌜ row ≡ itemsFrom (now (flags .entry)) false at ⌝ }
+// 25: do the inputs of a row fit their widths?
+fn items_fit(widths: &[u8], inputs: u8, numbers: &[u32], flags: &[bool], at: usize) -> bool
+    ensures { λ t. ⌜ t ≡ itemsFit (now (widths .entry)) inputs (now (numbers .entry)) (now (flags .entry)) at ⌝ }
 {
-    let mut row = [false; 16];
-    let mut v: usize = 0;
-    while v < 15 {
-        row[v] = flag_at(flags, at, v);
-        v += 1;
+    let n = upper(inputs);
+    let mut k: u8 = 0;
+    while k < n {
+        let v = place(k);
+        let w = byte_at(widths, 1 + v);
+        if !values::fits(w, item_at(numbers, flags, at, v)) {
+            return false;
+        }
+        k += 1;
     }
-    row
+    true
 }
 
-// The inputs of a cycle, from the place of input 1 on.
-fn inputs_from(inputs: u8, numbers: &[u32], flags: &[bool], at: usize) -> Inputs
-    ensures { λ a. ⌜ a ≡ inputsFrom inputs (now (numbers .entry)) (now (flags .entry)) at ⌝ }
+// Puts the inputs of a row into their slots.
+fn put_items(
+    inputs: u8,
+    numbers: &[u32],
+    flags: &[bool],
+    at: usize,
+    value: &mut [u32; 80],
+    unknown: &mut [bool; 80],
+)
+    ensures { λ _. ⌜
+        planes (now (value .exit)) (now (unknown .exit))
+        ≡ putAll 80 1 (itemAt (now (numbers .entry)) (now (flags .entry)) at) (inputs - 1)
+        (planes (now (value .entry)) (now (unknown .entry)))
+        ⌝ }
 {
-    Inputs {
-        count: upper(inputs),
-        value: numbers_from(numbers, at),
-        unknown: flags_from(flags, at),
+    let n = upper(inputs);
+    let mut k: u8 = 0;
+    while k < n {
+        let v = place(k);
+        let a = item_at(numbers, flags, at, v);
+        put_value(value, unknown, 1 + v, a);
+        k += 1;
     }
 }
 
-// The registers and places that a cycle gave.
-fn registers_of(last: Clocked) -> Registers
-    ensures { λ r. ⌜ r ≡ registersOf last ⌝ }
+// How many nodes there are up to an entry, if it is one of the 4,096, and to `n`.
+fn further(n: u16, entry: u16) -> u16
+    ensures { λ r. ⌜ (n ≤ r) × (entry < 4096 → entry < r) × (n ≤ 4096 → r ≤ 4096) ⌝ }
 {
-    let value = last.value;
-    let unknown = last.unknown;
-    let places = last.places;
-    Registers {
-        value,
-        unknown,
-        places,
+    if 4096 <= entry {
+        return n;
     }
+    if entry < n { n } else { entry + 1 }
+}
+
+// How many nodes the rows reach.
+fn reach(rows: &[u16]) -> u16
+    ensures { λ n. ⌜ Reached (now (rows .entry)) n ⌝ }
+{
+    let mut n: u16 = 1;
+    let mut j: usize = 0;
+    while j < rows.len() {
+        n = further(n, rows[j]);
+        j += 1;
+    }
+    n
 }
 
 // Where the cycles end: how many, the number that refused the next, and what the last one gave.
@@ -115,54 +145,42 @@ pub fn ended(cycles: usize, number: u8, last: Clocked) -> Cycled
     }
 }
 
-// A cycle on tables that were found in order: "31, 25", and the cycle.
-fn turn(
+// What the last of `r` cycles gave, from the planes and places that it left; before the first the registers as handed, and wires x.
+fn last_of(
     sheet: &[u8],
     widths: &[u8],
     starts: &[usize; 32],
-    code: &[u16; 4096],
-    lengths: &[usize; 8],
-    firsts: &[u16; 8],
-    written: &[u32; 8],
     all: u32,
     shape: Shape,
-    nodes: &[u16],
-    rows: &[u16],
-    sizes: &[u8; 4096],
     before: Registers,
-    given: Inputs,
+    value: [u32; 80],
+    unknown: [bool; 80],
+    places: [u8; 8],
+    r: usize,
 ) -> Clocked
-    requires { ⌜ shape .threads ≤ 8 ⌝ }
-    ensures { λ r. ⌜
-        TurnAnswers (now (sheet .entry)) (now (widths .entry)) (now (starts .entry)) (now (code .entry)) (now (lengths .entry))
-        (now (firsts .entry)) (now (written .entry)) (bits all) shape (now (nodes .entry)) (now (rows .entry)) (now (sizes .entry))
-        before given r
+    ensures { λ c. ⌜
+        c
+        ≡ lastAt (now (sheet .entry)) (now (widths .entry)) (now (starts .entry)) (bits all) shape before r
+        (stand value unknown places)
         ⌝ }
 {
-    if !registers_right(sheet, widths, code, lengths, shape, before) {
-        return refused(31, before);
+    if r == 0 {
+        return refused(0, before);
     }
-    if !inputs_right(widths, shape.inputs, given) {
-        return refused(25, before);
-    }
-    clock(
+    answer(
         sheet,
         widths,
         starts,
-        code,
-        nodes,
-        rows,
-        sizes,
-        firsts,
-        written,
         all,
         shape,
         before,
-        given,
+        value,
+        unknown,
+        places,
     )
 }
 
-// A cycle for each row, up to the first that is refused.
+// A cycle for each row, up to the first that is refused, on planes that stay from row to row.
 fn run_rows(
     sheet: &[u8],
     widths: &[u8],
@@ -188,33 +206,72 @@ fn run_rows(
         ⌝ }
 {
     let n = value.len() / 16;
-    let mut last = refused(0, before);
+    let count = reach(rows);
+    let mut held = [0u32; 80];
+    let mut dim = [true; 80];
+    put_all(
+        shape.inputs,
+        &before.value,
+        &before.unknown,
+        shape.registers,
+        &mut held,
+        &mut dim,
+    );
+    put_value(&mut held, &mut dim, 0, Value::Known(1));
+    let mut worth = [0u32; 4096];
+    let mut blank = [true; 4096];
+    let mut places = before.places;
     let mut r: usize = 0;
     while r < n {
-        let given = inputs_from(shape.inputs, value, unknown, 16 * r + 1);
-        let held = registers_of(last);
-        let next = turn(
+        let at = 16 * r + 1;
+        if !items_fit(widths, shape.inputs, value, unknown, at) {
+            let last = last_of(
+                sheet,
+                widths,
+                starts,
+                all,
+                shape,
+                before,
+                held,
+                dim,
+                places,
+                r,
+            );
+            return ended(r, 25, last);
+        }
+        put_items(shape.inputs, value, unknown, at, &mut held, &mut dim);
+        step(
             sheet,
             widths,
             starts,
             code,
-            lengths,
-            firsts,
-            written,
-            all,
-            shape,
             nodes,
             rows,
             sizes,
-            held,
-            given,
+            firsts,
+            written,
+            shape,
+            count,
+            &mut worth,
+            &mut blank,
+            &mut held,
+            &mut dim,
+            &mut places,
         );
-        if next.number != 0 {
-            return ended(r, next.number, last);
-        }
-        last = next;
         r += 1;
     }
+    let last = last_of(
+        sheet,
+        widths,
+        starts,
+        all,
+        shape,
+        before,
+        held,
+        dim,
+        places,
+        r,
+    );
     ended(r, 0, last)
 }
 

@@ -3,7 +3,7 @@
 use crate::Cell;
 use values::Value;
 ghost use mathlib.Core.Path.{_≡_};
-ghost use Prim.Native.Nat.{_+_, _*_, _%_};
+ghost use Prim.Native.Nat.{ℕ, _+_, _*_, _%_};
 ghost use lib.ListN.{length, getD};
 ghost use Rattle.values.specs.Planes.{valueAt};
 ghost use Rattle.nextstate.specs.Nodes.{nodeFrom, nodeAt};
@@ -104,42 +104,96 @@ pub fn node_value<'a>(worth: &'a [u32; 4096], blank: &'a [bool; 4096], n: u16) -
     }
 }
 
-// What a node is worth, on the values of the variables and of the nodes before it.
-pub fn worth_of<'a>(
+// What an operator's node is worth, by its kind; x of a kind that is none.
+fn operated<'a>(
+    sizes: &[u8; 4096],
+    worth: &'a [u32; 4096],
+    blank: &'a [bool; 4096],
+    k: u16,
+    a: u16,
+    b: u16,
+) -> Value
+    ensures { λ r. ⌜
+        ((f : ℕ → Value) →
+        r ≡ worthAt (sizeIn (now (sizes .entry))) f (nodesIn (now (worth .entry)) (now (blank .entry))) (operatorOf k a b))
+        ⌝ }
+{
+    if k < 11 {
+        return Value::Unknown;
+    }
+    if 19 < k {
+        return Value::Unknown;
+    }
+    let op = (k - 10) as u8;
+    let w = size_at(sizes, a);
+    let x = node_value(worth, blank, a);
+    if k <= 12 {
+        return values::unary(op, w, x);
+    }
+    let y = node_value(worth, blank, b);
+    values::binary(op, w, x, y)
+}
+
+// What the node of four words is worth, on the values of the variables and of the nodes before it.
+fn worth_from<'a>(
     sizes: &[u8; 4096],
     value: &'a [u32; 80],
     unknown: &'a [bool; 80],
     worth: &'a [u32; 4096],
     blank: &'a [bool; 4096],
-    cell: Cell,
+    k: u16,
+    a: u16,
+    b: u16,
+    c: u16,
 ) -> Value
     ensures { λ r. ⌜
         r ≡ worthAt (sizeIn (now (sizes .entry))) (valueAt (now (value .entry)) (now (unknown .entry)))
-        (nodesIn (now (worth .entry)) (now (blank .entry))) (nodeOf cell)
+        (nodesIn (now (worth .entry)) (now (blank .entry))) (nodeFrom k a b c)
         ⌝ }
 {
-    match cell {
-        Cell::Variable(v) => values::value_at(value, unknown, wide(v)),
-        Cell::Constant { width: _, number } => Value::Known(number),
-        Cell::Blank(_) => Value::Unknown,
-        Cell::Unary { op, a } => {
-            values::unary(op, size_at(sizes, a), node_value(worth, blank, a))
-        }
-        Cell::Binary { op, a, b } => values::binary(
-            op,
-            size_at(sizes, a),
+    match k {
+        0 => values::value_at(value, unknown, wide(a)),
+        1 => Value::Known(low(b) + 65536 * low(c)),
+        2 => Value::Unknown,
+        20 => values::choice(
             node_value(worth, blank, a),
             node_value(worth, blank, b),
-        ),
-        Cell::Conditional { c, a, b } => values::choice(
             node_value(worth, blank, c),
-            node_value(worth, blank, a),
-            node_value(worth, blank, b),
         ),
-        Cell::Branch { c, a, b } => if values::holds(node_value(worth, blank, c)) {
-            node_value(worth, blank, a)
-        } else {
+        40 => if values::holds(node_value(worth, blank, a)) {
             node_value(worth, blank, b)
+        } else {
+            node_value(worth, blank, c)
         },
+        _ => operated(sizes, worth, blank, k, a, b),
     }
+}
+
+// What node `n` of the lent words is worth.
+pub fn worth_at<'a>(
+    nodes: &[u16],
+    sizes: &[u8; 4096],
+    value: &'a [u32; 80],
+    unknown: &'a [bool; 80],
+    worth: &'a [u32; 4096],
+    blank: &'a [bool; 4096],
+    n: u16,
+) -> Value
+    ensures { λ r. ⌜
+        r ≡ worthAt (sizeIn (now (sizes .entry))) (valueAt (now (value .entry)) (now (unknown .entry)))
+        (nodesIn (now (worth .entry)) (now (blank .entry))) (nodeAt (now (nodes .entry)) n)
+        ⌝ }
+{
+    let i = 4 * wide(n);
+    worth_from(
+        sizes,
+        value,
+        unknown,
+        worth,
+        blank,
+        word_at(nodes, i),
+        word_at(nodes, i + 1),
+        word_at(nodes, i + 2),
+        word_at(nodes, i + 3),
+    )
 }

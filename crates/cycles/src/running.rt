@@ -2,10 +2,9 @@
 // specs/Running for tables of any contents.
 use crate::checking::entry_at;
 use crate::checking::waits_to;
-use crate::nodes::cell_at;
 use crate::nodes::node_value;
 use crate::nodes::wide;
-use crate::nodes::worth_of;
+use crate::nodes::worth_at;
 use engine::Shape;
 use events::Inputs;
 use nextstate::Clocked;
@@ -19,7 +18,7 @@ ghost use Rattle.cycles.specs.Cells.{sizeIn, nodesIn};
 ghost use Rattle.cycles.specs.Running.{planes, putAt, putAll, startAt, settleAt, workBelow, takeRegister, takeRegisters, stand, course, takeThread, takeBelow, keepRegister, keepRegisters, stepAt, handAt, clockAt, answerAt};
 
 // A byte as a place.
-fn place(b: u8) -> usize
+pub fn place(b: u8) -> usize
     ensures { λ r. ⌜ r ≡ b ⌝ }
 {
     b as usize
@@ -103,7 +102,7 @@ pub fn work_out<'a>(
 {
     let mut n: u16 = 0;
     while n < count {
-        let a = worth_of(sizes, value, unknown, worth, blank, cell_at(nodes, n));
+        let a = worth_at(nodes, sizes, value, unknown, worth, blank, n);
         put_node(worth, blank, n, a);
         n += 1;
     }

@@ -4,7 +4,8 @@ use Prim.Native.Nat.{ℕ, _+_, _-_, _≤_}
 use mathlib.Core.Path.{_≡_, refl}
 use native.Mathlib.Omega.{arith}
 use Rattle.values.specs.Planes.{valueAt}
-use Rattle.cycles.specs.Cells.{nodeOf, sizeIn}
+use Rattle.nextstate.specs.Nodes.{nodeAt}
+use Rattle.cycles.specs.Cells.{sizeIn}
 use Rattle.cycles.specs.Running.{planes, workBelow}
 use Rattle.cycles.proofs.Planes.{work-more}
 use Rattle.cycles.proofs.running.work_out.Statement.{statement}
@@ -23,14 +24,13 @@ loop-holds c = (omega arith, refl)
 
 loop-again : tie.Need-loop-again Inv-loop μ-loop
 loop-again c =
-    let the-loop = c .before .before .before .before .before .before .before .before .loop in
-    let the-cell-at = c .before .before .before .before .cell-at in
-    let the-worth-of = c .before .before .before .worth-of in
-    let a = c .before .before .before .before .before .before .before .before .before .before .args in (
+    let the-loop = c .before .before .before .before .before .before .before .loop in
+    let the-worth-at = c .before .before .before .worth-at in
+    let a = c .before .before .before .before .before .before .before .before .before .args in (
       omega arith,
       work-more (a .nodes .now) (sizeIn (a .sizes .now)) (valueAt (a .value .now) (a .unknown .now))
-          (planes (a .worth .now) (a .blank .now)) (the-loop .n) (nodeOf (the-cell-at .result)) (the-worth-of .result)
-          (planes (the-loop .worth) (the-loop .blank)) _ (the-loop .inv .1) (the-cell-at .ensures) (the-worth-of .ensures) (c .put-node .ensures),
+          (planes (a .worth .now) (a .blank .now)) (the-loop .n) (nodeAt (a .nodes .now) (the-loop .n)) (the-worth-at .result)
+          (planes (the-loop .worth) (the-loop .blank)) _ (the-loop .inv .1) refl (the-worth-at .ensures) (c .put-node .ensures),
     )
 
 returns : tie.Need-returns Inv-loop μ-loop
@@ -45,7 +45,6 @@ work-out-spec =
     Inv-loop
     μ-loop
     loop-holds
-    (λ c κs. search needs)
     (λ c κs. search needs)
     (λ c κs. search needs)
     (λ c. search needs)
