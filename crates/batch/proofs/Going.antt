@@ -7,7 +7,6 @@ use native.Mathlib.Omega.{arith}
 use lib.Dec.{eqb}
 use borrow.Author.Tests.{ne-eqb, eq-eqb}
 use Rattle.values.specs.Values.{pick}
-use Rattle.values.specs.Planes.{valueAt}
 use Rattle.state.specs.declared.State.{State}
 use Rattle.events.specs.declared.Inputs.{Inputs}
 use Rattle.events.specs.Calls.{spend, inputOf}
@@ -56,9 +55,8 @@ module _ (q : Plan) (a : Inputs) (time : ℕ) (l : Live) where
 
 pub fed-live :
     (q : Plan) (a : Inputs) (c d : Scene) (held kept : List Bool) (pending : List ℕ) (unsure : List Bool) →
-    d ≡ feed q (valueAt (a .value) (a .unknown)) c → kept ≡ held →
+    d ≡ feed q (inputOf a) c → kept ≡ held →
     live d kept pending unsure ≡ inScene (feed q (inputOf a)) (live c held pending unsure)
-unfolding inputOf
 fed-live q a c d held kept pending unsure h e = rw (h, e)
 
 pub count-room :

@@ -1,4 +1,4 @@
-pub mod Copying
+pub mod Items
 pub mod Going
 pub mod Course
 pub mod Answers

@@ -3,28 +3,42 @@
 use crate::Phased;
 use crate::Reached;
 use crate::rows;
+use changes::Made;
 use changes::Marks;
 use engine::Shape;
-use events::Inputs;
 ghost use mathlib.Core.Path.{_≡_};
-ghost use mathlib.Core.Bool.{Bool};
+ghost use mathlib.Core.Bool.{Bool, false};
 ghost use mathlib.Core.List.{List};
 ghost use Prim.Native.Nat.{ℕ, _*_, _/_};
 ghost use lib.ListN.{length};
+ghost use Rattle.masks.specs.Masks.{bits};
+ghost use Rattle.events.specs.Calls.{inputOf};
+ghost use Rattle.changes.specs.Scene.{tables, scene};
+ghost use Rattle.changes.specs.Changes.{changing};
 ghost use Rattle.engine.specs.Live.{planOf, standing};
+ghost use Rattle.engine.specs.Acting.{putInputs, feed};
 ghost use Rattle.batch.specs.Cycles.{rowInputs};
 ghost use Rattle.batch.specs.Phases.{refusalAt, phase, phaseAt, course, phasesAt};
 
-// The number of an instant, 0 where it is accepted.
-fn refusal(widths: &[u8], shape: Shape, marks: Marks, time: u32, a: Inputs) -> u8
+// The number of instant number `p`, 0 where it is accepted.
+fn refusal(
+    widths: &[u8],
+    shape: Shape,
+    marks: Marks,
+    time: u32,
+    numbers: &[u32],
+    flags: &[bool],
+    p: usize,
+) -> u8
     ensures { λ r. ⌜
         ((sheet code readers : List ℕ) (watched : List Bool) (starts value : List ℕ) (unknown : List Bool)
         (places pending : List ℕ) (unsure : List Bool) →
-        r ≡ refusalAt (planOf sheet (now (widths .entry)) code readers watched starts shape) a time
+        r ≡ refusalAt (planOf sheet (now (widths .entry)) code readers watched starts shape)
+        (rowInputs (shape .inputs) (now (numbers .entry)) (now (flags .entry)) p) time
         (standing value unknown places pending unsure marks))
         ⌝ }
 {
-    if !fitting::inputs_fit(widths, shape.inputs, a) {
+    if !rows::inputs_fit(widths, shape.inputs, numbers, flags, p) {
         return 25;
     }
     if engine::busy(marks) {
@@ -33,7 +47,104 @@ fn refusal(widths: &[u8], shape: Shape, marks: Marks, time: u32, a: Inputs) -> u
     if time == 4294967295 { 36 } else { 0 }
 }
 
-// An instant and the plain run after it.
+// Puts the inputs of instant number `p`.
+fn put_inputs(
+    readers: &[u32; 80],
+    watched: &[bool; 80],
+    inputs: u8,
+    value: &mut [u32; 80],
+    unknown: &mut [bool; 80],
+    due: u32,
+    numbers: &[u32],
+    flags: &[bool],
+    p: usize,
+) -> Made
+    ensures { λ r. ⌜
+        ((sheet code : List ℕ) (threads : ℕ) (ps : List ℕ) (rs : List Bool)
+        → changing (scene (now (value .exit)) (now (unknown .exit)) ps (bits (r .due)) rs) (r .hit)
+        ≡ putInputs (tables sheet code (now (readers .entry)) (now (watched .entry)) threads)
+        (inputOf (rowInputs inputs (now (numbers .entry)) (now (flags .entry)) p)) inputs
+        (changing (scene (now (value .entry)) (now (unknown .entry)) ps (bits due) rs) false))
+        ⌝ }
+{
+    let mut made = Made { due, hit: false };
+    let mut n: u8 = 0;
+    while n < inputs {
+        let a = rows::input_at(numbers, flags, p, n);
+        made = changes::put(
+            readers,
+            watched,
+            value,
+            unknown,
+            made.due,
+            made.hit,
+            rows::wide(n),
+            a,
+        );
+        n += 1;
+    }
+    made
+}
+
+// The inputs of instant number `p`: all are put, and then the waits fire on the whole change.
+fn feed(
+    sheet: &[u8],
+    code: &[u16; 4096],
+    readers: &[u32; 80],
+    watched: &[bool; 80],
+    shape: Shape,
+    value: &mut [u32; 80],
+    unknown: &mut [bool; 80],
+    places: &mut [u8; 8],
+    marks: Marks,
+    numbers: &[u32],
+    flags: &[bool],
+    p: usize,
+) -> Marks
+    ensures { λ r. ⌜
+        ((widths starts : List ℕ)
+        → scene (now (value .exit)) (now (unknown .exit)) (now (places .exit)) (bits (r .due)) (bits (r .ready))
+        ≡ feed
+        (planOf (now (sheet .entry)) widths (now (code .entry)) (now (readers .entry)) (now (watched .entry)) starts
+        shape) (inputOf (rowInputs (shape .inputs) (now (numbers .entry)) (now (flags .entry)) p))
+        (scene (now (value .entry)) (now (unknown .entry)) (now (places .entry)) (bits (marks .due))
+        (bits (marks .ready))))
+        ⌝ }
+    ensures { λ r. ⌜ r .held ≡ marks .held ⌝ }
+{
+    let before = *value;
+    let blank = *unknown;
+    let made = put_inputs(
+        readers,
+        watched,
+        shape.inputs,
+        value,
+        unknown,
+        marks.due,
+        numbers,
+        flags,
+        p,
+    );
+    let m = changes::finish(
+        sheet,
+        code,
+        shape.threads,
+        &before,
+        &blank,
+        value,
+        unknown,
+        places,
+        made,
+        marks,
+    );
+    Marks {
+        due: m.due,
+        ready: m.ready,
+        held: m.held,
+    }
+}
+
+// Instant number `p` and the plain run after it.
 fn phase(
     sheet: &[u8],
     widths: &[u8],
@@ -50,7 +161,9 @@ fn phase(
     marks: Marks,
     time: u32,
     count: u32,
-    a: Inputs,
+    numbers: &[u32],
+    flags: &[bool],
+    p: usize,
 ) -> Phased
     ensures { λ r. ⌜
         phase (r .number) (r .running)
@@ -58,12 +171,13 @@ fn phase(
         (now (unsure .exit)) (r .marks)) (r .time) (r .count)
         ≡ phaseAt
         (planOf (now (sheet .entry)) (now (widths .entry)) (now (code .entry)) (now (readers .entry))
-        (now (watched .entry)) (now (starts .entry)) shape) a time count
+        (now (watched .entry)) (now (starts .entry)) shape)
+        (rowInputs (shape .inputs) (now (numbers .entry)) (now (flags .entry)) p) time count
         (standing (now (value .entry)) (now (unknown .entry)) (now (places .entry)) (now (pending .entry))
         (now (unsure .entry)) marks)
         ⌝ }
 {
-    let number = refusal(widths, shape, marks, time, a);
+    let number = refusal(widths, shape, marks, time, numbers, flags, p);
     if number != 0 {
         return Phased {
             number,
@@ -73,7 +187,7 @@ fn phase(
             count,
         };
     }
-    let fed = engine::feed(
+    let fed = feed(
         sheet,
         code,
         readers,
@@ -83,8 +197,9 @@ fn phase(
         unknown,
         places,
         marks,
-        &a.value,
-        &a.unknown,
+        numbers,
+        flags,
+        p,
     );
     let run = engine::run_plain(
         sheet,
@@ -104,12 +219,18 @@ fn phase(
         count,
     );
     let left = run.marks;
+    let next = time + 1;
+    let total = count + run.accepted as u32;
     Phased {
         number: run.number,
         running: run.number != 0,
-        marks: left,
-        time: time + 1,
-        count: count + run.accepted as u32,
+        marks: Marks {
+            due: left.due,
+            ready: left.ready,
+            held: left.held,
+        },
+        time: next,
+        count: total,
     }
 }
 
@@ -147,12 +268,14 @@ pub fn run_phases(
         ⌝ }
 {
     let n = 2 * (numbers.len() / 16);
-    let mut m = marks;
+    let mut due = marks.due;
+    let mut ready = marks.ready;
+    let mut held = marks.held;
     let mut t = time;
     let mut k = count;
     let mut p: usize = 0;
     while p < n {
-        let a = rows::row_inputs(shape.inputs, numbers, flags, p);
+        let m = Marks { due, ready, held };
         let f = phase(
             sheet,
             widths,
@@ -169,9 +292,14 @@ pub fn run_phases(
             m,
             t,
             k,
-            a,
+            numbers,
+            flags,
+            p,
         );
-        m = f.marks;
+        let left = f.marks;
+        due = left.due;
+        ready = left.ready;
+        held = left.held;
         t = f.time;
         k = f.count;
         if f.number != 0 {
@@ -179,7 +307,7 @@ pub fn run_phases(
                 phases: p,
                 number: f.number,
                 running: f.running,
-                marks: m,
+                marks: left,
                 time: t,
                 count: k,
             };
@@ -190,7 +318,7 @@ pub fn run_phases(
         phases: p,
         number: 0,
         running: false,
-        marks: m,
+        marks: Marks { due, ready, held },
         time: t,
         count: k,
     }

@@ -1,63 +1,81 @@
-// The inputs of an instant, out of the rows of 16 that a caller lends: two instants go by each row.
-use events::Inputs;
+// The inputs of an instant, as they stand in the rows of 16 that a caller lends: two instants go by each row.
+use sheet::byte_at;
+use values::Value;
+use values::fits;
 ghost use mathlib.Core.Path.{_≡_};
 ghost use mathlib.Core.Bool.{false};
-ghost use mathlib.Core.List.{_∷_};
-ghost use Prim.Native.Nat.{_+_, _*_, _≤_, _<_};
-ghost use lib.ListN.{length};
-ghost use Rattle.batch.specs.Cycles.{rowFrom, rowInputs};
+ghost use Prim.Native.Nat.{ℕ, _+_, _*_};
+ghost use lib.ListN.{getD};
+ghost use Rattle.events.specs.Calls.{inputOf};
+ghost use Rattle.fitting.specs.Fitting.{inputsFitAt};
+ghost use Rattle.batch.specs.Cycles.{rowInputs};
 
-// As many as there are, 16 at most.
-fn sixteen(n: usize) -> usize
-    ensures { λ r. ⌜ (r ≤ 16) × (r ≤ n) × (r < 16 → n ≤ r) ⌝ }
+// A byte as a place.
+pub fn wide(b: u8) -> usize
+    ensures { λ r. ⌜ r ≡ b ⌝ }
 {
-    if n < 16 { n } else { 16 }
+    b as usize
 }
 
-// The numbers of row `r`, the clock's in the place of the first.
-fn row_numbers(numbers: &[u32], r: usize, clock: u32) -> [u32; 16]
-    ensures { λ row. ⌜ row ≡ clock ∷ rowFrom (now (numbers .entry)) 0 r 1 15 ⌝ }
+// The number at place `v` of row `r`, 0 past the end.
+fn number_at(numbers: &[u32], r: usize, v: usize) -> u32
+    ensures { λ n. ⌜ n ≡ getD (now (numbers .entry)) (16 * r + v) 0 ⌝ }
 {
-    let mut row = [0u32; 16];
-    row[0] = clock;
     if numbers.len() / 16 < r {
-        return row;
+        return 0;
     }
     let at = 16 * r;
-    let n = sixteen(numbers.len() - at);
-    let mut v: usize = 1;
-    while v < n {
-        row[v] = numbers[at + v];
-        v += 1;
+    if numbers.len() - at <= v {
+        return 0;
     }
-    row
+    numbers[at + v]
 }
 
-// The flags of row `r`, down for the clock.
-fn row_flags(flags: &[bool], r: usize) -> [bool; 16]
-    ensures { λ row. ⌜ row ≡ false ∷ rowFrom (now (flags .entry)) false r 1 15 ⌝ }
+// The flag at place `v` of row `r`, down past the end.
+fn flag_at(flags: &[bool], r: usize, v: usize) -> bool
+    ensures { λ x. ⌜ x ≡ getD (now (flags .entry)) (16 * r + v) false ⌝ }
 {
-    let mut row = [false; 16];
     if flags.len() / 16 < r {
-        return row;
+        return false;
     }
     let at = 16 * r;
-    let n = sixteen(flags.len() - at);
-    let mut v: usize = 1;
-    while v < n {
-        row[v] = flags[at + v];
-        v += 1;
+    if flags.len() - at <= v {
+        return false;
     }
-    row
+    flags[at + v]
 }
 
-// The inputs of instant number `p`.
-pub fn row_inputs(inputs: u8, numbers: &[u32], flags: &[bool], p: usize) -> Inputs
-    ensures { λ a. ⌜ a ≡ rowInputs inputs (now (numbers .entry)) (now (flags .entry)) p ⌝ }
+// Input `v` of instant number `p`: the clock for the first, and what the row has for the others.
+pub fn input_at(numbers: &[u32], flags: &[bool], p: usize, v: u8) -> Value
+    ensures { λ a. ⌜ ((inputs : ℕ) → a ≡ inputOf (rowInputs inputs (now (numbers .entry)) (now (flags .entry)) p) v) ⌝ }
 {
-    Inputs {
-        count: inputs,
-        value: row_numbers(numbers, p / 2, (p % 2) as u32),
-        unknown: row_flags(flags, p / 2),
+    if v == 0 {
+        return Value::Known((p % 2) as u32);
     }
+    if 16 <= v {
+        return Value::Unknown;
+    }
+    let r = p / 2;
+    let k = wide(v);
+    if flag_at(flags, r, k) {
+        return Value::Unknown;
+    }
+    Value::Known(number_at(numbers, r, k))
+}
+
+// 25: does each input of instant number `p` fit its width?
+pub fn inputs_fit(widths: &[u8], inputs: u8, numbers: &[u32], flags: &[bool], p: usize) -> bool
+    ensures { λ r. ⌜
+        r ≡ inputsFitAt (now (widths .entry)) inputs (rowInputs inputs (now (numbers .entry)) (now (flags .entry)) p)
+        ⌝ }
+{
+    let mut v: u8 = 0;
+    while v < inputs {
+        let a = input_at(numbers, flags, p, v);
+        if !fits(byte_at(widths, wide(v)), a) {
+            return false;
+        }
+        v += 1;
+    }
+    true
 }

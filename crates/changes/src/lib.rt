@@ -328,7 +328,7 @@ pub fn store(
         let before = *value;
         let blank = *unknown;
         let made = put(readers, watched, value, unknown, marks.due, false, v, a);
-        return finish(
+        let m = finish(
             sheet,
             code,
             threads,
@@ -340,6 +340,11 @@ pub fn store(
             made,
             marks,
         );
+        return Marks {
+            due: m.due,
+            ready: m.ready,
+            held: m.held,
+        };
     }
     let made = put(readers, watched, value, unknown, marks.due, false, v, a);
     Marks {

@@ -1,8 +1,8 @@
 -- Laws of what one choice does: an action of a thread, a due wire, the commit and the inputs, each by what the code did.
-use mathlib.Core.Path.{_≡_, sym, ap}
-use Prim.Native.Nat.{ℕ, _+_, _-_, _%_, _≤_, _<_}
+use mathlib.Core.Path.{_≡_, refl, sym, ap, _∙_}
+use Prim.Native.Nat.{ℕ, zero, suc, _+_, _-_, _%_, _≤_, _<_}
 use native.Mathlib.Numerals.{add-one}
-use mathlib.Core.Bool.{Bool, true, false}
+use mathlib.Core.Bool.{Bool, true, false, _&&_}
 use mathlib.Core.List.{List}
 use lib.ListN.{getD, set, replicate}
 use borrow.Author.Tests.{lt-ltb, le-ltb}
@@ -10,8 +10,11 @@ use Rattle.values.specs.declared.Value.{Value}
 use Rattle.values.specs.Values.{pick, holds}
 use Rattle.values.specs.Planes.{valueAt, numberOf, isUnknown}
 use Rattle.pseudocode.specs.declared.Action.the-variants.{Set, Later, Go, IfNot}
+use Rattle.events.specs.Cycle.{anyBelow}
+use Rattle.events.proofs.Cycle.{or-left, or-right}
 use Rattle.changes.specs.Scene.{Tables, Scene, scene, valuesIn}
 use Rattle.changes.specs.Changes.{after, placed, Changing, changing, put, finish, store}
+use Rattle.changes.proofs.Changing.{put-unwatched}
 use Rattle.engine.specs.Live.{Plan, Live, live, worth}
 use Rattle.engine.specs.Acting.{defer, inScene, act, unmarked, settle}
 use Rattle.engine.specs.Acting.{putRegister, putPending, commit, putInputs, feed}
@@ -20,6 +23,19 @@ use Rattle.engine.specs.Acting.{putRegister, putPending, commit, putInpu
 
 pub placed-same : (t : Tables) (i p r : ℕ) (b c d : Scene) → d ≡ placed t i p b → p ≡ r → b ≡ c → d ≡ placed t i r c
 placed-same t i p r b c d e h u = rw (← h, ← u) e
+
+-- ---- a value put that no wait sees
+
+unseen-one : (q : Plan) (b : Bool) (v : ℕ) (x : Value) (k : Changing) → k .hit ≡ false
+    → (b && getD (q .tables .watched) v false) ≡ false → pick b (put (q .tables) v x k) k .hit ≡ false
+unseen-one q false v x k h e = h
+unseen-one q true v x k h e =
+    ap (λ (t : Bool). put (q .tables) v x (changing (k .scene) t) .hit) h
+    ∙ put-unwatched (q .tables) v x (k .scene) e
+
+finish-unseen : (t : Tables) (f : ℕ → Value) (k : Changing) → k .hit ≡ false → k .scene ≡ finish t f k
+unfolding finish
+finish-unseen t f k e = rw e
 
 module _ (q : Plan) where
   -- ---- defer
@@ -89,12 +105,29 @@ module _ (q : Plan) where
     unfolding putPending
     pending-more n k = ap (λ (m : ℕ). putPending q hs a m k) (add-one n)
 
+    -- Where no wait names a register that holds a value, no wait is put to the test.
+    pub pending-unseen : (n : ℕ) (c : Scene)
+        → anyBelow n (λ m. getD hs m false && getD (q .tables .watched) (q .shape .inputs + m) false) ≡ false
+        → putPending q hs a n (changing c false) .hit ≡ false
+    unfolding putPending anyBelow
+    pending-unseen zero c h = refl
+    pending-unseen (suc n) c h =
+        let f : ℕ → Bool = λ m. getD hs m false && getD (q .tables .watched) (q .shape .inputs + m) false in
+        unseen-one q (getD hs n false) (q .shape .inputs + n) (a n) (putPending q hs a n (changing c false))
+        (pending-unseen n c (or-left (anyBelow n f) (f n) h)) (or-right (anyBelow n f) (f n) h)
+
   pub commit-finish : (c d : Scene) (hs es : List Bool) (ns : List ℕ) (xs : List Bool) (k : Changing)
       → k ≡ putPending q hs (valueAt ns xs) (q .shape .registers) (changing c false)
       → d ≡ finish (q .tables) (valuesIn c) k → es ≡ replicate 32 false
       → live d es ns xs ≡ commit q (live c hs ns xs)
   unfolding commit
   commit-finish c d hs es ns xs k h e u = rw (u, e, h)
+
+  pub commit-unseen : (c : Scene) (hs es : List Bool) (ns : List ℕ) (xs : List Bool) (k : Changing)
+      → k ≡ putPending q hs (valueAt ns xs) (q .shape .registers) (changing c false) → k .hit ≡ false
+      → es ≡ replicate 32 false → live (k .scene) es ns xs ≡ commit q (live c hs ns xs)
+  commit-unseen c hs es ns xs k h e u =
+      commit-finish c (k .scene) hs es ns xs k h (finish-unseen (q .tables) (valuesIn c) k e) u
 
   -- ---- feed
 

@@ -4,19 +4,23 @@
 use changes::Made;
 use changes::Marks;
 use pseudocode::Action;
-use pseudocode::Instruction;
+use sheet::byte_at;
 use values::Value;
 ghost use mathlib.Core.Path.{_≡_};
-ghost use mathlib.Core.Bool.{Bool, false};
+ghost use mathlib.Core.Bool.{Bool, false, _&&_};
 ghost use mathlib.Core.List.{List};
-ghost use Prim.Native.Nat.{ℕ, _-_, _%_};
+ghost use Prim.Native.Nat.{ℕ, _+_, _-_, _%_};
+ghost use lib.ListN.{getD};
 ghost use Rattle.values.specs.Values.{pick, holds};
 ghost use Rattle.values.specs.Planes.{valueAt};
 ghost use Rattle.evaluation.specs.Bytes.{evalAt};
+ghost use Rattle.pseudocode.specs.declared.Instruction.the-variants.{Act};
+ghost use Rattle.pseudocode.specs.Fetching.{decode, fetchAt};
 ghost use Rattle.masks.specs.Masks.{bits};
 ghost use Rattle.events.specs.Calls.{spend};
+ghost use Rattle.events.specs.Cycle.{anyBelow};
 ghost use Rattle.changes.specs.Scene.{Scene, tables, scene};
-ghost use Rattle.changes.specs.Changes.{after, placed, changing, store};
+ghost use Rattle.changes.specs.Changes.{waiting, after, placed, changing, store};
 ghost use Rattle.engine.specs.Live.{live, planOf, standing};
 ghost use Rattle.engine.specs.Acting.{defer, act, settle, putRegister, putPending, commit, putInputs, feed};
 ghost use Rattle.engine.specs.Acting.{taken, takeThread, takeWire, takeCommit, take};
@@ -65,6 +69,13 @@ fn narrow(n: usize) -> u8
     b as u8
 }
 
+// A word as a place.
+fn wide_word(w: u16) -> usize
+    ensures { λ r. ⌜ r ≡ w ⌝ }
+{
+    w as usize
+}
+
 // 36 where the count is full, else 0.
 fn spend(count: u32) -> u8
     ensures { λ r. ⌜ r ≡ spend count ⌝ }
@@ -82,7 +93,7 @@ fn register_of(v: u8, inputs: u8) -> usize
     wide(v - inputs)
 }
 
-// The value of the expression that stands at a place.
+// The value of the expression that stands at a place. A variable's is looked up here.
 pub fn worth<'a>(
     sheet: &[u8],
     widths: &[u8],
@@ -96,6 +107,13 @@ pub fn worth<'a>(
         at .value
         ⌝ }
 {
+    if sheet.len() <= at {
+        return Value::Unknown;
+    }
+    if sheet[at] == 0x02 {
+        let v = byte_at(sheet, at + 1);
+        return values::value_at(value, unknown, wide(v));
+    }
     let e = evaluation::eval_expr(sheet, widths, value, unknown, at, 16);
     e.value
 }
@@ -285,7 +303,7 @@ fn act(
     }
 }
 
-// Wire `k`: its mark is cleared, and its expression is stored.
+// Wire `k`: its mark is cleared, and its expression is stored. A wire that no wait names is only put.
 fn settle(
     sheet: &[u8],
     widths: &[u8],
@@ -320,19 +338,30 @@ fn settle(
         held: marks.held,
     };
     let v = wide(shape.inputs) + wide(shape.registers) + k;
-    changes::store(
-        sheet,
-        code,
-        readers,
-        watched,
-        shape.threads,
-        value,
-        unknown,
-        places,
-        cleared,
-        v,
-        a,
-    )
+    if 80 <= v {
+        return cleared;
+    }
+    if watched[v] {
+        return changes::store(
+            sheet,
+            code,
+            readers,
+            watched,
+            shape.threads,
+            value,
+            unknown,
+            places,
+            cleared,
+            v,
+            a,
+        );
+    }
+    let made = changes::put(readers, watched, value, unknown, cleared.due, false, v, a);
+    Marks {
+        due: made.due,
+        ready: marks.ready,
+        held: marks.held,
+    }
 }
 
 // Puts the value that register `n` holds for the commit, if it holds one.
@@ -407,7 +436,44 @@ fn put_pending<'a>(
     made
 }
 
-// The commit: all values that are held are put, and then the waits fire on the whole change.
+// Can a wait see register `n` change? Only where it is named, and the register holds a value.
+fn seen_at(watched: &[bool; 80], shape: Shape, held: u32, n: u8) -> bool
+    ensures { λ r. ⌜
+        (r ≡ false → (getD (bits held) n false && getD (now (watched .entry)) (shape .inputs + n) false) ≡ false)
+        ⌝ }
+{
+    let k = wide(n);
+    let v = wide(shape.inputs) + k;
+    if 80 <= v {
+        return true;
+    }
+    if masks::has(held, k) {
+        watched[v]
+    } else {
+        false
+    }
+}
+
+// Can a wait see one of the registers change?
+fn seen(watched: &[bool; 80], shape: Shape, held: u32) -> bool
+    ensures { λ r. ⌜
+        (r ≡ false → anyBelow (shape .registers)
+        (λ n. getD (bits held) n false && getD (now (watched .entry)) (shape .inputs + n) false) ≡ false)
+        ⌝ }
+{
+    let registers = shape.registers;
+    let mut n: u8 = 0;
+    while n < registers {
+        if seen_at(watched, shape, held, n) {
+            return true;
+        }
+        n += 1;
+    }
+    false
+}
+
+// The commit: all values that are held are put, and then the waits fire on the whole change. The planes are copied only where
+// a wait can see one of the registers change.
 fn commit<'a>(
     sheet: &[u8],
     code: &[u16; 4096],
@@ -432,6 +498,24 @@ fn commit<'a>(
         (now (unsure .entry)) marks))
         ⌝ }
 {
+    if !seen(watched, shape, marks.held) {
+        let put = put_pending(
+            readers,
+            watched,
+            shape,
+            value,
+            unknown,
+            pending,
+            unsure,
+            marks.due,
+            marks.held,
+        );
+        return Marks {
+            due: put.due,
+            ready: marks.ready,
+            held: 0,
+        };
+    }
     let before = *value;
     let blank = *unknown;
     let made = put_pending(
@@ -545,6 +629,36 @@ pub fn feed<'a>(
     )
 }
 
+// The action that two words of the code table stand for; there is none where they stand for a wait.
+fn action_of(w: u16, x: u16) -> Action
+    ensures { λ r. ⌜ ((sheet : List ℕ) → (w % 8 ≡ 0 → ⊥) → decode sheet w x ≡ Act r) ⌝ }
+{
+    let kind = w % 8;
+    let at = wide_word(w / 8);
+    let goal = wide_word(x);
+    let target = (x % 256) as u8;
+    match kind {
+        1 => Action::Set { target, at },
+        2 => Action::Later { target, at },
+        3 => Action::Go(goal),
+        _ => Action::IfNot { goal, at },
+    }
+}
+
+// The action at a place of a thread, where no wait stands there.
+fn action_at(code: &[u16; 4096], i: usize, p: u8) -> Action
+    ensures { λ r. ⌜
+        ((sheet : List ℕ) → waiting (fetchAt sheet (now (code .entry)) i p) ≡ false
+        → fetchAt sheet (now (code .entry)) i p ≡ Act r)
+        ⌝ }
+{
+    if 8 <= i {
+        return Action::Go(0);
+    }
+    let k = 512 * i + 2 * wide(p);
+    action_of(code[k], code[k + 1])
+}
+
 // A choice of thread `i`: refused where it finds the thread at a wait, else the instruction is taken apart and run.
 fn take_thread(
     sheet: &[u8],
@@ -581,10 +695,10 @@ fn take_thread(
         };
     }
     let p = places[i];
-    let instruction = pseudocode::fetch(sheet, code, i, wide(p));
-    let Instruction::Act(action) = instruction else {
+    if changes::waits(sheet, code, i, p) {
         return Taken { number: 33, marks };
-    };
+    }
+    let action = action_at(code, i, p);
     if count == 4294967295 {
         return Taken { number: 36, marks };
     }
@@ -939,10 +1053,13 @@ pub fn run_plain(
         (now (unsure .entry)) marks)
         ⌝ }
 {
-    let mut m = marks;
+    let mut due = marks.due;
+    let mut ready = marks.ready;
+    let mut held = marks.held;
     let mut total = count;
     let mut i: u16 = 0;
     while i < limit {
+        let m = Marks { due, ready, held };
         if !busy(m) {
             return PlainRun {
                 accepted: i,
@@ -968,20 +1085,23 @@ pub fn run_plain(
             c,
             total,
         );
-        m = t.marks;
+        let left = t.marks;
         if t.number != 0 {
             return PlainRun {
                 accepted: i,
                 number: t.number,
-                marks: m,
+                marks: left,
             };
         }
+        due = left.due;
+        ready = left.ready;
+        held = left.held;
         total += 1;
         i += 1;
     }
     PlainRun {
         accepted: i,
         number: 0,
-        marks: m,
+        marks: Marks { due, ready, held },
     }
 }

@@ -29,8 +29,8 @@ fn nothing() -> Evaluated
 // The variable of a number; the place after it.
 fn eval_variable<'a>(
     widths: &[u8],
-    value: &'a [u32],
-    unknown: &'a [bool],
+    value: &'a [u32; 80],
+    unknown: &'a [bool; 80],
     v: u8,
     next: usize,
 ) -> Evaluated
@@ -44,19 +44,43 @@ fn eval_variable<'a>(
     }
 }
 
+// An operand at a place. Most are variables: those are answered here, and need no call further down.
+fn eval_operand<'a>(
+    sheet: &[u8],
+    widths: &[u8],
+    value: &'a [u32; 80],
+    unknown: &'a [bool; 80],
+    at: usize,
+    depth: u8,
+) -> Evaluated
+    ensures { λ r. ⌜ r ≡ evalAt depth (now (sheet .entry)) (now (widths .entry)) (valueAt (now (value .entry)) (now (unknown .entry))) at ⌝ }
+{
+    if depth == 0 {
+        return nothing();
+    }
+    if sheet.len() <= at {
+        return nothing();
+    }
+    if sheet[at] == 0x02 {
+        let v = byte_at(sheet, at + 1);
+        return eval_variable(widths, value, unknown, v, at + 2);
+    }
+    eval_expr(sheet, widths, value, unknown, at, depth)
+}
+
 // A unary operator; its operand at a place.
 fn eval_unary<'a>(
     sheet: &[u8],
     widths: &[u8],
-    value: &'a [u32],
-    unknown: &'a [bool],
+    value: &'a [u32; 80],
+    unknown: &'a [bool; 80],
     op: u8,
     at: usize,
     depth: u8,
 ) -> Evaluated
     ensures { λ r. ⌜ r ≡ unaryNode (evalAt depth (now (sheet .entry)) (now (widths .entry)) (valueAt (now (value .entry)) (now (unknown .entry)))) op at ⌝ }
 {
-    let a = eval_expr(sheet, widths, value, unknown, at, depth);
+    let a = eval_operand(sheet, widths, value, unknown, at, depth);
     let operand = a.value;
     let width = a.width;
     Evaluated {
@@ -70,16 +94,16 @@ fn eval_unary<'a>(
 fn eval_binary<'a>(
     sheet: &[u8],
     widths: &[u8],
-    value: &'a [u32],
-    unknown: &'a [bool],
+    value: &'a [u32; 80],
+    unknown: &'a [bool; 80],
     op: u8,
     at: usize,
     depth: u8,
 ) -> Evaluated
     ensures { λ r. ⌜ r ≡ binaryNode (evalAt depth (now (sheet .entry)) (now (widths .entry)) (valueAt (now (value .entry)) (now (unknown .entry)))) op at ⌝ }
 {
-    let a = eval_expr(sheet, widths, value, unknown, at, depth);
-    let b = eval_expr(sheet, widths, value, unknown, a.next, depth);
+    let a = eval_operand(sheet, widths, value, unknown, at, depth);
+    let b = eval_operand(sheet, widths, value, unknown, a.next, depth);
     let left = a.value;
     let right = b.value;
     let width = a.width;
@@ -94,16 +118,16 @@ fn eval_binary<'a>(
 fn eval_conditional<'a>(
     sheet: &[u8],
     widths: &[u8],
-    value: &'a [u32],
-    unknown: &'a [bool],
+    value: &'a [u32; 80],
+    unknown: &'a [bool; 80],
     at: usize,
     depth: u8,
 ) -> Evaluated
     ensures { λ r. ⌜ r ≡ conditionalNode (evalAt depth (now (sheet .entry)) (now (widths .entry)) (valueAt (now (value .entry)) (now (unknown .entry)))) at ⌝ }
 {
-    let c = eval_expr(sheet, widths, value, unknown, at, depth);
-    let a = eval_expr(sheet, widths, value, unknown, c.next, depth);
-    let b = eval_expr(sheet, widths, value, unknown, a.next, depth);
+    let c = eval_operand(sheet, widths, value, unknown, at, depth);
+    let a = eval_operand(sheet, widths, value, unknown, c.next, depth);
+    let b = eval_operand(sheet, widths, value, unknown, a.next, depth);
     let condition = c.value;
     let first = a.value;
     let second = b.value;
@@ -118,8 +142,8 @@ fn eval_conditional<'a>(
 fn eval_inner<'a>(
     sheet: &[u8],
     widths: &[u8],
-    value: &'a [u32],
-    unknown: &'a [bool],
+    value: &'a [u32; 80],
+    unknown: &'a [bool; 80],
     map: u8,
     field: u8,
     at: usize,
@@ -145,8 +169,8 @@ fn eval_inner<'a>(
 pub fn eval_expr<'a>(
     sheet: &[u8],
     widths: &[u8],
-    value: &'a [u32],
-    unknown: &'a [bool],
+    value: &'a [u32; 80],
+    unknown: &'a [bool; 80],
     at: usize,
     depth: u8,
 ) -> Evaluated

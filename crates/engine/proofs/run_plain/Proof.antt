@@ -3,6 +3,7 @@
 use Prim.Native.Nat.{ℕ, _≤_, _-_}
 use native.Mathlib.Omega.{arith}
 use mathlib.Core.Path.{_≡_, sym, ap, _∙_}
+use Rattle.changes.specs.declared.Marks.{Marks}
 use Rattle.engine.specs.Live.{planOf, standing}
 use Rattle.engine.specs.Acting.{Taken, take}
 use Rattle.engine.specs.Running.{runPlain}
@@ -13,20 +14,23 @@ use borrow.Author.Tests.{not-true, not-false}
 use Rattle.engine.proofs.run_plain.Statement.{statement}
 use Rattle.engine.proofs.run_plain.Tie as tie
 
+abbrev marked : ℕ → ℕ → ℕ → Marks
+marked due ready held = record { due = due; ready = ready; held = held }
+
 abbrev Inv-loop : tie.InvT-loop
 Inv-loop sheet widths code readers watched starts shape value₀ unknown₀ pending₀ unsure₀ places₀
-    limit count m₀ total₀ i₀ value unknown pending unsure places m total i =
+    limit count due₀ ready₀ held₀ total₀ i₀ value unknown pending unsure places due ready held total i =
     (i ≤ limit)
     × (total ≤ 4294967295)
     × (ahead i
     (runPlain (planOf sheet widths code readers watched starts shape) (limit - i) total
-    (standing value unknown places pending unsure m))
+    (standing value unknown places pending unsure (marked due ready held)))
     ≡ runPlain (planOf sheet widths code readers watched starts shape) limit count
-    (standing value₀ unknown₀ places₀ pending₀ unsure₀ m₀))
+    (standing value₀ unknown₀ places₀ pending₀ unsure₀ (marked due₀ ready₀ held₀)))
 
 abbrev μ-loop : tie.MeasureT-loop
 μ-loop sheet widths code readers watched starts shape value₀ unknown₀ pending₀ unsure₀ places₀
-    limit count m₀ total₀ i₀ value unknown pending unsure places m total i =
+    limit count due₀ ready₀ held₀ total₀ i₀ value unknown pending unsure places due ready held total i =
     limit - i
 
 loop-holds : tie.Need-loop-holds Inv-loop μ-loop
@@ -45,7 +49,7 @@ returns c =
     let q =
     planOf (a .sheet .now) (a .widths .now) (a .code .now) (a .readers .now) (a .watched .now) (a .starts .now)
     (a .shape) in
-    let l = standing (p .value) (p .unknown) (p .places) (p .pending) (p .unsure) (p .m) in
+    let l = standing (p .value) (p .unknown) (p .places) (p .pending) (p .unsure) (marked (p .due) (p .ready) (p .held)) in
     let b =
     sym (c .before .busy .ensures (p .value) (p .unknown) (p .places) (p .pending) (p .unsure)) ∙ not-true _ (c .if1 .taken) in
     sym (plain-quiet q (p .total) l (p .i) (a .limit) b) ∙ p .inv .2
@@ -63,7 +67,7 @@ returns-2 c =
     let q =
     planOf (a .sheet .now) (a .widths .now) (a .code .now) (a .readers .now) (a .watched .now) (a .starts .now)
     (a .shape) in
-    let l = standing (p .value) (p .unknown) (p .places) (p .pending) (p .unsure) (p .m) in
+    let l = standing (p .value) (p .unknown) (p .places) (p .pending) (p .unsure) (marked (p .due) (p .ready) (p .held)) in
     let b =
     sym (busy .ensures (p .value) (p .unknown) (p .places) (p .pending) (p .unsure)) ∙ not-false _ (if1 .left) in
     let k =
@@ -82,7 +86,7 @@ add-total c =
     let q =
     planOf (a .sheet .now) (a .widths .now) (a .code .now) (a .readers .now) (a .watched .now) (a .starts .now)
     (a .shape) in
-    let l = standing (p .value) (p .unknown) (p .places) (p .pending) (p .unsure) (p .m) in
+    let l = standing (p .value) (p .unknown) (p .places) (p .pending) (p .unsure) (marked (p .due) (p .ready) (p .held)) in
     let e = sym (ap (λ (t : Taken). t .number) (the-take .ensures)) ∙ c .if2 .left in
     let h : p .total ≡ 4294967295 → ⊥ = λ u. take-room q (p .total) u (plain-choice .result) l e in
     omega arith
@@ -100,7 +104,7 @@ loop-again c =
     let q =
     planOf (a .sheet .now) (a .widths .now) (a .code .now) (a .readers .now) (a .watched .now) (a .starts .now)
     (a .shape) in
-    let l = standing (p .value) (p .unknown) (p .places) (p .pending) (p .unsure) (p .m) in
+    let l = standing (p .value) (p .unknown) (p .places) (p .pending) (p .unsure) (marked (p .due) (p .ready) (p .held)) in
     let b =
     sym (busy .ensures (p .value) (p .unknown) (p .places) (p .pending) (p .unsure)) ∙ not-false _ (if1 .left) in
     let k =
@@ -121,7 +125,7 @@ returns-3 c =
     let q =
     planOf (a .sheet .now) (a .widths .now) (a .code .now) (a .readers .now) (a .watched .now) (a .starts .now)
     (a .shape) in
-    let l = standing (p .value) (p .unknown) (p .places) (p .pending) (p .unsure) (p .m) in
+    let l = standing (p .value) (p .unknown) (p .places) (p .pending) (p .unsure) (marked (p .due) (p .ready) (p .held)) in
     sym (plain-end q (p .total) l (p .i) (a .limit) (omega arith)) ∙ p .inv .2
 
 pub run-plain-spec : {M : Type 1} → statement M
