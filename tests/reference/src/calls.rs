@@ -17,6 +17,28 @@ pub trait Calls {
     fn run_plain(&self, state: &mut State, limit: u16) -> (usize, u8);
     /// All inputs, the clock first.
     fn instant(&self, state: &mut State, inputs: &[Slot]) -> u8;
+
+    /// Clock cycles by events, the inputs from 1 up: for each row an instant with the clock low
+    /// and one with the clock high, each with a plain run after it, up to the first that is refused
+    /// or stopped; how many instants were done, and the number.
+    fn run_cycles(&self, state: &mut State, inputs: &[Vec<Slot>]) -> (usize, u8) {
+        let mut done = 0;
+        for row in inputs {
+            for clock in [0, 1] {
+                let all = [&[Slot::known(clock)], &row[..]].concat();
+                let number = match self.instant(state, &all) {
+                    0 => self.run_plain(state, u16::MAX).1,
+                    number => number,
+                };
+                if number != 0 {
+                    return (done, number);
+                }
+                done += 1;
+            }
+        }
+        (done, 0)
+    }
+
     fn extract(&self, nodes: &mut [u16], rows: &mut [u16]) -> u8;
     /// The inputs from 1 up.
     fn cycle(&self, nodes: &[u16], rows: &[u16], lane: &mut Lane, inputs: &[Slot]) -> u8;

@@ -39,5 +39,11 @@ pub mod differ;
 pub mod holding;
 pub mod order;
 
+pub mod stimulus;
+pub mod verilog;
+pub mod trace;
+pub mod icarus;
+pub mod second;
+
 #[cfg(feature = "proved")]
 pub mod library;

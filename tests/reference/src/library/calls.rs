@@ -44,6 +44,11 @@ impl Calls for Library<'_> {
         self.on_saved(state, |saved| super::instant(self.sheet, saved, &inputs))
     }
 
+    fn run_cycles(&self, state: &mut State, inputs: &[Vec<Slot>]) -> (usize, u8) {
+        let (value, unknown) = rows_of_16(inputs);
+        self.on_saved(state, |saved| super::run_cycles(self.sheet, saved, &value, &unknown))
+    }
+
     fn extract(&self, nodes: &mut [u16], rows: &mut [u16]) -> u8 {
         super::extract(self.sheet, nodes, rows)
     }
@@ -54,6 +59,7 @@ impl Calls for Library<'_> {
         *lane = planes.lane();
         number
     }
+
     fn cycles(
         &self,
         nodes: &[u16],

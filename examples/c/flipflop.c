@@ -1,0 +1,120 @@
+/*
+ * Document 01's flip-flop from C: read, listed, run by events and by expressions, saved, loaded, and refused.
+ *
+ *   cc -std=c11 -Wall -Wextra -Iinclude examples/c/flipflop.c target/staticlib/libexports.a -o flipflop
+ */
+#include <inttypes.h>
+#include <stdio.h>
+#include <stdlib.h>
+#include <string.h>
+
+#include "walbryts.h"
+
+static const uint8_t sheet[] = {0x02, 0x01, 0x00, 0x01, 0x01, 0x08, 0x08, 0x0C,
+                                0x10, 0x01, 0x01, 0x00, 0x23, 0x02, 0x02, 0x01};
+enum { INPUTS = 2, REGISTER = 2 };
+
+/* Ends the program where a call was refused that shouldn't have been. */
+static void accepted(const char *call, uint8_t number) {
+    if (number != 0) {
+        fprintf(stderr, "%s: refused %u\n", call, number);
+        exit(1);
+    }
+}
+
+/* ---- a saved state */
+
+static uint32_t number_at(const uint8_t *state, size_t at) {
+    return state[at] | (uint32_t)state[at + 1] << 8 | (uint32_t)state[at + 2] << 16 | (uint32_t)state[at + 3] << 24;
+}
+
+static void print_value(uint32_t number, bool unknown) {
+    if (unknown) {
+        printf("x");
+    } else {
+        printf("%" PRIu32, number);
+    }
+}
+
+static void print_state(const uint8_t *state) {
+    size_t at = WALBRYTS_VALUE_AT(REGISTER);
+    printf("time %" PRIu32 " count %" PRIu32 " place %u register ", number_at(state, WALBRYTS_TIME_AT),
+           number_at(state, WALBRYTS_COUNT_AT), state[WALBRYTS_PLACE_AT(0)]);
+    print_value(number_at(state, at + 1), state[at] == 1);
+    printf("\n");
+}
+
+/* ---- the calls */
+
+static void list(void) {
+    static uint8_t text[WALBRYTS_TEXT];
+    size_t place;
+    accepted("read", walbryts_read(sheet, sizeof sheet, &place));
+    fwrite(text, 1, walbryts_list(sheet, sizeof sheet, text), stdout);
+    uint8_t number = walbryts_read(sheet, sizeof sheet - 3, &place);
+    printf("without its last three bytes: refused %u at byte %zu\n", number, place);
+}
+
+/* A clock cycle: the clock low, then high, with a plain run after each. */
+static void cycle_by_events(uint8_t *state, uint32_t number, bool unknown) {
+    for (uint32_t clock = 0; clock < 2; clock++) {
+        uint32_t value[WALBRYTS_INPUTS] = {clock, number};
+        bool flags[WALBRYTS_INPUTS] = {false, unknown};
+        uint16_t choices;
+        uint8_t word;
+        accepted("instant", walbryts_instant(sheet, sizeof sheet, state, INPUTS, value, flags));
+        accepted("run_plain", walbryts_run_plain(sheet, sizeof sheet, state, 1000, &choices, &word));
+    }
+    print_state(state);
+}
+
+static void by_events(void) {
+    uint8_t state[WALBRYTS_STATE], kept[WALBRYTS_STATE];
+    accepted("start", walbryts_start(sheet, sizeof sheet, state));
+    print_state(state);
+    cycle_by_events(state, 5, false);
+    memcpy(kept, state, sizeof kept);
+    cycle_by_events(state, 0, true);
+    cycle_by_events(kept, 200, false);
+    printf("commit: refused %u\n", walbryts_choose(sheet, sizeof sheet, state, WALBRYTS_COMMIT));
+    kept[0] = 7;
+    printf("no saved state: %u\n", walbryts_choose(sheet, sizeof sheet, kept, WALBRYTS_COMMIT));
+}
+
+/* Three rows; the third is too wide. */
+static void by_rows(void) {
+    uint32_t value[3 * WALBRYTS_INPUTS] = {0};
+    bool unknown[3 * WALBRYTS_INPUTS] = {false};
+    uint8_t state[WALBRYTS_STATE];
+    size_t phases;
+    value[1] = 17;
+    value[WALBRYTS_INPUTS + 1] = 18;
+    value[2 * WALBRYTS_INPUTS + 1] = 256;
+    accepted("start", walbryts_start(sheet, sizeof sheet, state));
+    uint8_t number = walbryts_run_cycles(sheet, sizeof sheet, state, value, 3 * WALBRYTS_INPUTS, unknown,
+                                         3 * WALBRYTS_INPUTS, &phases);
+    printf("%zu instants, then %u; ", phases, number);
+    print_state(state);
+}
+
+static void by_expressions(void) {
+    static uint16_t nodes[WALBRYTS_NODE_WORDS], rows[WALBRYTS_ROW_WORDS];
+    uint32_t value[WALBRYTS_REGISTERS] = {0}, wire[WALBRYTS_WIRES], inputs[WALBRYTS_INPUTS] = {5};
+    bool unknown[WALBRYTS_REGISTERS] = {true}, unsure[WALBRYTS_WIRES], inputs_unknown[WALBRYTS_INPUTS] = {false};
+    uint8_t places[WALBRYTS_THREADS] = {0};
+    accepted("extract", walbryts_extract(sheet, sizeof sheet, nodes, WALBRYTS_NODE_WORDS, rows, WALBRYTS_ROW_WORDS));
+    printf("register 0 becomes node %u, the place node %u\n", rows[0], rows[32]);
+    accepted("cycle", walbryts_cycle(sheet, sizeof sheet, nodes, WALBRYTS_NODE_WORDS, rows, WALBRYTS_ROW_WORDS, value,
+                                     unknown, places, INPUTS - 1, inputs, inputs_unknown, wire, unsure));
+    printf("place %u register ", places[0]);
+    print_value(value[0], unknown[0]);
+    printf("\n");
+}
+
+int main(void) {
+    list();
+    by_events();
+    by_rows();
+    by_expressions();
+    return 0;
+}

@@ -1,0 +1,129 @@
+/*
+ * Walbryts for C: the functions of the proved static library libexports.a.
+ *
+ * A sheet is one module as bytes; every call takes it as a pointer and a length, and may be handed any bytes at all. A
+ * call gives document 01's number, 0 where nothing was refused; a refused call alters nothing but what is said below.
+ * Every call ends.
+ *
+ * No pointer may be NULL, also with the length 0; what a call writes may not overlap what it reads. A flag (bool) is 0
+ * or 1. Nothing is kept between calls: they may run in several threads at once, on arrays of their own.
+ *
+ * Variables are numbered from 0: inputs, then registers, then wires; input 0 is the clock. Items are threads, then
+ * wires.
+ */
+#ifndef WALBRYTS_H
+#define WALBRYTS_H
+
+#include <stdbool.h>
+#include <stddef.h>
+#include <stdint.h>
+
+#ifdef __cplusplus
+extern "C" {
+#endif
+
+/* ---- lengths */
+
+#define WALBRYTS_TEXT 65536 /* bytes of the buffer for a listing; no listing is longer */
+#define WALBRYTS_STATE 641  /* bytes of a saved state */
+#define WALBRYTS_INPUTS 16  /* inputs in a row */
+#define WALBRYTS_REGISTERS 32
+#define WALBRYTS_WIRES 32
+#define WALBRYTS_THREADS 8
+#define WALBRYTS_NODE_WORDS 16384 /* words of the node table: 4,096 nodes of four */
+#define WALBRYTS_ROW_WORDS 1056   /* words of the row table: 32 rows of 33 */
+
+/* ---- where a saved state has what. Multi-byte numbers are low byte first. Byte 0 names the form and is 1. */
+
+/* Value v: a byte, 1 for x or 0 for a known number, then four bytes of number. */
+#define WALBRYTS_VALUE_AT(v) (1 + 5 * (size_t)(v))
+/* The pending value of register r: a byte, 1 for held or 0, then a value. */
+#define WALBRYTS_PENDING_AT(r) (401 + 6 * (size_t)(r))
+/* The place of thread t: a byte. */
+#define WALBRYTS_PLACE_AT(t) (593 + (size_t)(t))
+/* Wire w is due: a byte, 0 or 1. */
+#define WALBRYTS_DUE_AT(w) (601 + (size_t)(w))
+/* The instants and the choices accepted: four bytes each. */
+#define WALBRYTS_TIME_AT 633
+#define WALBRYTS_COUNT_AT 637
+
+/* ---- numbers and words */
+
+#define WALBRYTS_COMMIT 255   /* the choice that commits all pending values */
+#define WALBRYTS_NO_STATE 255 /* given for bytes that are no saved state; no number of document 01 */
+#define WALBRYTS_QUIET 0      /* how a plain run ended: nothing enabled, nothing pending */
+#define WALBRYTS_SPENT 1      /* as many choices ran as were allowed, and it isn't quiet */
+#define WALBRYTS_STOPPED 2    /* by the number that the call gives */
+
+/* ---- the sheet */
+
+/* Reads the sheet. Gives 0, or a number from 1 to 11; *place takes the byte at which it was met, 0 where it is read. */
+uint8_t walbryts_read(const uint8_t *sheet, size_t sheet_len, size_t *place);
+
+/* Writes what the listing program prints for the sheet, `refused N` included, to the front of text[WALBRYTS_TEXT],
+ * without a NUL; what lies behind it stays. Gives its length. */
+size_t walbryts_list(const uint8_t *sheet, size_t sheet_len, uint8_t *text);
+
+/* ---- events. A state lies as its saved bytes in state[WALBRYTS_STATE] and becomes the one that the call gives back;
+ * keeping a copy of the bytes saves it, copying them back loads it. Each call gives WALBRYTS_NO_STATE, and alters
+ * nothing, where the bytes are no saved state. */
+
+/* The start state: all is x, places and counters 0, every wire due. The bytes in `state` may be any. Gives 0, or 1 to
+ * 11 (then no wire is due). */
+uint8_t walbryts_start(const uint8_t *sheet, size_t sheet_len, uint8_t *state);
+
+/* One choice: an item, whose instruction or wire is run, or WALBRYTS_COMMIT. Gives 0, or 1 to 11, 31, 22, 33, 34, 35,
+ * 36. */
+uint8_t walbryts_choose(const uint8_t *sheet, size_t sheet_len, uint8_t *state, uint8_t choice);
+
+/* The choices one after the other, up to the first that is refused. *accepted takes how many were accepted. Gives 0
+ * where all were, else the number that stopped it; numbers up to 11 and 31 are a refused call. */
+uint8_t walbryts_run(const uint8_t *sheet, size_t sheet_len, uint8_t *state, const uint8_t *choices, size_t choices_len,
+                     size_t *accepted);
+
+/* The plain run of at most `limit` choices: the lowest enabled item, else the commit. *accepted takes how many were
+ * accepted, *word how it ended. Gives 0 where it ended quiet or spent, else 1 to 11, 31, 36. */
+uint8_t walbryts_run_plain(const uint8_t *sheet, size_t sheet_len, uint8_t *state, uint16_t limit, uint16_t *accepted,
+                           uint8_t *word);
+
+/* An instant: sets all inputs, the clock first, as one change. The state must be quiet; the start state is after a
+ * plain run. value[16] and unknown[16] hold them, an x as a raised flag; `count` is how many there are. Gives 0, or 1
+ * to 11, 31, 25, 32, 36. */
+uint8_t walbryts_instant(const uint8_t *sheet, size_t sheet_len, uint8_t *state, uint8_t count, const uint32_t *value,
+                         const bool *unknown);
+
+/* Clock cycles: for each 16 values a row, with two instants, the clock low with the row's inputs and the clock high
+ * with nothing else changed, and a plain run of at most 65,535 choices after each. The state must be quiet at first. A
+ * row's item 0, the clock's, isn't looked at. *phases takes how many instants were done with the run after them. Gives
+ * 0 where all were, else the number that stopped it. */
+uint8_t walbryts_run_cycles(const uint8_t *sheet, size_t sheet_len, uint8_t *state, const uint32_t *value,
+                            size_t value_len, const bool *unknown, size_t unknown_len, size_t *phases);
+
+/* ---- expressions */
+
+/* The expressions of what every register becomes at a clock edge, into nodes[WALBRYTS_NODE_WORDS] and
+ * rows[WALBRYTS_ROW_WORDS]. Gives 0, or 23 for other lengths, 1 to 21; refused, every word stays. */
+uint8_t walbryts_extract(const uint8_t *sheet, size_t sheet_len, uint16_t *nodes, size_t nodes_len, uint16_t *rows,
+                         size_t rows_len);
+
+/* One clock cycle by the tables. value[32], unknown[32] and places[8] hold registers and wait places before it and
+ * become those after it; inputs[16] and inputs_unknown[16] the inputs from 1 up, of which `count` says how many there
+ * are; wire[32] and unsure[32] take the wires. Gives 0, or 23, 1 to 21, 24, 31, 25; refused, registers and places stay
+ * and the wires are x. */
+uint8_t walbryts_cycle(const uint8_t *sheet, size_t sheet_len, const uint16_t *nodes, size_t nodes_len,
+                       const uint16_t *rows, size_t rows_len, uint32_t *value, bool *unknown, uint8_t *places,
+                       uint8_t count, const uint32_t *inputs, const bool *inputs_unknown, uint32_t *wire, bool *unsure);
+
+/* A clock cycle by the tables for each 16 inputs, up to the first that is refused; a row's item 0, the clock's, isn't
+ * looked at. *cycles takes how many were accepted; the arrays become what the last of these gave (without one:
+ * registers and places as they were, wires x). Gives 0 where all were accepted, else the number. */
+uint8_t walbryts_cycles(const uint8_t *sheet, size_t sheet_len, const uint16_t *nodes, size_t nodes_len,
+                        const uint16_t *rows, size_t rows_len, uint32_t *value, bool *unknown, uint8_t *places,
+                        const uint32_t *inputs, size_t inputs_len, const bool *inputs_unknown,
+                        size_t inputs_unknown_len, size_t *cycles, uint32_t *wire, bool *unsure);
+
+#ifdef __cplusplus
+}
+#endif
+
+#endif

@@ -1,0 +1,173 @@
+use std::error::Error;
+use std::fmt;
+
+use crate::raw;
+use crate::value::Value;
+
+/// The bytes of a saved state.
+pub const SAVED: usize = 641;
+
+/// What a state holds.
+const VALUES: usize = 80;
+const SLOTS: usize = 32;
+const PLACES: usize = 8;
+const MARKS: usize = 32;
+
+/// Where a saved state has what: the form's byte, then 80 values of 5 bytes, 32 slots of 6,
+/// 8 places, 32 marks, time and count.
+const VALUES_AT: usize = 1;
+const SLOTS_AT: usize = VALUES_AT + 5 * VALUES;
+const PLACES_AT: usize = SLOTS_AT + 6 * SLOTS;
+const MARKS_AT: usize = PLACES_AT + PLACES;
+const TIME_AT: usize = MARKS_AT + MARKS;
+const COUNT_AT: usize = TIME_AT + 4;
+
+/// A state of the simulation. It is kept in its saved form, so that saving it costs nothing;
+/// whether it fits a sheet is judged by the calls, which refuse it with 31 otherwise.
+///
+/// ```
+/// # let bytes = [2, 1, 0, 1, 1, 8, 8, 0x0C, 0x10, 1, 1, 0, 0x23, 2, 2, 1];
+/// use walbryts::{Sheet, State, Value};
+/// let sheet = Sheet::read(&bytes)?;
+/// let state = sheet.start();
+/// assert_eq!(state.value(sheet.register(0)), Value::X);
+/// assert_eq!((state.time(), state.count()), (0, 0));
+/// assert_eq!(State::load(state.save()), Ok(state));
+/// # Ok::<(), walbryts::Refusal>(())
+/// ```
+#[derive(Clone, PartialEq, Eq, Hash)]
+pub struct State {
+    pub(crate) bytes: [u8; SAVED],
+}
+
+impl State {
+    /// The saved form: a byte 1, which names the form, then 80 values (1 for x or 0, and the
+    /// number, low byte first), 32 pending slots (1 for held or 0, and a value), 8 places, 32
+    /// marks of wires that are due, time and count (4 bytes each).
+    #[must_use]
+    pub fn save(&self) -> &[u8; SAVED] {
+        &self.bytes
+    }
+
+    /// The state that was saved.
+    ///
+    /// # Errors
+    ///
+    /// Bytes of another length or form, or with a flag other than 0 and 1, are no saved state.
+    pub fn load(saved: &[u8]) -> Result<State, NotSaved> {
+        let mut bytes: [u8; SAVED] = saved.try_into().map_err(|_| NotSaved)?;
+        let sheet: [u8; 0] = [];
+        // The proved library judges the bytes before the sheet, which it refuses here with 2; a
+        // refused call hands back the state it got.
+        // Safety: pointer and length are those of one slice, the state has its length.
+        let number = unsafe { raw::walbryts_choose(sheet.as_ptr(), 0, bytes.as_mut_ptr(), 0) };
+        if number == 255 { Err(NotSaved) } else { Ok(State { bytes }) }
+    }
+
+    /// A variable's value.
+    ///
+    /// # Panics
+    ///
+    /// From variable 80 on, which no sheet has.
+    #[must_use]
+    pub fn value(&self, variable: usize) -> Value {
+        assert!(variable < VALUES, "there are {VALUES} variables");
+        self.value_at(VALUES_AT + 5 * variable)
+    }
+
+    /// Sets a variable's value; wires that read it aren't marked. A value too wide for a sheet
+    /// makes a state that doesn't fit it.
+    ///
+    /// # Panics
+    ///
+    /// From variable 80 on, which no sheet has.
+    pub fn set_value(&mut self, variable: usize, value: Value) {
+        assert!(variable < VALUES, "there are {VALUES} variables");
+        let (number, unknown) = value.apart();
+        let at = VALUES_AT + 5 * variable;
+        self.bytes[at] = unknown.into();
+        self.bytes[at + 1..at + 5].copy_from_slice(&number.to_le_bytes());
+    }
+
+    /// The value pending for a register, if one is.
+    ///
+    /// # Panics
+    ///
+    /// From register 32 on, which no sheet has.
+    #[must_use]
+    pub fn pending(&self, register: usize) -> Option<Value> {
+        assert!(register < SLOTS, "there are {SLOTS} registers");
+        let at = SLOTS_AT + 6 * register;
+        (self.bytes[at] == 1).then(|| self.value_at(at + 1))
+    }
+
+    /// The place that a thread is at.
+    ///
+    /// # Panics
+    ///
+    /// From thread 8 on, which no sheet has.
+    #[must_use]
+    pub fn place(&self, thread: usize) -> u8 {
+        assert!(thread < PLACES, "there are {PLACES} threads");
+        self.bytes[PLACES_AT + thread]
+    }
+
+    /// Is a wire due?
+    ///
+    /// # Panics
+    ///
+    /// From wire 32 on, which no sheet has.
+    #[must_use]
+    pub fn due(&self, wire: usize) -> bool {
+        assert!(wire < MARKS, "there are {MARKS} wires");
+        self.bytes[MARKS_AT + wire] == 1
+    }
+
+    /// How many instants were accepted.
+    #[must_use]
+    pub fn time(&self) -> u32 {
+        self.number_at(TIME_AT)
+    }
+
+    /// How many choices were accepted.
+    #[must_use]
+    pub fn count(&self) -> u32 {
+        self.number_at(COUNT_AT)
+    }
+
+    fn value_at(&self, at: usize) -> Value {
+        Value::of(self.number_at(at + 1), self.bytes[at] == 1)
+    }
+
+    fn number_at(&self, at: usize) -> u32 {
+        u32::from_le_bytes(self.bytes[at..at + 4].try_into().expect("four bytes"))
+    }
+}
+
+impl fmt::Debug for State {
+    fn fmt(&self, f: &mut fmt::Formatter) -> fmt::Result {
+        let values: Vec<Value> = (0..VALUES).map(|v| self.value(v)).collect();
+        let pending: Vec<Option<Value>> = (0..SLOTS).map(|r| self.pending(r)).collect();
+        let due: Vec<usize> = (0..MARKS).filter(|&w| self.due(w)).collect();
+        f.debug_struct("State")
+            .field("values", &values)
+            .field("pending", &pending)
+            .field("places", &&self.bytes[PLACES_AT..MARKS_AT])
+            .field("due", &due)
+            .field("time", &self.time())
+            .field("count", &self.count())
+            .finish()
+    }
+}
+
+/// The bytes are no saved state.
+#[derive(Clone, Copy, Debug, PartialEq, Eq, Hash)]
+pub struct NotSaved;
+
+impl fmt::Display for NotSaved {
+    fn fmt(&self, f: &mut fmt::Formatter) -> fmt::Result {
+        f.write_str("the bytes are no saved state")
+    }
+}
+
+impl Error for NotSaved {}

@@ -1,0 +1,64 @@
+//! States saved and loaded.
+
+mod common;
+
+use common::{WATCHDOG, flip_flop, of_hex};
+use walbryts::{Inputs, NotSaved, SAVED, State, Value};
+
+#[test]
+fn a_saved_state_loads_and_goes_on() {
+    let sheet = of_hex(WATCHDOG);
+    let mut state = sheet.start();
+    sheet.run_plain(&mut state, u16::MAX).unwrap();
+    for clock in [0, 1] {
+        sheet.instant(&mut state, &Inputs::from([clock, 1, 7, 3, 0])).unwrap();
+        let mut loaded = State::load(state.save()).unwrap();
+        assert_eq!(loaded, state);
+        let run = sheet.run_plain(&mut state, u16::MAX).unwrap();
+        assert_eq!(sheet.run_plain(&mut loaded, u16::MAX).unwrap(), run);
+        assert_eq!(loaded, state);
+    }
+}
+
+#[test]
+fn the_start_as_it_is_saved() {
+    let start = of_hex(WATCHDOG).start();
+    assert_eq!(start.save()[0], 1);
+    assert!((0..80).all(|variable| start.value(variable) == Value::X));
+    assert!((0..32).all(|register| start.pending(register).is_none()));
+    assert!((0..8).all(|thread| start.place(thread) == 0));
+    let due: Vec<usize> = (0..32).filter(|&wire| start.due(wire)).collect();
+    assert_eq!(due, [0, 1]);
+    assert_eq!((start.time(), start.count()), (0, 0));
+}
+
+#[test]
+fn other_bytes_are_no_state() {
+    let saved = *flip_flop().start().save();
+    assert_eq!(State::load(&[]), Err(NotSaved));
+    assert_eq!(State::load(&saved[1..]), Err(NotSaved));
+    assert_eq!(State::load(&[&saved[..], &[0]].concat()), Err(NotSaved));
+    // The form, flags of a value, a slot and the value in it, a mark.
+    for at in [0, 1, 396, 401, 402, 587, 588, 601, 632] {
+        let mut other = saved;
+        other[at] = 2;
+        assert_eq!(State::load(&other), Err(NotSaved), "byte {at}");
+    }
+    // Numbers, places, time and count may be any.
+    for at in [2, 403, 592, 593, 600, 633, SAVED - 1] {
+        let mut other = saved;
+        other[at] = 2;
+        assert_eq!(State::load(&other).unwrap().save(), &other, "byte {at}");
+    }
+}
+
+#[test]
+fn a_value_that_is_set() {
+    let sheet = flip_flop();
+    let mut state = sheet.start();
+    state.set_value(2, Value::Known(0x00C0_FFEE));
+    assert_eq!(state.value(2), Value::Known(0x00C0_FFEE));
+    assert_eq!((state.value(1), state.value(3)), (Value::X, Value::X));
+    state.set_value(2, Value::X);
+    assert_eq!(state, sheet.start());
+}

@@ -1,0 +1,83 @@
+//! A printer of Verilog held against this package's.
+
+use std::fs;
+use std::path::Path;
+
+use reference::encode::encode;
+use reference::random::Random;
+use reference::{generate, icarus, samples, sheet, stimulus, verilog};
+
+use crate::{Outcome, SEED, folder, stored};
+
+const ROOT: &str = concat!(env!("CARGO_MANIFEST_DIR"), "/../..");
+/// The proved program's command, and how many random modules it prints.
+const PRINTER: &str = "./walbryts verilog";
+const PRINTED: usize = 600;
+
+/// How many texts differ.
+pub fn hold() -> Outcome<usize> {
+    let command = std::env::var("WALBRYTS_VERILOG").unwrap_or(PRINTER.into());
+    let folder = folder()?;
+    let mut random = Random::new(SEED);
+    let mut sheets: Vec<Vec<u8>> = stored()?.into_iter().map(|trace| trace.sheet).collect();
+    sheets.extend((0..PRINTED).map(|_| encode(&generate::module(&mut random))));
+    let (mut passed, mut failed) = (0, 0);
+    for sheet in &sheets {
+        let module = sheet::read(sheet).expect("a sheet that is read");
+        let difference = match printed(&folder, &command, sheet) {
+            Ok(text) => differ(&text, &verilog::text(&module)),
+            Err(error) => Some(error),
+        };
+        match difference {
+            None => passed += 1,
+            Some(difference) => {
+                failed += 1;
+                println!("FAIL  {difference}\n{}", samples::to_hex(sheet));
+            }
+        }
+        if failed == 5 {
+            break;
+        }
+    }
+    match long_text(&folder, &command) {
+        None => passed += 1,
+        Some(difference) => {
+            failed += 1;
+            println!("FAIL  a long text: {difference}");
+        }
+    }
+    println!("{passed} passed, {failed} failed");
+    Ok(failed)
+}
+
+/// Of a text that is long, all is printed, or the command fails; a part of it would be wrong.
+fn long_text(folder: &Path, command: &str) -> Option<String> {
+    let module = stimulus::deep_module();
+    let text = printed(folder, command, &encode(&module)).ok()?;
+    differ(&text, &verilog::text(&module))
+}
+
+/// The first line that differs.
+fn differ(found: &str, expected: &str) -> Option<String> {
+    let mut pairs = found.split('\n').zip(expected.split('\n')).enumerate();
+    let line = pairs.find(|(_, (found, expected))| found != expected);
+    let line = line.map(|(n, (found, expected))| format!("line {n}: {found}, not {expected}"));
+    let lengths = || format!("{} bytes, not {}", found.len(), expected.len());
+    (found != expected).then(|| line.unwrap_or_else(lengths))
+}
+
+/// This package's text.
+pub fn print(file: &str) -> Outcome<usize> {
+    let bytes = fs::read(file).map_err(|e| format!("{file}: {e}"))?;
+    let module = sheet::read(&bytes).map_err(|refusal| format!("{file}: {refusal:?}"))?;
+    print!("{}", verilog::text(&module));
+    Ok(0)
+}
+
+/// What the command prints for the sheet.
+pub fn printed(folder: &Path, command: &str, sheet: &[u8]) -> Outcome<String> {
+    let file = folder.join("sheet");
+    fs::write(&file, sheet).map_err(|e| format!("{}: {e}", file.display()))?;
+    let line = format!("{command} \"$1\"");
+    icarus::run(Path::new(ROOT), "sh", &["-c", &line, "sh", &file.display().to_string()])
+}

@@ -1,0 +1,168 @@
+//! Extractable modules as Verilog text.
+//!
+//! Inputs are i0 (the clock) and up, registers r0 and up, wires w0 and up. A thread is an `always`
+//! of its statement. Operands have the widths that a sheet's rules ask for, so that Verilog's
+//! rules on the sizes of expressions add nothing.
+
+use std::fmt::{self, Display, Formatter, Write};
+
+use crate::module::{Edge, Expr, Module, Operator, Stmt, Term, Variable};
+
+/// The name of the module.
+pub const NAME: &str = "walbryts";
+
+/// The module, with all its variables as ports.
+pub fn text(module: &Module) -> String {
+    let mut printer = Printer { module, text: String::new() };
+    printer.module().expect("text takes all that is written");
+    printer.text
+}
+
+struct Printer<'a> {
+    module: &'a Module,
+    text: String,
+}
+
+/// A variable by its name.
+struct Name<'a>(&'a Module, Variable);
+
+/// An expression in infix form, each operation in brackets.
+struct Infix<'a>(&'a Module, &'a Expr);
+
+impl Display for Name<'_> {
+    fn fmt(&self, f: &mut Formatter) -> fmt::Result {
+        let Module { inputs, registers, .. } = self.0;
+        let (letter, first) = match self.1 {
+            v if v < *inputs => ('i', 0),
+            v if v < inputs + registers => ('r', *inputs),
+            _ => ('w', inputs + registers),
+        };
+        write!(f, "{letter}{}", self.1 - first)
+    }
+}
+
+impl Display for Infix<'_> {
+    fn fmt(&self, f: &mut Formatter) -> fmt::Result {
+        let Infix(module, e) = self;
+        let part = |operand| Infix(module, operand);
+        match e {
+            Expr::Variable(variable) => Name(module, *variable).fmt(f),
+            Expr::Constant { width, value } => write!(f, "{width}'d{value}"),
+            Expr::Unknown { width } => write!(f, "{width}'bx"),
+            Expr::Operation(operator, operands) => match &operands[..] {
+                [a] => write!(f, "({}{})", sign(*operator), part(a)),
+                [a, b] => write!(f, "({} {} {})", part(a), sign(*operator), part(b)),
+                [c, a, b] => write!(f, "({} ? {} : {})", part(c), part(a), part(b)),
+                _ => unreachable!("an operator has one to three operands"),
+            },
+        }
+    }
+}
+
+fn sign(operator: Operator) -> &'static str {
+    match operator {
+        Operator::Invert => "~",
+        Operator::Not => "!",
+        Operator::And => "&",
+        Operator::Or => "|",
+        Operator::Xor => "^",
+        Operator::Add => "+",
+        Operator::Subtract => "-",
+        Operator::Equal => "==",
+        Operator::Less => "<",
+        Operator::Conditional => "?",
+    }
+}
+
+impl<'a> Printer<'a> {
+    fn name(&self, variable: Variable) -> Name<'a> {
+        Name(self.module, variable)
+    }
+
+    fn infix(&self, e: &'a Expr) -> Infix<'a> {
+        Infix(self.module, e)
+    }
+
+    fn module(&mut self) -> fmt::Result {
+        let module = self.module;
+        let first_wire = module.inputs + module.registers;
+        let variables = first_wire + module.wires.len() as u8;
+        let ports: Vec<String> = (0..variables).map(|v| self.name(v).to_string()).collect();
+        writeln!(self.text, "module {NAME} ({});", ports.join(", "))?;
+        for v in 0..variables {
+            let kind = match v {
+                _ if v < module.inputs => "input",
+                _ if v < first_wire => "output reg",
+                _ => "output wire",
+            };
+            let range = match module.widths[usize::from(v)] {
+                1 => String::new(),
+                width => format!("[{}:0] ", width - 1),
+            };
+            writeln!(self.text, "  {kind} {range}{};", self.name(v))?;
+        }
+        for (v, wire) in (first_wire..).zip(&module.wires) {
+            writeln!(self.text, "  assign {} = {};", self.name(v), self.infix(wire))?;
+        }
+        for thread in &module.threads {
+            writeln!(self.text, "  always begin")?;
+            self.stmt(thread, 2)?;
+            writeln!(self.text, "  end")?;
+        }
+        writeln!(self.text, "endmodule")
+    }
+
+    fn line(&mut self, depth: usize, line: impl Display) -> fmt::Result {
+        writeln!(self.text, "{:1$}{line}", "", 2 * depth)
+    }
+
+    /// A statement in a block of its own.
+    fn block(&mut self, opening: String, s: &'a Stmt, depth: usize) -> fmt::Result {
+        self.line(depth, format_args!("{opening} begin"))?;
+        self.stmt(s, depth + 1)?;
+        self.line(depth, "end")
+    }
+
+    fn stmt(&mut self, s: &'a Stmt, depth: usize) -> fmt::Result {
+        match s {
+            Stmt::Empty => self.line(depth, ";"),
+            Stmt::Set(target, value) => {
+                let (target, value) = (self.name(*target), self.infix(value));
+                self.line(depth, format_args!("{target} = {value};"))
+            }
+            Stmt::Later(target, value) => {
+                let (target, value) = (self.name(*target), self.infix(value));
+                self.line(depth, format_args!("{target} <= {value};"))
+            }
+            Stmt::Sequence(first, second) => {
+                self.stmt(first, depth)?;
+                self.stmt(second, depth)
+            }
+            Stmt::If(condition, body) => {
+                self.block(format!("if ({})", self.infix(condition)), body, depth)
+            }
+            Stmt::IfElse(condition, first, second) => {
+                self.line(depth, format_args!("if ({}) begin", self.infix(condition)))?;
+                self.stmt(first, depth + 1)?;
+                self.block("end else".into(), second, depth)
+            }
+            Stmt::While(condition, body) => {
+                self.block(format!("while ({})", self.infix(condition)), body, depth)
+            }
+            Stmt::Forever(body) => self.block("forever".into(), body, depth),
+            Stmt::Wait(terms) => {
+                let terms: Vec<String> = terms.iter().map(|term| self.term(term)).collect();
+                self.line(depth, format_args!("@({});", terms.join(" or ")))
+            }
+        }
+    }
+
+    fn term(&self, term: &Term) -> String {
+        let name = self.name(term.variable);
+        match term.edge {
+            Edge::Any => name.to_string(),
+            Edge::Posedge => format!("posedge {name}"),
+            Edge::Negedge => format!("negedge {name}"),
+        }
+    }
+}

@@ -1,0 +1,193 @@
+//! The second simulator's stored traces: this implementation agrees with them, each way of running
+//! finds a value that isn't as the trace has it, and what differs from that simulator by design.
+
+use reference::calls::{Calls, Reference};
+use reference::encode::encode;
+use reference::random::Random;
+use reference::samples;
+use reference::second::{check, differs_on_x};
+use reference::sheet::read;
+use reference::state::{Slot, State};
+use reference::trace::{Trace, parse};
+use reference::{stimulus, verilog};
+
+const STORED: &str = include_str!("../../../data/second.trace");
+
+fn traces() -> Vec<Trace> {
+    parse(STORED).expect("traces")
+}
+
+fn checked(trace: &Trace) -> Result<(), String> {
+    let reading = read(&trace.sheet);
+    check(&Reference::new(&reading), trace, &mut Random::new(7)).map(|_| ())
+}
+
+// ---- traces
+
+#[test]
+fn stored_traces_are_these_bench_modules_and_random_ones() {
+    let traces = traces();
+    for (bench, trace) in samples::ALL.iter().zip(&traces) {
+        assert_eq!((bench.name, bench.sheet()), (&trace.name[..], trace.sheet.clone()));
+    }
+    assert!(traces.len() >= 304);
+    let moving = traces
+        .iter()
+        .filter(|trace| trace.cycles.iter().any(|cycle| cycle.after.registers != trace.start));
+    assert!(moving.count() >= 300, "modules whose registers change");
+}
+
+#[test]
+fn the_reference_agrees_with_every_trace() {
+    for trace in traces() {
+        assert_eq!(checked(&trace), Ok(()), "{}", trace.name);
+    }
+}
+
+#[test]
+fn text_is_read_as_it_was_written() {
+    let traces = traces();
+    let text: String = traces.iter().map(Trace::to_string).collect();
+    assert_eq!(parse(&text), Ok(traces));
+    assert_eq!(parse("sheet 00\n"), Err(1));
+    assert_eq!(parse("# text\nmodule a\nsheet 0g\n"), Err(3));
+    assert_eq!(parse("module a\n1|2|3\n"), Err(2));
+}
+
+// ---- values that aren't as the trace has them
+
+/// The number with one bit turned.
+fn turn(numbers: &mut [u32], random: &mut Random) -> bool {
+    match numbers.len() {
+        0 => false,
+        length => {
+            numbers[random.below(length)] ^= 1;
+            true
+        }
+    }
+}
+
+#[test]
+fn a_changed_value_is_found() {
+    let mut random = Random::new(3);
+    let mut found = [0; 3];
+    for trace in traces().iter().skip(1) {
+        let part = random.below(3);
+        let mut changed = trace.clone();
+        let cycle = random.below(changed.cycles.len());
+        let after = &mut changed.cycles[cycle].after;
+        let numbers = [&mut after.low, &mut after.registers, &mut after.wires];
+        if turn(numbers.into_iter().nth(part).expect("three parts"), &mut random) {
+            let difference = checked(&changed).expect_err("one value is another");
+            assert!(difference.contains(&format!("cycle {cycle}: ")), "{difference}");
+            found[part] += 1;
+        }
+    }
+    assert!(found.iter().all(|&count| count > 50), "{found:?}");
+}
+
+/// Calls of the reference but for one, which hands back what it got.
+struct Idle<'a>(Reference<'a>, &'static str);
+
+impl Calls for Idle<'_> {
+    fn start(&self, state: &mut State) -> u8 {
+        self.0.start(state)
+    }
+    fn choose(&self, state: &mut State, choice: u8) -> u8 {
+        self.0.choose(state, choice)
+    }
+    fn run(&self, state: &mut State, choices: &[u8]) -> (usize, u8) {
+        self.0.run(state, choices)
+    }
+    fn run_plain(&self, state: &mut State, limit: u16) -> (usize, u8) {
+        if self.1 == "run_plain" { (0, 0) } else { self.0.run_plain(state, limit) }
+    }
+    fn instant(&self, state: &mut State, inputs: &[Slot]) -> u8 {
+        self.0.instant(state, inputs)
+    }
+    fn run_cycles(&self, state: &mut State, inputs: &[Vec<Slot>]) -> (usize, u8) {
+        match self.1 {
+            "run_cycles" => (2 * inputs.len(), 0),
+            _ => self.0.run_cycles(state, inputs),
+        }
+    }
+    fn extract(&self, nodes: &mut [u16], rows: &mut [u16]) -> u8 {
+        self.0.extract(nodes, rows)
+    }
+    fn cycle(
+        &self,
+        nodes: &[u16],
+        rows: &[u16],
+        lane: &mut reference::compiler::Lane,
+        inputs: &[Slot],
+    ) -> u8 {
+        if self.1 == "cycle" { 0 } else { self.0.cycle(nodes, rows, lane, inputs) }
+    }
+}
+
+#[test]
+fn a_call_that_does_nothing_is_found() {
+    let watchdog = &traces()[2];
+    let reading = read(&watchdog.sheet);
+    for (call, way) in [
+        ("run_plain", "plain run, "),
+        ("run_cycles", "many cycles by events: "),
+        ("cycle", "expressions, "),
+    ] {
+        let idle = Idle(Reference::new(&reading), call);
+        let difference = check(&idle, watchdog, &mut Random::new(1)).expect_err(call);
+        assert!(difference.starts_with(way), "{difference}");
+    }
+}
+
+// ---- Verilog
+
+#[test]
+fn the_flip_flop_as_verilog() {
+    let module = read(&samples::FLIP_FLOP.sheet()).expect("accepted");
+    let text = "\
+module walbryts (i0, i1, r0);
+  input i0;
+  input [7:0] i1;
+  output reg [7:0] r0;
+  always begin
+    @(posedge i0);
+    r0 <= i1;
+  end
+endmodule
+";
+    assert_eq!(verilog::text(&module), text);
+}
+
+#[test]
+fn known_modules_have_no_unknown_constants() {
+    let mut random = Random::new(5);
+    for _ in 0..200 {
+        let module = stimulus::known_module(&mut random);
+        assert!(!verilog::text(&module).contains('x'));
+        let reading = read(&encode(&module));
+        let number =
+            Reference::new(&reading).extract(&mut vec![0; 16_384], &mut vec![0; 1_056]);
+        assert_eq!(number, 0);
+    }
+}
+
+#[test]
+fn a_long_text() {
+    let module = stimulus::deep_module();
+    assert_eq!(read(&encode(&module)).as_ref(), Ok(&module));
+    assert!(verilog::text(&module).len() > 130_000);
+}
+
+// ---- x
+
+/// Icarus gives 0 and 1 here, which `tests/run second icarus` sees to.
+#[test]
+fn x_as_a_whole_differs_known_against_known() {
+    let reading = read(&encode(&differs_on_x()));
+    let calls = Reference::new(&reading);
+    let mut state = State::ZERO;
+    calls.start(&mut state);
+    assert_eq!(calls.run_cycles(&mut state, &[vec![]]), (2, 0));
+    assert_eq!(state.values[1..3], [Slot::known(0), Slot::known(2)]);
+}
