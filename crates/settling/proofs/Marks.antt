@@ -3,34 +3,31 @@
 -- (Ruled) a wire's step changes no place and no pending value, and lowers the potential. Assumes nothing.
 use mathlib.Core.Path.{_≡_, refl, sym, subst, _∙_}
 use mathlib.Core.Bool.{Bool, true, false, not, _&&_, and-true, and-false}
-use mathlib.Core.List.{List, [], _∷_}
 use Prim.Native.Nat.{ℕ, _+_, _≤_, _<_}
 use native.Mathlib.Decide.{ℕ-discrete}
 use native.Mathlib.Omega.{arith}
 use lib.ListN.{length}
 use lib.Dec.{eqb}
-use borrow.Author.Tests.{eqb-true, eq-eqb, ne-eqb, lt-ltb}
+use borrow.Author.Tests.{eq-eqb, ne-eqb, lt-ltb}
 use Rattle.values.specs.declared.Value.{Value}
-use Rattle.values.proofs.Edges.{fires-refl}
-use Rattle.sheet.specs.declared.EdgeTerm.{EdgeTerm}
 use Rattle.sheet.specs.Expression.{Expr}
 use Rattle.sheet.specs.Statement.{Scope}
 use Rattle.sheet.specs.Module.{Module}
 use Rattle.evaluation.specs.Evaluation.{eval, reads}
 use Rattle.evaluation.proofs.Evaluation.{eval-same}
-use Rattle.pseudocode.specs.Translation.{Instr, wait!, set!, later!, go, ifnot}
+use Rattle.pseudocode.specs.Translation.{set! }
 use Rattle.state.specs.declared.State.{State}
 use Rattle.state.specs.State.{valueOf, isDue, placeOf}
 use Rattle.soundness.specs.Soundness.{Sound, SoundTarget, SoundInstr, sound-set}
-use Rattle.events.specs.Cycle.{variables, codeOf, instrAt, current, wireExpr, wireVariable, termsFire, waitFires}
+use Rattle.events.specs.Cycle.{variables, current, wireExpr, wireVariable}
 use Rattle.events.specs.Calls.{started}
 use Rattle.events.specs.Steps.{SamePending, OtherValues, Calm, Fired, goes-on, stays, Marked, was-due, reads-changed, not-due, Reacted, Acts, assigns, defers, jumps, goes-in, passes-by, settles, commits, Step, Instant}
-use Rattle.events.proofs.Cycle.{absurd-bool, and-right}
+use Rattle.events.proofs.Cycle.{absurd-bool}
 use Rattle.events.proofs.Choices.{sound-current}
 use Rattle.events.proofs.Fits.{due-started}
-use Rattle.nextstate.specs.Rules.{isPosedge, clockEdge}
 use Rattle.nextstate.specs.Book.{settle}
 use Rattle.threads.specs.Ruled.{Ruled}
+use Rattle.threads.proofs.View.{no-fire}
 use Rattle.settling.specs.Settles.{Settles, WireStep}
 use Rattle.settling.specs.Potential.{potential}
 use Rattle.settling.proofs.Settle.{reads-lower, settle-unique}
@@ -38,30 +35,11 @@ use Rattle.settling.proofs.Potential.{potential-falls}
 
 -- ---- rule 15: where the clock stays, no wait fires and no place changes
 
-clock-fires : (ts : List EdgeTerm) (f g : ℕ → Value) → clockEdge ts ≡ true → g 0 ≡ f 0 → termsFire ts f g ≡ false
-unfolding clockEdge termsFire
-clock-fires [] f g h e = refl
-clock-fires (t ∷ []) f g h e =
-    let v : t .variable ≡ 0 = eqb-true (t .variable) 0 (and-right (isPosedge (t .edge)) (eqb (t .variable) 0) h) in
-    rw (v, e, fires-refl (t .edge) (f 0))
-clock-fires (t ∷ u ∷ ts) f g h e = absurd-bool h refl
-
-pub no-fire :
-    (m : Module Expr) → Ruled m → (st : State) (j : ℕ) (f g : ℕ → Value) → g 0 ≡ f 0 → waitFires (current m st j) f g ≡ false
-unfolding current waitFires
-no-fire m R st j f g e = by (instrAt (codeOf m j) (placeOf st j)) refl
-  where
-    by : (x : Instr Expr) → instrAt (codeOf m j) (placeOf st j) ≡ x → waitFires x f g ≡ false
-    by (wait! ts) q = clock-fires ts f g (R .waits j (placeOf st j) q) e
-    by (set! t a) q = refl
-    by (later! t a) q = refl
-    by (go h) q = refl
-    by (ifnot a h) q = refl
-
 pub place-kept :
     (m : Module Expr) → Ruled m → (old new : State) → valueOf new 0 ≡ valueOf old 0 →
     (j : ℕ) → Fired m old new j → placeOf new j ≡ placeOf old j
-place-kept m R old new e j (goes-on q p) = absurd-bool q (no-fire m R old j (valueOf old) (valueOf new) e)
+unfolding current
+place-kept m R old new e j (goes-on q p) = absurd-bool q (no-fire m R j (placeOf old j) (valueOf old) (valueOf new) (sym e))
 place-kept m R old new e j (stays q p) = p
 
 -- ---- marks
