@@ -1,15 +1,13 @@
 -- What the code works out on bytes is `eval` of the tree wherever the sheet's reader accepted; `eval` stays within
 -- the widths, and depends on no variable that doesn't stand in the expression. Assumes nothing.
-use mathlib.Core.Path.{_≡_, refl, sym, ap, _∙_}
+use mathlib.Core.Path.{_≡_, refl, ap}
 use mathlib.Core.Bool.{Bool, true, false, _||_}
 use mathlib.Core.List.{List}
-use Prim.Native.Nat.{ℕ, zero, suc, _+_, _<_}
+use Prim.Native.Nat.{ℕ, _<_}
 use lib.ListN.{length, getD}
-use lib.Dec.{eqb}
 use borrow.Author.Tests.{eq-eqb}
 use Rattle.values.specs.declared.Value.{Value}
-use Rattle.values.specs.declared.Value.the-variants.{Known, Unknown}
-use Rattle.values.specs.Values.{pick, fits}
+use Rattle.values.specs.Values.{fits}
 use Rattle.values.specs.Operators as operators
 use Rattle.values.proofs.Values.{fits-known, fits-unknown}
 use Rattle.values.proofs.Operators.{unary-fits, binary-fits, choice-fits}
@@ -18,7 +16,7 @@ use Rattle.sheet.specs.Expression.{Expr, variable, constant, unknown, unary, bi
 use Rattle.sheet.proofs.Expression.{Reads, a-variable, a-constant, an-unknown, a-unary, a-binary, a-conditional, derive}
 use Rattle.evaluation.specs.declared.Evaluated.{Evaluated}
 use Rattle.evaluation.specs.Evaluation.{eval, reads}
-use Rattle.evaluation.specs.Bytes.{nothing, variableNode, unaryNode, binaryNode, conditionalNode, innerNode, nodeAt, evalAt}
+use Rattle.evaluation.specs.Bytes.{variableNode, unaryNode, binaryNode, conditionalNode, innerNode, nodeAt, evalAt}
 
 -- ---- evalAt is eval
 

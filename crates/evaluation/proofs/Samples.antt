@@ -4,9 +4,9 @@ use mathlib.Core.List.{List, [], _∷_}
 use Prim.Native.Nat.{ℕ, zero, suc}
 use Rattle.values.specs.declared.Value.{Value}
 use Rattle.values.specs.declared.Value.the-variants.{Known, Unknown}
-use Rattle.values.specs.Operators.{unaryWidth, binaryWidth, complement, sum, difference, flag, unaryKnown, unary, binaryKnown, binary, choice}
+use Rattle.values.specs.Operators.{binaryWidth, sum, difference, flag, binaryKnown, binary, choice}
 use Rattle.sheet.specs.Reading.{word, wordOf}
-use Rattle.evaluation.specs.Bytes.{nothing, variableNode, unaryNode, binaryNode, conditionalNode, innerNode, nodeAt, evalAt}
+use Rattle.evaluation.specs.Bytes.{nothing, variableNode, binaryNode, conditionalNode, innerNode, nodeAt, evalAt}
 
 -- Variable 0 is the clock, 1 and 2 have width 4, 3 has width 8.
 abbrev widths : List ℕ

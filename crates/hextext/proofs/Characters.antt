@@ -1,12 +1,12 @@
 -- Laws of isText: what each character says of the rest of a list. Assumes nothing.
-use mathlib.Core.Path.{_≡_, refl, sym, ap, _∙_}
-use mathlib.Core.Bool.{Bool, true, false}
-use mathlib.Core.List.{List, [], _∷_}
-use Prim.Native.Nat.{ℕ, suc, _+_, _<_, _≤_}
+use mathlib.Core.Path.{_≡_}
+use mathlib.Core.Bool.{true, false}
+use mathlib.Core.List.{List}
+use Prim.Native.Nat.{ℕ, _+_, _<_, _≤_}
 use native.Mathlib.Numerals.{add-one}
 use borrow.Author.Tests.{lt-ltb, le-ltb, eq-eqb, ne-eqb}
 use lib.ListN.{length, getD, drop, drop-of-length-le}
-use lib.Dec.{ltb, eqb}
+use lib.Dec.{eqb}
 use lib.Seq.{drop-cons}
 use Rattle.hextext.specs.Characters.{digitOf, isDigit, isBlank, isGap, isText}
 

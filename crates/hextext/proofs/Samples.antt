@@ -4,7 +4,6 @@ use mathlib.Core.Bool.{true, false}
 use mathlib.Core.List.{List, [], _∷_}
 use Prim.Native.Nat.{ℕ}
 use Rattle.hextext.specs.declared.Decoded.{Decoded}
-use Rattle.hextext.specs.declared.Place.{Place}
 use Rattle.hextext.specs.Characters.{digitOf, isDigit, isBlank, isGap, isText}
 use Rattle.hextext.specs.Scanning.{more, start, nextLine, along, first, second, failed, step, scan}
 use Rattle.hextext.specs.Decoding.{completes, byteOf, made, full, bytesFrom, bytesOf, errorOf, ending, decoded}

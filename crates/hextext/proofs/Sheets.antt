@@ -1,13 +1,13 @@
 -- THE THEOREM: a sheet that is read is never taken for hex text. Its first three bytes are at most 32, so neither `#` nor a digit; its
 -- fourth, the number of threads from 1 to 8, is no blank and no line end either. Assumes nothing.
-use mathlib.Core.Path.{_≡_, refl, sym, ap, _∙_}
+use mathlib.Core.Path.{_≡_, refl}
 use mathlib.Core.Bool.{Bool, true, false}
 use mathlib.Core.List.{List, [], _∷_}
-use Prim.Native.Nat.{ℕ, suc, _+_, _<_, _≤_}
+use Prim.Native.Nat.{ℕ, _<_, _≤_}
 use native.Mathlib.Omega.{arith}
 use borrow.Author.Tests.{lt-ltb, ne-eqb}
 use lib.ListN.{length, getD}
-use lib.Dec.{leb, eqb}
+use lib.Dec.{leb}
 use Rattle.values.specs.Values.{pick}
 use Rattle.sheet.specs.Reading.{ok, within}
 use Rattle.sheet.specs.Expression.{Expr, tree}

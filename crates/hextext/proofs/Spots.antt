@@ -3,21 +3,20 @@
 use mathlib.Core.Path.{_≡_, refl, sym, ap, _∙_}
 use mathlib.Core.Bool.{Bool, true, false}
 use mathlib.Core.List.{List, [], _∷_, _++_}
-use Prim.Native.Nat.{ℕ, zero, suc, _+_, _*_, _%_, _<_, _≤_}
+use Prim.Native.Nat.{ℕ, zero, suc, _+_, _*_, _<_, _≤_}
 use native.Mathlib.Nat.{le-refl, mod-eq-of-lt}
-use native.Mathlib.Numerals.{add-one}
 use native.Mathlib.Omega.{arith}
-use borrow.Author.Tests.{lt-ltb, ltb-true, ltb-false, eq-eqb, ne-eqb, eqb-true, eqb-false}
+use borrow.Author.Tests.{ltb-true, ltb-false, eq-eqb, ne-eqb, eqb-true, eqb-false}
 use lib.Dec.{eqb, ltb}
 use lib.ListN.{length, getD}
 use Rattle.values.specs.Values.{_is_then_else_}
 use Rattle.hextext.specs.declared.Scan.{Scan}
 use Rattle.hextext.specs.declared.Place.{Place}
-use Rattle.hextext.specs.Characters.{digitOf, isDigit, isBlank}
+use Rattle.hextext.specs.Characters.{digitOf, isBlank}
 use Rattle.hextext.specs.Scanning.{more, start, nextLine, along, first, second, failed, step, scan}
 use Rattle.hextext.specs.Decoding.{completes, byteOf, made, full, bytesFrom, bytesOf, errorOf, ending, decoded}
 use Rattle.hextext.specs.Decoding.{found, spotted, spotOf}
-use Rattle.hextext.proofs.Steps.{step-comment-end, step-comment, step-second, step-single, step-first, step-line, step-mark, step-blank, step-wrong}
+use Rattle.hextext.proofs.Steps.{step-comment-end, step-comment, step-second, step-first, step-line, step-mark, step-blank, step-wrong}
 use Rattle.hextext.proofs.Characters.{digit-is, digit-not}
 use Rattle.hextext.proofs.Scanning.{more-below, scan-stopped}
 use Rattle.hextext.proofs.Decoding.{full-not, bytes-stopped}

@@ -1,19 +1,18 @@
 -- The lines that the code prints from its table are the listing's, for every sheet that is read; and every other sheet's
 -- output is its refusal.
 use mathlib.Core.Path.{_≡_, refl, sym, ap, _∙_}
-use Prim.Native.Nat.{ℕ, zero, suc, _+_, _-_, _*_, _≤_, _<_}
+use Prim.Native.Nat.{ℕ, zero, suc, _+_, _-_, _≤_, _<_}
 use native.Mathlib.Omega.{arith}
-use native.Mathlib.Numerals.{add-one}
 use mathlib.Core.List.{List, [], _∷_, _++_}
 use lib.ListN.{length, getD, replicate, length-replicate}
 use lib.Seq.{sets}
 use lib.Dec.{leb, eqb}
 use Rattle.sheet.specs.declared.SheetRead.{SheetRead}
-use Rattle.sheet.specs.Reading.{Res, ok, no, _>>=_, _>>_, check}
+use Rattle.sheet.specs.Reading.{Res, ok, no, _>>=_, _>>_}
 use Rattle.sheet.specs.Expression.{Expr, located}
 use Rattle.sheet.specs.Statement.{Stmt, empty, size, Scope, Body, readStmt}
 use Rattle.sheet.specs.Module.{Listed, readHead, readWires, readThreads, Sheet, readSheet}
-use Rattle.sheet.specs.Answers.{layoutOf, blank, sheetAnswer}
+use Rattle.sheet.specs.Answers.{layoutOf, sheetAnswer}
 use Rattle.sheet.proofs.Reading.{bind-ok, check-ok, ok-injective}
 use Rattle.sheet.proofs.Statements.{ReadsStmt, derive-stmt}
 use Rattle.sheet.proofs.Numbers.{numbered-no, located-numbered, sheet-numbered}

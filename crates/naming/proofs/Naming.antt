@@ -9,10 +9,10 @@ use Prim.Native.Nat.{ℕ, zero, suc, _+_, _-_, _*_, _/_, _%_, _≤_, _<_}
 use native.Mathlib.Nat.{add-zero, zero-add}
 use native.Mathlib.Numerals.{add-one}
 use native.Mathlib.Omega.{arith}
-use borrow.Author.Tests.{lt-ltb, le-ltb, ltb-true, ltb-false, eq-eqb, ne-eqb, eqb-true, eqb-false}
+use borrow.Author.Tests.{lt-ltb, le-ltb, ltb-true, ltb-false, eq-eqb, ne-eqb, eqb-true}
 use lib.Dec.{ltb, eqb}
 use lib.ListN.{length, getD, set, take, drop, length-append, length-take, drop-of-length-le, List·getD-eq-default, List·getD-append}
-use lib.Seq.{sets, sets-eq, drop-cons, getD-take, getD-append-seam, getD-set-same, getD-set-other, length-sets}
+use lib.Seq.{sets, sets-eq, drop-cons, getD-take, getD-append-seam, getD-set-same, getD-set-other}
 use Rattle.values.specs.Values.{pick}
 use Rattle.writing.specs.Ascii.{byte}
 use Rattle.writing.specs.Numbers.{digit, digits, decimal}

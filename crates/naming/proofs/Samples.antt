@@ -4,7 +4,6 @@ use mathlib.Core.Bool.{true, false}
 use mathlib.Core.List.{List, [], _++_}
 use Prim.Native.Nat.{ℕ}
 use lib.ListN.{replicate}
-use Rattle.values.specs.Values.{pick}
 use Rattle.writing.specs.Ascii.{ascii}
 use Rattle.writing.specs.Numbers.{digits, decimal}
 use Rattle.naming.specs.Naming.{plainMark, plainNumber, plainName, nameFrom, nameOf, padded, renamed, sameText}

@@ -1,15 +1,14 @@
 -- Every refusal of extraction has a number from 1 on, so 0 is free to say "accepted" (`accepted`): then the sheet was read, no rule is
 -- broken, and the lent words hold the module's nodes and rows.
-use mathlib.Core.Path.{_≡_, refl, sym, ap, _∙_}
-use mathlib.Core.Logic.{_≢_}
-use mathlib.Core.Bool.{Bool, true, false, _&&_}
-use mathlib.Core.List.{List, [], _∷_, _++_}
+use mathlib.Core.Path.{_≡_, refl}
+use mathlib.Core.Bool.{Bool, true, false}
+use mathlib.Core.List.{List}
 use Prim.Native.Nat.{ℕ, zero, suc, _+_, _-_, _≤_}
 use native.Mathlib.Omega.{arith}
 use native.Mathlib.Decide.{ℕ-discrete}
-use lib.ListN.{length, getD, set}
+use lib.ListN.{length}
 use lib.Dec.{ltb, eqb}
-use borrow.Author.Tests.{eqb-true, eq-eqb, ne-eqb}
+use borrow.Author.Tests.{eq-eqb, ne-eqb}
 use Rattle.values.specs.Values.{pick}
 use Rattle.sheet.specs.Reading.{Res, ok, no, _>>=_, _>>_, check}
 use Rattle.sheet.specs.Expression.{Expr, variable, constant, unknown, unary, binary, conditional, tree}
@@ -19,7 +18,7 @@ use Rattle.pseudocode.specs.Translation.{Instr, wait!, set!, later!, go, ifnot}
 use Rattle.events.specs.Cycle.{codeOf, instrAt, isWait}
 use Rattle.nextstate.specs.Rules.{writes, rule}
 use Rattle.nextstate.specs.Nodes.{Node, allWords, padded}
-use Rattle.nextstate.specs.Walk.{Emitted, emit, express, Held, Walked, Merged, heldNode, mergeOne, merge, visit, walk}
+use Rattle.nextstate.specs.Walk.{emit, express, Held, Walked, mergeOne, merge, visit, walk}
 use Rattle.nextstate.specs.Extraction.{Tables, walkFrom, walksBelow, threadsBelow, extracted, expressions, filled, rightLengths, extract}
 
 -- ---- Numbered: accepted, or refused with a number from 1 on

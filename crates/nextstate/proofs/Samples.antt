@@ -2,7 +2,7 @@
 -- misreadings that it names.
 use mathlib.Core.Path.{_≡_, refl}
 use Prim.Native.Nat.{ℕ, zero, suc, _-_}
-use mathlib.Core.Bool.{Bool, true, false}
+use mathlib.Core.Bool.{true, false}
 use mathlib.Core.List.{List, [], _∷_, _++_}
 use lib.ListN.{length, replicate}
 use lib.Dec.{eqb}
@@ -15,8 +15,8 @@ use Rattle.values.specs.Planes.{valueAt, numberOf, isUnknown}
 use Rattle.values.specs.Edges.{edgeOf}
 use Rattle.values.specs.Operators as operators
 use Rattle.sheet.specs.declared.EdgeTerm.{EdgeTerm}
-use Rattle.sheet.specs.Reading.{Res, ok, no, byteAt, within, word, wordOf, wordAt}
-use Rattle.sheet.specs.Expression.{Expr, variable, constant, unknown, unary, binary, conditional, kindOf, variableAt, node, readExpr, tree}
+use Rattle.sheet.specs.Reading.{ok, no, byteAt, within, word, wordOf, wordAt}
+use Rattle.sheet.specs.Expression.{Expr, variable, constant, unknown, unary, binary, kindOf, variableAt, node, readExpr, tree}
 use Rattle.sheet.specs.Statement.{Stmt, empty, assign, later, sequence, ifThen, ifElse, while, forever, wait, size, isRegister, readTerms, narrow, narrowAll, formOf, assignment, form, readStmt}
 use Rattle.sheet.specs.Module.{Module, readWidths, readHead, readWires, readThreads, readSheet, read}
 use Rattle.evaluation.specs.Evaluation.{eval, reads}
@@ -27,7 +27,6 @@ use Rattle.events.specs.Cycle.{variables, codeOf, instrAt, wireExpr, wireVariab
 use Rattle.events.specs.Calls.{widthOf, inputOf}
 use Rattle.events.proofs.Samples.{module-of, posedge-clock, swapping}
 use Rattle.nextstate.specs.declared.Registers.{Registers}
-use Rattle.nextstate.specs.declared.Clocked.{Clocked}
 use Rattle.nextstate.specs.Rules.{setsAt, defersAt, readsAt, anyInstr, sets, defers, writes, threadReads, wireReads, someThread, someWire, someRegister, twoWriters, bothWays, readElsewhere, plainlyShared, isPosedge, clockEdge, otherWaitAt, otherWait, startsWaiting, bodyOf, startsRunning, surelyWaits, loopsWait, runsAway, clockRead, readsUpward, one, waitsBefore, waitsBelow, manyWaits, rule}
 use Rattle.nextstate.specs.Nodes.{Node, aVariable, aConstant, anUnknown, aUnary, aBinary, aConditional, aBranch, fourWords, nodeWords, allWords, padded, nodeFrom, nodeAt, nodeWidth, nodeValue, workOut, worked}
 use Rattle.nextstate.specs.Walk.{emit, express, ownRow, ownRows, heldNode, landed, mergeOne, merge, visit, walk}

@@ -16,7 +16,7 @@ use Rattle.events.specs.declared.Inputs.{Inputs}
 use Rattle.events.specs.Cycle.{codeOf, wireExpr, wireVariable}
 use Rattle.events.specs.Calls.{inputOf}
 use Rattle.nextstate.specs.Rules.{writes, waitsBefore, waitsBelow}
-use Rattle.nextstate.specs.Nodes.{Node, worked}
+use Rattle.nextstate.specs.Nodes.{worked}
 use Rattle.nextstate.specs.Extraction.{Tables}
 
 -- "It holds inputs, registers, places and wires": a value for each variable, a place for each thread.

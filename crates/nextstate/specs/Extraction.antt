@@ -13,7 +13,7 @@ use Rattle.state.specs.Saved.{listOf}
 use Rattle.events.specs.Cycle.{variables, codeOf, instrAt, isWait}
 use Rattle.nextstate.specs.Rules.{rule}
 use Rattle.nextstate.specs.Nodes.{Node, aVariable, allWords, padded}
-use Rattle.nextstate.specs.Walk.{Walked, ownRows, walk}
+use Rattle.nextstate.specs.Walk.{ownRows, walk}
 
 -- The nodes, and the rows one after the other, 33 entries each: "Rows, by thread and wait: 32 register nodes (an unwritten
 -- register's own variable; 0 past the last register), then the place."

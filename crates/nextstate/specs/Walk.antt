@@ -4,7 +4,7 @@ use mathlib.Core.List.{List, [], _∷_, _++_}
 use lib.ListN.{length, getD, set}
 use lib.Dec.{ltb}
 use Rattle.values.specs.Values.{pick}
-use Rattle.sheet.specs.Reading.{Res, ok, no, _>>=_, _>>_, check}
+use Rattle.sheet.specs.Reading.{Res, ok, _>>=_, _>>_, check}
 use Rattle.sheet.specs.Expression.{Expr, variable, constant, unknown, unary, binary, conditional}
 use Rattle.sheet.specs.Statement.{isRegister}
 use Rattle.sheet.specs.Module.{Module}
@@ -12,7 +12,7 @@ use Rattle.pseudocode.specs.Translation.{Instr, wait!, set!, later!, go, ifnot}
 use Rattle.state.specs.Saved.{listOf}
 use Rattle.events.specs.Cycle.{codeOf, instrAt}
 use Rattle.nextstate.specs.Rules.{defers, writes}
-use Rattle.nextstate.specs.Nodes.{Node, aVariable, aConstant, anUnknown, aUnary, aBinary, aConditional, aBranch}
+use Rattle.nextstate.specs.Nodes.{Node, aConstant, anUnknown, aUnary, aBinary, aConditional, aBranch}
 
 -- ---- a node more: "21 over 4,096 nodes", met as soon as the 4,097th is asked for
 

@@ -3,14 +3,12 @@
 use mathlib.Core.Path.{_≡_, refl, sym, ap, subst, _∙_}
 use mathlib.Core.Logic.{_≢_}
 use mathlib.Core.Bool.{Bool, true, false}
-use mathlib.Core.List.{List, [], _∷_, _++_}
 use Prim.Native.Nat.{ℕ, zero, suc, _+_, _-_, _≤_, _<_}
 use native.Mathlib.Omega.{arith}
 use native.Mathlib.Decide.{decLt, ℕ-discrete}
-use lib.ListN.{length, getD}
-use lib.Dec.{ltb, eqb, leb}
+use lib.ListN.{length}
+use lib.Dec.{ltb}
 use borrow.Author.Tests.{lt-ltb, le-ltb, ne-eqb, le-leb}
-use Rattle.values.specs.declared.Value.{Value}
 use Rattle.values.specs.declared.Value.the-variants.{Known, Unknown}
 use Rattle.values.specs.Values.{pick, same}
 use Rattle.values.specs.Planes.{valueAt, numberOf}
@@ -20,12 +18,12 @@ use Rattle.sheet.specs.Statement.{isRegister}
 use Rattle.sheet.specs.Module.{Module}
 use Rattle.soundness.specs.Soundness.{Sound}
 use Rattle.events.specs.declared.Inputs.{Inputs}
-use Rattle.events.specs.Cycle.{variables, codeOf, instrAt, isWait, wireVariable}
+use Rattle.events.specs.Cycle.{variables}
 use Rattle.events.specs.Calls.{inputOf, inputsFit}
 use Rattle.nextstate.specs.declared.Registers.{Registers}
 use Rattle.nextstate.specs.Rules.{writes}
 use Rattle.nextstate.specs.Extraction.{Tables, extracted}
-use Rattle.nextstate.specs.Book.{Book, settle, settled, fed, entry, worth, taken, nextPlace, rise, turned, turnedAll, book}
+use Rattle.nextstate.specs.Book.{Book, settle, settled, fed, entry, worth, taken, nextPlace, rise, turned}
 use Rattle.nextstate.specs.CycleRun.{handed, clocked}
 use Rattle.threads.specs.Ruled.{Ruled}
 use Rattle.threads.specs.Alone.{riseAlone}

@@ -1,31 +1,29 @@
 -- Wherever a list of calls ends, in a module that extraction accepts (`at-the-end`): the first five of the claim's sentences.
 use mathlib.Core.Path.{_≡_, refl, sym, ap, subst, _∙_}
 use mathlib.Core.Logic.{_≢_}
-use mathlib.Core.Bool.{Bool, true, false}
-use mathlib.Core.List.{List, [], _∷_}
-use Prim.Native.Nat.{ℕ, zero, suc, _+_, _^_, _≤_, _<_}
+use mathlib.Core.Bool.{true}
+use mathlib.Core.List.{List}
+use Prim.Native.Nat.{ℕ, _<_}
 use native.Mathlib.Omega.{arith}
 use lib.ListN.{length}
 use lib.Dec.{ltb}
 use borrow.Author.Tests.{lt-ltb}
 use Rattle.values.specs.declared.Value.{Value}
-use Rattle.values.specs.declared.Value.the-variants.{Known, Unknown}
+use Rattle.values.specs.declared.Value.the-variants.{Known}
 use Rattle.values.specs.Values.{pick, same}
 use Rattle.sheet.specs.Reading.{ok}
 use Rattle.sheet.specs.Expression.{Expr}
 use Rattle.sheet.specs.Module.{Module, read}
 use Rattle.state.specs.declared.State.{State}
-use Rattle.state.specs.State.{valueOf, placeOf}
 use Rattle.soundness.specs.Soundness.{Sound}
-use Rattle.events.specs.declared.Inputs.{Inputs}
-use Rattle.events.specs.Cycle.{variables, codeOf, instrAt, isWait, quiet}
-use Rattle.events.specs.Calls.{started, startOf, start, chooseIn, choose, plainChoice}
-use Rattle.events.specs.Steps.{Step, Instant}
+use Rattle.events.specs.Cycle.{variables, codeOf, instrAt, isWait}
+use Rattle.events.specs.Calls.{started, startOf, start, plainChoice}
+use Rattle.events.specs.Steps.{Instant}
 use Rattle.events.proofs.Choices.{spend-zero}
 use Rattle.events.proofs.Fits.{Fits, shaped-started, fits-started}
 use Rattle.events.proofs.Runs.{plain-refusal}
 use Rattle.nextstate.specs.Extraction.{Tables, extracted}
-use Rattle.nextstate.specs.Book.{Book, settled, fed, rise, opening, turned, turnedAll, book}
+use Rattle.nextstate.specs.Book.{Book, settled, fed, rise, opening, turned, book}
 use Rattle.threads.specs.Ruled.{Ruled}
 use Rattle.threads.specs.Alone.{riseAlone}
 use Rattle.settling.proofs.Settle.{settle-below}
@@ -33,7 +31,7 @@ use Rattle.walking.proofs.Rising.{rise-alone}
 use Rattle.validity.proofs.Valid.{some-variables}
 use Rattle.phases.specs.Phases.{turnedAlone, Phase}
 use Rattle.phases.proofs.Phases.{phase-start, phase-step, phase-bound, phase-quiet, phase-low, phase-high, phase-places}
-use Rattle.order.specs.Calls.{Call, final, choices, instants, since, Cycles}
+use Rattle.order.specs.Calls.{Call, final, instants, since, Cycles}
 use Rattle.order.specs.Claim.{AtTheEnd}
 use Rattle.order.proofs.Outcomes.{Standing, choose-in}
 use Rattle.order.proofs.List.{tallied, every, all-standing, to-fall}

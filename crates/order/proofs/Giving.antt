@@ -1,9 +1,8 @@
 -- What the cycle run gives back (`given-registers`, `given-places`, `given-wires`): the values and places that it came to, whatever
 -- they are, for the sheet's registers, threads and wires.
-use mathlib.Core.Path.{_≡_, refl, sym, ap, subst, _∙_}
+use mathlib.Core.Path.{_≡_, refl, sym, ap, _∙_}
 use mathlib.Core.Logic.{_≢_}
 use mathlib.Core.Bool.{Bool, true, false}
-use mathlib.Core.List.{List, [], _∷_}
 use Prim.Native.Nat.{ℕ, zero, suc, _+_, _-_, _≤_, _<_}
 use native.Mathlib.Omega.{arith}
 use native.Mathlib.Decide.{decLt, ℕ-discrete}
@@ -18,12 +17,10 @@ use Rattle.values.specs.Planes.{valueAt, numberOf, isUnknown}
 use Rattle.values.proofs.Planes.{valueAt-set-same, valueAt-set-other}
 use Rattle.sheet.specs.Expression.{Expr}
 use Rattle.sheet.specs.Module.{Module}
-use Rattle.state.specs.Saved.{listOf}
 use Rattle.state.proofs.Rows.{length-listOf, getD-listOf}
 use Rattle.soundness.specs.Soundness.{Sound}
 use Rattle.events.specs.Cycle.{wireVariable}
 use Rattle.nextstate.specs.declared.Registers.{Registers}
-use Rattle.nextstate.specs.declared.Clocked.{Clocked}
 use Rattle.nextstate.specs.Rules.{writes, someThread}
 use Rattle.nextstate.specs.Book.{Book}
 use Rattle.nextstate.specs.CycleRun.{withRegister, withWait, storeRegisters, storePlaces, stored, wireValue, given}

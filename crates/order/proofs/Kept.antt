@@ -1,9 +1,9 @@
 -- The book of a module that extraction accepts stays within widths, and its places are waits (`kept-book`): so the cycle run is never
 -- refused with 31 for what the book holds.
-use mathlib.Core.Path.{_≡_, refl, sym, ap, subst, _∙_}
+use mathlib.Core.Path.{_≡_, refl, sym, subst}
 use mathlib.Core.Bool.{Bool, true, false}
 use mathlib.Core.List.{List, [], _∷_}
-use Prim.Native.Nat.{ℕ, zero, suc, _+_, _-_, _≤_, _<_}
+use Prim.Native.Nat.{ℕ, zero, suc, _+_, _-_, _<_}
 use native.Mathlib.Omega.{arith}
 use native.Mathlib.Decide.{decLt}
 use lib.ListN.{length, getD}
@@ -18,13 +18,13 @@ use Rattle.sheet.specs.Expression.{Expr}
 use Rattle.sheet.specs.Module.{Module}
 use Rattle.soundness.specs.Soundness.{Fitting, Sound}
 use Rattle.events.specs.declared.Inputs.{Inputs}
-use Rattle.events.specs.Cycle.{variables, codeOf, instrAt, isWait}
+use Rattle.events.specs.Cycle.{variables, codeOf}
 use Rattle.events.specs.Calls.{widthOf, pendingFits, inputOf, inputsFit}
 use Rattle.events.specs.Steps.{latest}
 use Rattle.events.proofs.Fits.{fits-inputs, latest-fits}
 use Rattle.nextstate.specs.Rules.{sets, writes}
 use Rattle.nextstate.specs.Extraction.{Tables, extracted}
-use Rattle.nextstate.specs.Book.{Book, settle, settled, fed, rise, opening, turned, turnedAll, book}
+use Rattle.nextstate.specs.Book.{Book, settled, fed, rise, opening, turned, turnedAll, book}
 use Rattle.threads.specs.Ruled.{Ruled}
 use Rattle.threads.specs.Alone.{Local, endOf, valueAfter, takenAlone, placeAlone, riseAlone}
 use Rattle.threads.proofs.Ruled.{writes-register}

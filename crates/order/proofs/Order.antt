@@ -1,37 +1,32 @@
 -- Demand 3 (`order`): in a module that extraction accepts, the order in which threads and wires are taken counts for nothing.
 -- specs/Claim states it; Ending proves what it says of a list of calls, here comes the cycle run.
-use mathlib.Core.Path.{_≡_, refl, sym, ap, subst, _∙_}
-use mathlib.Core.Logic.{_≢_}
-use mathlib.Core.Bool.{Bool, true, false, _&&_}
+use mathlib.Core.Path.{_≡_, refl, _∙_}
+use mathlib.Core.Bool.{true, false}
 use mathlib.Core.List.{List, [], _∷_, _++_}
-use Prim.Native.Nat.{ℕ, zero, suc, _+_, _-_, _*_, _≤_, _<_}
+use Prim.Native.Nat.{ℕ, zero, suc, _+_, _-_, _≤_, _<_}
 use native.Mathlib.Omega.{arith}
 use lib.ListN.{length, getD}
-use lib.Dec.{ltb, eqb, leb}
 use borrow.Author.Tests.{lt-ltb, le-ltb, le-leb, eq-eqb, ne-eqb, ltb-false}
-use Rattle.values.specs.declared.Value.{Value}
-use Rattle.values.specs.declared.Value.the-variants.{Known, Unknown}
-use Rattle.values.specs.Values.{pick, fits}
+use Rattle.values.specs.Values.{fits}
 use Rattle.values.specs.Planes.{valueAt}
-use Rattle.sheet.specs.Reading.{Res, ok}
+use Rattle.sheet.specs.Reading.{ok}
 use Rattle.sheet.specs.Expression.{Expr}
 use Rattle.sheet.specs.Statement.{isRegister}
 use Rattle.sheet.specs.Module.{Module, read}
 use Rattle.soundness.specs.Soundness.{Sound}
 use Rattle.soundness.proofs.Soundness.{sound}
 use Rattle.events.specs.declared.Inputs.{Inputs}
-use Rattle.events.specs.Cycle.{variables, codeOf, instrAt, isWait, allBelow, wireVariable}
+use Rattle.events.specs.Cycle.{variables, codeOf, instrAt, isWait, wireVariable}
 use Rattle.events.specs.Calls.{widthOf, inputOf, inputsFit}
 use Rattle.events.proofs.Cycle.{below-all, none-below}
 use Rattle.events.proofs.Fits.{fits-inputs}
 use Rattle.nextstate.specs.declared.Registers.{Registers}
-use Rattle.nextstate.specs.declared.Clocked.{Clocked}
-use Rattle.nextstate.specs.Rules.{writes, someThread, waitsBelow, manyWaits, rule}
+use Rattle.nextstate.specs.Rules.{writes, someThread, waitsBelow, manyWaits}
 use Rattle.nextstate.specs.Nodes.{allWords, padded}
-use Rattle.nextstate.specs.Extraction.{Tables, extracted, rightLengths, extract}
-use Rattle.nextstate.specs.Book.{Book, settle, settled, taken, rise, turned, turnedAll, opening, book}
-use Rattle.nextstate.specs.CycleRun.{tablesIn, tablesFit, registersFit, upperInputsFit, handed, clocked, given, clockedIn, extractable, clockedOr, cycleRun}
-use Rattle.nextstate.proofs.Numbers.{Accepted, accepted, extracted-rule}
+use Rattle.nextstate.specs.Extraction.{Tables, extracted, rightLengths}
+use Rattle.nextstate.specs.Book.{Book, settled, taken, rise, turned, turnedAll, opening, book}
+use Rattle.nextstate.specs.CycleRun.{registersFit, upperInputsFit, handed, clocked, given, clockedIn, extractable, clockedOr, cycleRun}
+use Rattle.nextstate.proofs.Numbers.{accepted, extracted-rule}
 use Rattle.threads.specs.Ruled.{Ruled}
 use Rattle.threads.proofs.Ruled.{ruled, unbroken}
 use Rattle.settling.proofs.Settle.{settle-below}
@@ -40,7 +35,7 @@ use Rattle.walking.proofs.Rows.{rows-length}
 use Rattle.validity.proofs.Words.{length-padded, length-allWords}
 use Rattle.validity.proofs.Valid.{short, lent, lent-is, tables-fit}
 use Rattle.order.specs.Calls.{WholeCycles}
-use Rattle.order.specs.Claim.{Handed, Gives, AllFit, Demand3, Order}
+use Rattle.order.specs.Claim.{Handed, Gives, AllFit, Order}
 use Rattle.order.proofs.Ending.{at-the-end}
 use Rattle.order.proofs.Kept.{Kept, kept-book}
 use Rattle.order.proofs.Clocking.{clocked-agree}

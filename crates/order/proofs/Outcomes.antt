@@ -1,18 +1,15 @@
 -- What a call of a list does to a state that fits the sheet: accepted choices, each a step of the simulation cycle, or an instant, or
 -- nothing (`did`); and the state that it gives back fits again (`standing`). Number 31 never comes up along a list.
 use mathlib.Core.Path.{_≡_, refl, sym, ap, subst, _∙_}
-use mathlib.Core.Logic.{_≢_}
-use mathlib.Core.Bool.{Bool, true, false}
+use mathlib.Core.Bool.{true}
 use mathlib.Core.List.{List, [], _∷_}
-use mathlib.Core.Option.{Option, none, some}
-use Prim.Native.Nat.{ℕ, zero, suc, _+_, _≤_, _<_}
+use mathlib.Core.Option.{none, some}
+use Prim.Native.Nat.{ℕ, _≤_}
 use native.Mathlib.Decide.{ℕ-discrete}
 use native.Mathlib.Omega.{arith}
 use lib.ListN.{length, take}
 use lib.Seq.{length-take-le}
-use lib.Dec.{eqb}
 use borrow.Author.Tests.{ne-eqb, eq-eqb}
-use Rattle.values.specs.Values.{pick}
 use Rattle.sheet.specs.Reading.{ok}
 use Rattle.sheet.specs.Expression.{Expr}
 use Rattle.sheet.specs.Module.{Module, read}
@@ -20,13 +17,10 @@ use Rattle.state.specs.declared.State.{State}
 use Rattle.state.specs.State.{Shaped}
 use Rattle.soundness.specs.Soundness.{Sound}
 use Rattle.events.specs.declared.Inputs.{Inputs}
-use Rattle.events.specs.declared.Chosen.{Chosen}
 use Rattle.events.specs.declared.Ran.{Ran}
-use Rattle.events.specs.declared.Rested.{Rested}
-use Rattle.events.specs.Calls.{judged, stateFits, chooseIn, choose, runIn, runList, runBy, choicesBy, plainChoice, runPlain, inputOf, inputsFit, timed, instantRefusal, instantIn, instant}
-use Rattle.events.specs.Cycle.{feed, quiet}
-use Rattle.events.specs.Steps.{Step, Instant}
-use Rattle.events.proofs.Choices.{number-chooseIn, chooseIn-refused, state-refused, shaped-chooseIn, number-instantIn, instantIn-accepted, instantIn-refused, accepted-instant, shaped-timed, shaped-feed}
+use Rattle.events.specs.Calls.{judged, chooseIn, choose, runIn, runList, runBy, choicesBy, plainChoice, runPlain, inputOf, inputsFit, timed, instantRefusal, instantIn, instant}
+use Rattle.events.specs.Steps.{Instant}
+use Rattle.events.proofs.Choices.{state-refused, shaped-chooseIn, number-instantIn, instantIn-accepted, instantIn-refused, accepted-instant, shaped-timed, shaped-feed}
 use Rattle.events.proofs.Steps.{step-chooseIn, instant-instantIn}
 use Rattle.events.proofs.Fits.{Fits, state-fits, fits-chooseIn, fits-instantIn}
 use Rattle.events.proofs.Runs.{Chain, done, after, Over, all-ran, refused, over-runIn, chain-runIn, shaped-runIn, fits-runIn, length-choicesBy, chain-runBy, shaped-runBy, fits-runBy}

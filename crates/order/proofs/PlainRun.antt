@@ -1,7 +1,4 @@
 -- The plain run stores each wire at most once between changes (`plain-run`), in a module that extraction accepts.
-use Prim.Native.Nat.{ℕ}
-use mathlib.Core.Path.{_≡_}
-use mathlib.Core.List.{List}
 use Rattle.soundness.proofs.Soundness.{sound}
 use Rattle.nextstate.proofs.Numbers.{accepted, extracted-rule}
 use Rattle.threads.proofs.Ruled.{ruled}

@@ -12,7 +12,7 @@ use Rattle.events.specs.declared.Inputs.{Inputs}
 use Rattle.events.specs.declared.Chosen.{Chosen}
 use Rattle.events.specs.declared.Ran.{Ran}
 use Rattle.events.specs.declared.Rested.{Rested}
-use Rattle.events.specs.Calls.{start, choose, runList, runPlain, inputOf, instant}
+use Rattle.events.specs.Calls.{choose, runList, runPlain, inputOf, instant}
 
 -- "every list of choices, runs and instants"
 pub data Call : Type 0 where

@@ -17,10 +17,10 @@ use Rattle.events.specs.Calls.{start, choose, inputOf, inputsFit}
 use Rattle.nextstate.specs.declared.Registers.{Registers}
 use Rattle.nextstate.specs.declared.Clocked.{Clocked}
 use Rattle.nextstate.specs.Extraction.{Tables, extracted, extract}
-use Rattle.nextstate.specs.Book.{Book, turned, book}
+use Rattle.nextstate.specs.Book.{Book, book}
 use Rattle.nextstate.specs.CycleRun.{cycleRun}
 use Rattle.phases.specs.Phases.{allInstructions}
-use Rattle.order.specs.Calls.{Call, final, choices, instants, since, SameButClock, Cycles, WholeCycles}
+use Rattle.order.specs.Calls.{Call, final, choices, instants, since, Cycles, WholeCycles}
 
 -- ---- "Wherever the list ends"
 

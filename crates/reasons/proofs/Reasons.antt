@@ -9,7 +9,7 @@ use lib.ListN.{length, getD, drop, drop-of-length-le}
 use lib.Seq.{drop-cons}
 use borrow.Author.Tests.{ne-eqb}
 use Rattle.writing.specs.Buffer.{Text, puts}
-use Rattle.writing.proofs.Buffer.{puts-append, puts-nil}
+use Rattle.writing.proofs.Buffer.{puts-append}
 use Rattle.reasons.specs.Reasons.{firstLine, otherLines, lineOf}
 
 module _ (l : List ℕ) (i : ℕ) where

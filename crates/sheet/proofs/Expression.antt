@@ -1,16 +1,16 @@
 -- Laws of reading expressions. `Reads` says, without the reader, which bytes are an expression: `derive` and `accept`
 -- show that the reader accepts those and no others. Every other law of expressions goes by `Reads`.
 use mathlib.Core.Path.{_≡_, refl, sym, ap, _∙_}
-use Prim.Native.Nat.{ℕ, zero, suc, _+_, _-_, _*_, _^_, _≤_, _<_}
+use Prim.Native.Nat.{ℕ, zero, suc, _+_, _-_, _^_, _≤_, _<_}
 use native.Mathlib.Omega.{arith}
 use mathlib.Core.List.{List}
 use mathlib.Core.Bool.{Bool, true, false}
 use lib.ListN.{length, getD}
-use lib.Dec.{ltb, leb, eqb}
-use borrow.Author.Tests.{lt-ltb, ltb-true, eq-eqb, eqb-true, ne-eqb}
+use lib.Dec.{ltb, eqb}
+use borrow.Author.Tests.{lt-ltb, ltb-true, eq-eqb, eqb-true}
 use Rattle.values.specs.Values.{pick}
 use Rattle.values.specs.Operators.{unaryWidth, binaryWidth}
-use Rattle.sheet.specs.Reading.{Res, ok, no, _>>=_, _>>_, check, byteAt, within, wordOf, wordAt}
+use Rattle.sheet.specs.Reading.{Res, ok, _>>=_, _>>_, byteAt, within, wordOf, wordAt}
 use Rattle.sheet.specs.Expression.{Expr, variable, constant, unknown, unary, binary, conditional, Parsed, Kind, aVariable, aConstant, anUnknown, aUnary, aBinary, aConditional, kindOf, variableAt, node, readExpr}
 use Rattle.sheet.proofs.Reading.{no≢ok, ok-injective, bind-ok, check-ok, byte-ok, byte-at, Within, within-ok, within-at, word-ok, word-at}
 

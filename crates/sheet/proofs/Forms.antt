@@ -1,5 +1,5 @@
 -- The ways through the reader of statements: one law for each; and where a statement ends, with how many instructions.
-use mathlib.Core.Path.{_≡_, refl, sym, ap, _∙_}
+use mathlib.Core.Path.{_≡_, refl, ap, _∙_}
 use Prim.Native.Nat.{ℕ, zero, suc, _+_, _-_, _*_, _≤_, _<_}
 use native.Mathlib.Omega.{arith}
 use native.Mathlib.Numerals.{sub-one}
@@ -14,7 +14,7 @@ use Rattle.values.specs.Edges.{edgeOf}
 use Rattle.sheet.specs.declared.EdgeTerm.{EdgeTerm}
 use Rattle.sheet.specs.Reading.{Res, ok, no, _>>=_, _>>_, check, byteAt, within}
 use Rattle.sheet.specs.Expression.{Parsed, variableAt, located}
-use Rattle.sheet.specs.Statement.{Stmt, empty, assign, later, sequence, ifThen, ifElse, while, forever, wait, size, Scope, isRegister, Body, readTerms, narrow, narrowAll, Form, anEmpty, anAssign, aLater, aSequence, anIf, anIfElse, aWhile, aForever, aWait, formOf, assignment, form, readStmt}
+use Rattle.sheet.specs.Statement.{empty, assign, later, sequence, ifThen, ifElse, while, forever, wait, size, Scope, isRegister, Body, readTerms, narrow, narrowAll, Form, anEmpty, anAssign, aLater, aSequence, anIf, anIfElse, aWhile, aForever, aWait, formOf, assignment, form, readStmt}
 use Rattle.sheet.specs.Answers.{stmtAnswer}
 use Rattle.sheet.proofs.Reading.{no≢ok, ok-injective, bind-ok, check-ok, byte-ok, byte-at, byte-end, within-ok}
 use Rattle.sheet.proofs.Expression.{variable-ok}

@@ -1,17 +1,16 @@
 -- Every refusal of a sheet has one of document 01's numbers 1 to 11, so 0 is free to say "accepted".
-use mathlib.Core.Path.{_≡_, refl, sym, ap, _∙_, subst}
-use Prim.Native.Nat.{ℕ, zero, suc, _+_, _-_, _*_, _^_, _≤_, _<_}
+use mathlib.Core.Path.{_≡_, refl}
+use Prim.Native.Nat.{ℕ, zero, suc, _+_, _-_, _^_, _≤_}
 use native.Mathlib.Omega.{arith}
-use mathlib.Core.List.{List, [], _∷_}
+use mathlib.Core.List.{List, []}
 use mathlib.Core.Bool.{Bool, true, false}
 use lib.ListN.{length, getD}
 use lib.Dec.{ltb, leb, eqb}
 use Rattle.values.specs.Values.{pick}
-use Rattle.sheet.specs.declared.EdgeTerm.{EdgeTerm}
 use Rattle.sheet.specs.Reading.{Res, ok, no, _>>=_, _>>_, check, byteAt, within, wordAt}
 use Rattle.sheet.specs.Expression.{Expr, Parsed, Kind, aVariable, aConstant, anUnknown, aUnary, aBinary, aConditional, kindOf, variableAt, node, readExpr, tree, located}
 use Rattle.sheet.specs.Statement.{Stmt, assign, later, Scope, isRegister, Body, size, readTerms, narrowAll, Form, anEmpty, anAssign, aLater, aSequence, anIf, anIfElse, aWhile, aForever, aWait, formOf, assignment, form, readStmt}
-use Rattle.sheet.specs.Module.{Listed, Head, readWidths, readHead, readWires, readThreads, Sheet, readSheet}
+use Rattle.sheet.specs.Module.{readWidths, readHead, readWires, readThreads, readSheet}
 
 -- ---- Numbered: refused, if at all, with a number from 1 to 11
 

@@ -10,7 +10,7 @@ use Rattle.sheet.specs.Reading.{Res, ok, no, byteAt, within, word, wordO
 use Rattle.sheet.specs.Expression.{Expr, variable, constant, unary, binary, kindOf, variableAt, node, readExpr, tree, located}
 use Rattle.sheet.specs.Statement.{Stmt, empty, later, sequence, ifThen, forever, wait, size, isRegister, readTerms, narrow, narrowAll, formOf, assignment, form, readStmt}
 use Rattle.sheet.specs.Module.{Module, readWidths, readHead, readWires, readThreads, readSheet, read}
-use Rattle.sheet.specs.Answers.{startsOf, layoutOf, blank, sheetAnswer}
+use Rattle.sheet.specs.Answers.{startsOf, layoutOf, sheetAnswer}
 
 -- ---- the flip-flop
 

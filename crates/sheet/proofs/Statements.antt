@@ -6,14 +6,14 @@ use native.Mathlib.Omega.{arith}
 use mathlib.Core.List.{List, [], _∷_}
 use mathlib.Core.Bool.{Bool, true, false}
 use lib.ListN.{length, getD}
-use lib.Dec.{ltb, leb, eqb}
+use lib.Dec.{eqb}
 use borrow.Author.Tests.{eq-eqb, eqb-true}
 use Rattle.values.specs.Values.{pick}
 use Rattle.values.specs.Edges.{edgeOf}
 use Rattle.sheet.specs.declared.EdgeTerm.{EdgeTerm}
-use Rattle.sheet.specs.Reading.{Res, ok, no, _>>=_, _>>_, check, byteAt, within}
+use Rattle.sheet.specs.Reading.{Res, ok, _>>=_, _>>_, byteAt, within}
 use Rattle.sheet.specs.Expression.{Parsed, variableAt}
-use Rattle.sheet.specs.Statement.{Stmt, empty, assign, later, sequence, ifThen, ifElse, while, forever, wait, size, Scope, isRegister, Body, readTerms, narrowAll, Form, anEmpty, anAssign, aLater, aSequence, anIf, anIfElse, aWhile, aForever, aWait, formOf, assignment, form, readStmt}
+use Rattle.sheet.specs.Statement.{Stmt, empty, assign, later, sequence, ifThen, ifElse, while, forever, wait, Scope, isRegister, Body, readTerms, narrowAll, Form, anEmpty, anAssign, aLater, aSequence, anIf, anIfElse, aWhile, aForever, aWait, formOf, assignment, form, readStmt}
 use Rattle.sheet.proofs.Reading.{no≢ok, ok-injective, bind-ok, check-ok, byte-ok, byte-at, Within, within-ok, within-at}
 use Rattle.sheet.proofs.Expression.{variable-ok, variable-at}
 

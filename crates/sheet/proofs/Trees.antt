@@ -1,15 +1,15 @@
 -- A sheet read with its expressions kept as places is the sheet read with its expressions kept as trees:
 -- the same refusals, and the same module once the tree at each place is put for the place.
-use mathlib.Core.Path.{_≡_, refl, sym, ap, _∙_}
-use Prim.Native.Nat.{ℕ, zero, suc, _+_, _-_, _*_, _≤_, _<_}
-use mathlib.Core.List.{List, [], _∷_, map}
+use mathlib.Core.Path.{_≡_, refl, ap}
+use Prim.Native.Nat.{ℕ, zero, suc, _+_, _-_}
+use mathlib.Core.List.{List, map}
 use mathlib.Core.Bool.{Bool, true, false}
 use lib.ListN.{length, getD}
-use lib.Dec.{ltb, leb, eqb}
+use lib.Dec.{leb, eqb}
 use Rattle.sheet.specs.Reading.{Res, ok, no, _>>=_, _>>_, check, byteAt, within}
 use Rattle.sheet.specs.Expression.{Expr, Parsed, tree, located, treeOf, exprAt}
 use Rattle.sheet.specs.Statement.{Stmt, empty, assign, later, sequence, ifThen, ifElse, while, forever, wait, size, mapStmt, Scope, isRegister, Body, readTerms, narrowAll, Form, anEmpty, anAssign, aLater, aSequence, anIf, anIfElse, aWhile, aForever, aWait, formOf, assignment, form, readStmt}
-use Rattle.sheet.specs.Module.{Module, mapModule, Listed, Head, readHead, readWires, readThreads, Sheet, readSheet, read}
+use Rattle.sheet.specs.Module.{mapModule, Listed, readHead, readWires, readThreads, Sheet, readSheet, read}
 
 -- ---- a function under a reading
 

@@ -4,9 +4,9 @@ use mathlib.Core.List.{List}
 use lib.ListN.{length, replicate}
 use lib.Seq.{sets}
 use Rattle.sheet.specs.Reading.{Res, ok, no}
-use Rattle.sheet.specs.Expression.{Expr, Parsed}
-use Rattle.sheet.specs.Statement.{Stmt, Body, size}
-use Rattle.sheet.specs.Module.{Module, Sheet}
+use Rattle.sheet.specs.Expression.{Parsed}
+use Rattle.sheet.specs.Statement.{Body, size}
+use Rattle.sheet.specs.Module.{Sheet}
 use Rattle.sheet.specs.declared.ExprRead as ExprRead
 use Rattle.sheet.specs.declared.StmtRead as StmtRead
 use Rattle.sheet.specs.declared.Layout.{Layout}

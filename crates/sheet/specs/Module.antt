@@ -3,9 +3,9 @@ use Prim.Native.Nat.{ℕ, zero, suc, _+_, _-_}
 use mathlib.Core.List.{List, [], _∷_, map}
 use lib.ListN.{length, getD}
 use lib.Dec.{leb, eqb}
-use Rattle.sheet.specs.Reading.{Res, ok, no, _>>=_, _>>_, check, byteAt, within}
+use Rattle.sheet.specs.Reading.{Res, ok, _>>=_, _>>_, check, within}
 use Rattle.sheet.specs.Expression.{Expr, Parsed, tree}
-use Rattle.sheet.specs.Statement.{Stmt, Scope, Body, size, mapStmt, readStmt}
+use Rattle.sheet.specs.Statement.{Stmt, Scope, size, mapStmt, readStmt}
 
 pub record Module (E : Type 0) : Type 0 where
   pub scope : Scope

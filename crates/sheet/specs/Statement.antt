@@ -1,9 +1,9 @@
 -- Statements of the sheet (document 01, "The sheet"), their sizes, and how they are read.
 -- E is what stands for an expression: its tree, or its place in the sheet.
 use Prim.Native.Nat.{ℕ, zero, suc, _+_, _*_}
-use mathlib.Core.Bool.{Bool, true, false, _&&_}
+use mathlib.Core.Bool.{Bool, true, _&&_}
 use mathlib.Core.List.{List, [], _∷_}
-use lib.ListN.{length, getD}
+use lib.ListN.{getD}
 use lib.Dec.{ltb, leb, eqb}
 use Rattle.values.specs.Values.{pick}
 use Rattle.values.specs.Edges.{edgeOf}

@@ -2,7 +2,7 @@
 -- values within their widths, places within their threads. proofs/Soundness shows it of each sheet that is accepted.
 use Prim.Native.Nat.{ℕ, _+_, _≤_, _<_}
 use mathlib.Core.Path.{_≡_}
-use mathlib.Core.Bool.{Bool, true}
+use mathlib.Core.Bool.{true}
 use mathlib.Core.List.{List}
 use lib.ListN.{length, getD}
 use Rattle.values.specs.declared.Value.{Value}

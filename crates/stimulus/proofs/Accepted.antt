@@ -1,8 +1,8 @@
 -- THE LAW of accepted lines: where the error is 0, every slot up to the inputs' number is filled, and its value fits the width of its
 -- input: such a row is never refused with 25. Assumes nothing.
-use mathlib.Core.Path.{_≡_, refl, sym, ap, _∙_}
+use mathlib.Core.Path.{_≡_, refl, _∙_}
 use mathlib.Core.Bool.{Bool, true, false, _&&_}
-use mathlib.Core.List.{List, [], _∷_}
+use mathlib.Core.List.{List}
 use Prim.Native.Nat.{ℕ, zero, suc, _+_, _-_, _<_, _≤_}
 use native.Mathlib.Nat.{add-zero}
 use native.Mathlib.Omega.{arith}
@@ -12,8 +12,8 @@ use lib.Dec.{ltb, eqb}
 use lib.ListN.{length, getD, set, length-set, replicate}
 use lib.Pow.{pow-pos}
 use lib.Seq.{getD-set-same}
-use Rattle.values.specs.declared.Value.the-variants.{Known, Unknown}
-use Rattle.values.specs.Values.{pick, fits}
+use Rattle.values.specs.declared.Value.the-variants.{Known}
+use Rattle.values.specs.Values.{fits}
 use Rattle.values.specs.Planes.{valueAt}
 use Rattle.values.proofs.Values.{fits-known, fits-unknown}
 use Rattle.values.proofs.Planes.{valueAt-unknown, valueAt-known, valueAt-set-other}
@@ -21,7 +21,7 @@ use Rattle.stimulus.specs.declared.Class.the-variants.{Separator}
 use Rattle.stimulus.specs.declared.Number.{Number}
 use Rattle.stimulus.specs.declared.Line.{Line}
 use Rattle.stimulus.specs.Words.{runEnd, ended}
-use Rattle.stimulus.specs.Numbers.{isX, isHex, numberOf}
+use Rattle.stimulus.specs.Numbers.{isX, isHex}
 use Rattle.stimulus.specs.Lines.{fitted, entryOf, taken, slots, valuesFrom, valuesOf, firstPlace, lineOf}
 use Rattle.stimulus.proofs.Lines.{slots-few}
 

@@ -1,15 +1,14 @@
 -- Laws of a line's values: each is taken within the line, and a turn of the loop takes one more. Assumes nothing.
-use mathlib.Core.Path.{_≡_, refl, sym, ap, _∙_}
+use mathlib.Core.Path.{_≡_, refl}
 use mathlib.Core.Bool.{Bool, true, false, _&&_}
-use mathlib.Core.List.{List, [], _∷_}
-use Prim.Native.Nat.{ℕ, zero, suc, _+_, _-_, _<_, _≤_}
+use mathlib.Core.List.{List}
+use Prim.Native.Nat.{ℕ, suc, _+_, _-_, _<_, _≤_}
 use native.Mathlib.Omega.{arith}
-use borrow.Author.Tests.{ltb-true, lt-ltb, le-ltb, ltb-false, eq-eqb, ne-eqb}
+use borrow.Author.Tests.{ltb-true, lt-ltb, le-ltb, eq-eqb, ne-eqb}
 use lib.Dec.{ltb, eqb}
 use lib.ListN.{length, getD, set, drop, replicate}
 use Rattle.values.specs.declared.Value.the-variants.{Known}
 use Rattle.values.specs.Values.{pick, fits}
-use Rattle.stimulus.specs.declared.Class.{Class}
 use Rattle.stimulus.specs.declared.Class.the-variants.{Separator, Word}
 use Rattle.stimulus.specs.declared.Number.{Number}
 use Rattle.stimulus.specs.declared.Entry.{Entry}
@@ -17,7 +16,7 @@ use Rattle.stimulus.specs.declared.Taken.{Taken}
 use Rattle.stimulus.specs.Words.{runEnd, ended}
 use Rattle.stimulus.specs.Numbers.{numberOf, isX, isHex}
 use Rattle.stimulus.specs.Lines.{entry, fitted, entryOf, took, wordAt, taken, slots, surplus, lineWith, valuesFrom, valuesOf, firstPlace, lineOf}
-use Rattle.stimulus.proofs.Runs.{run-inside, ended-not}
+use Rattle.stimulus.proofs.Runs.{run-inside}
 
 -- ---- slots
 

@@ -2,7 +2,7 @@
 use mathlib.Core.Bool.{Bool, true, false, _&&_}
 use mathlib.Core.List.{List}
 use Prim.Native.Nat.{ℕ, zero, suc, _+_, _-_}
-use lib.ListN.{length, getD, set, take, drop, replicate}
+use lib.ListN.{getD, set, take, drop, replicate}
 use lib.Dec.{ltb, eqb}
 use Rattle.values.specs.declared.Value.the-variants.{Known}
 use Rattle.values.specs.Values.{pick, fits}

@@ -1,6 +1,6 @@
 -- A line of the names file: a letter and a number name a variable (`i` inputs, `r` registers, `w` wires, each from 0, numbered in that
 -- order); behind blanks its name, 1 to 31 letters, digits or `_`, the first no digit; then only blanks or a comment.
-use mathlib.Core.Bool.{Bool, true, false, _&&_}
+use mathlib.Core.Bool.{false, _&&_}
 use mathlib.Core.List.{List}
 use Prim.Native.Nat.{ℕ, _+_, _-_}
 use lib.ListN.{length, getD, drop}

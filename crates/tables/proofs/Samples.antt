@@ -1,8 +1,7 @@
 -- Samples, computed from the definitions. Assumes nothing.
 use mathlib.Core.Path.{_≡_, refl}
-use mathlib.Core.Bool.{Bool, true, false}
-use mathlib.Core.List.{List, [], _∷_}
-use Prim.Native.Nat.{ℕ}
+use mathlib.Core.Bool.{true, false}
+use mathlib.Core.List.{[], _∷_}
 use lib.ListN.{replicate}
 use Rattle.values.specs.declared.Edge.the-variants.{Change, Posedge}
 use Rattle.pseudocode.specs.declared.Action.the-variants.{Go}

@@ -1,6 +1,6 @@
 -- What the program prints fits the buffer: a line has at most 16 characters, and three for each byte that its statement
 -- takes in the sheet; there are at most 2,048 lines and 8,192 bytes.
-use mathlib.Core.Path.{_≡_, refl, sym, ap, _∙_}
+use mathlib.Core.Path.{_≡_, refl, ap}
 use Prim.Native.Nat.{ℕ, zero, suc, _+_, _-_, _*_, _^_, _≤_, _<_}
 use native.Mathlib.Nat.{pow-le-pow-right}
 use native.Mathlib.Omega.{arith}
@@ -13,16 +13,15 @@ use Rattle.values.specs.Edges.{edgeOf, edgeNumber}
 use Rattle.values.specs.declared.Edge.{Edge}
 use Rattle.values.specs.declared.Edge.the-variants.{Change, Posedge, Negedge}
 use Rattle.sheet.specs.declared.EdgeTerm.{EdgeTerm}
-use Rattle.sheet.specs.Reading.{Res, ok, no, _>>=_, _>>_, check, within}
+use Rattle.sheet.specs.Reading.{Res, ok, no, _>>=_, _>>_, within}
 use Rattle.sheet.specs.Expression.{Expr, Parsed, tree}
 use Rattle.sheet.specs.Statement.{Stmt, empty, assign, later, sequence, ifThen, ifElse, while, forever, wait, size, Scope, isRegister, Body, readStmt}
-use Rattle.sheet.specs.Module.{Module, Listed, Head, readWidths, readHead, readWires, readThreads, Sheet, readSheet, read}
-use Rattle.sheet.proofs.Reading.{Within, bind-ok, check-ok, within-ok, ok-injective}
-use Rattle.sheet.proofs.Expression.{Reads, a-variable, a-constant, an-unknown, a-unary, a-binary, a-conditional, reads-after}
+use Rattle.sheet.specs.Module.{Module, Listed, Head, readWidths, readHead, readWires, readThreads, readSheet, read}
+use Rattle.sheet.proofs.Reading.{bind-ok, check-ok, within-ok, ok-injective}
+use Rattle.sheet.proofs.Expression.{Reads, a-variable, a-constant, an-unknown, a-unary, a-binary, a-conditional}
 use Rattle.sheet.proofs.Statements.{ReadsTerms, no-terms, a-term, ReadsStmt, an-empty, an-assign, a-later, a-sequence, an-if, an-if-else, a-while, a-forever, a-wait, derive-stmt}
 use Rattle.pseudocode.specs.Translation.{Instr, wait!, set!, later!, go, ifnot, translate, threadCode}
 use Rattle.writing.specs.Ascii.{ascii}
-use Rattle.writing.specs.Numbers.{decimal}
 use Rattle.writing.specs.Buffer.{filled, puts}
 use Rattle.text.specs.Listing.{showExpr, showTerm, showTerms, showInstr, showLine, showCode, showThreads, showHead, showModule, listing, refusal, printed, output}
 use Rattle.writing.proofs.Buffer.{puts-front}

@@ -1,22 +1,22 @@
 -- The listing by the places of the expressions, as the code keeps them, is the listing by their trees.
 use mathlib.Core.Path.{_≡_, refl, sym, ap, _∙_}
-use Prim.Native.Nat.{ℕ, zero, suc, _+_, _*_, _≤_, _<_}
+use Prim.Native.Nat.{ℕ, zero, suc, _+_, _≤_}
 use native.Mathlib.Omega.{arith}
 use mathlib.Core.List.{List, [], _∷_, _++_, map}
-use lib.ListN.{length, getD, take, length-map}
+use lib.ListN.{length, length-map}
 use lib.Dec.{leb, eqb}
 use Rattle.sheet.specs.declared.EdgeTerm.{EdgeTerm}
-use Rattle.sheet.specs.Reading.{Res, ok, no, _>>=_, _>>_, check}
+use Rattle.sheet.specs.Reading.{Res, ok, no, _>>=_, _>>_}
 use Rattle.sheet.specs.Expression.{Expr, Parsed, tree, located, exprAt}
 use Rattle.sheet.specs.Statement.{Stmt, size, mapStmt, Scope, Body, readStmt}
-use Rattle.sheet.specs.Module.{Module, mapModule, Listed, readHead, readWires, readThreads, Sheet, readSheet, read}
+use Rattle.sheet.specs.Module.{mapModule, Listed, readHead, readWires, readThreads, Sheet, readSheet}
 use Rattle.sheet.proofs.Reading.{bind-ok, check-ok, ok-injective}
 use Rattle.sheet.proofs.Expression.{Reads, derive}
-use Rattle.sheet.proofs.Statements.{ReadsTerms, terms-length, ReadsStmt, an-empty, an-assign, a-later, a-sequence, an-if, an-if-else, a-while, a-forever, a-wait, derive-stmt}
+use Rattle.sheet.proofs.Statements.{terms-length, ReadsStmt, an-empty, an-assign, a-later, a-sequence, an-if, an-if-else, a-while, a-forever, a-wait, derive-stmt}
 use Rattle.sheet.proofs.Trees.{mapRes, expr-at, size-map, trees, read-located}
 use Rattle.pseudocode.specs.Translation.{Instr, wait!, set!, later!, go, ifnot, translate, threadCode}
-use Rattle.pseudocode.specs.Instruction.{noTerm, termsOf, instructionOf}
-use Rattle.text.specs.Listing.{showExpr, showTerms, showInstr, showLine, showCode, showThreads, showHead, showModule, listing, refusal, printed, output}
+use Rattle.pseudocode.specs.Instruction.{termsOf, instructionOf}
+use Rattle.text.specs.Listing.{showExpr, showInstr, showLine, showCode, showThreads, showModule, listing, printed, output}
 use Rattle.text.specs.Printing.{textAt, allTerms, termList, actionInstr, instrOf, printedAt}
 use Rattle.text.proofs.Printing.{text-reads}
 

@@ -15,7 +15,7 @@ use Rattle.pseudocode.specs.declared.Action.{Action}
 use Rattle.pseudocode.specs.declared.Action.the-variants.{Set, Later, Go, IfNot}
 use Rattle.pseudocode.specs.declared.Instruction.{Instruction}
 use Rattle.pseudocode.specs.declared.Instruction.the-variants.{Wait, Act}
-use Rattle.writing.specs.Ascii.{ascii, byte}
+use Rattle.writing.specs.Ascii.{byte}
 use Rattle.writing.specs.Numbers.{decimal}
 use Rattle.writing.specs.Buffer.{Text, filled, puts}
 use Rattle.text.specs.declared.Printed.{Printed}

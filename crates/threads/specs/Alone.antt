@@ -1,6 +1,5 @@
 -- A thread run alone, from a wait to the next, and the book's rise of the clock told by it.
 use Prim.Native.Nat.{ℕ, zero, suc, _+_, _-_}
-use mathlib.Core.List.{List}
 use mathlib.Core.Option.{Option, none, some}
 use lib.ListN.{length}
 use lib.Dec.{ltb, eqb}

@@ -3,14 +3,14 @@
 use Prim.Native.Nat.{ℕ, _+_, _<_}
 use mathlib.Core.Path.{_≡_}
 use mathlib.Core.Logic.{_≢_}
-use mathlib.Core.Bool.{Bool, true, false}
+use mathlib.Core.Bool.{true, false}
 use mathlib.Core.List.{List}
 use lib.ListN.{length}
 use Rattle.sheet.specs.declared.EdgeTerm.{EdgeTerm}
 use Rattle.sheet.specs.Expression.{Expr}
-use Rattle.sheet.specs.Statement.{Stmt, forever}
+use Rattle.sheet.specs.Statement.{forever}
 use Rattle.sheet.specs.Module.{Module}
-use Rattle.pseudocode.specs.Translation.{Instr, wait! }
+use Rattle.pseudocode.specs.Translation.{wait! }
 use Rattle.events.specs.Cycle.{codeOf, instrAt, isWait}
 use Rattle.nextstate.specs.Rules.{sets, defers, writes, threadReads, wireReads, clockEdge, bodyOf, loopsWait}
 

@@ -1,8 +1,7 @@
 -- Nodes as extraction makes them (`Made`): each passes the cycle run's check beside those before it, and is read from its four words
 -- as it was written. An expression that has width w leaves a node of width w (`express-made`).
 use mathlib.Core.Path.{_≡_, refl, sym, ap, subst, _∙_}
-use mathlib.Core.Logic.{_≢_}
-use mathlib.Core.Bool.{Bool, true, false, _&&_}
+use mathlib.Core.Bool.{true}
 use mathlib.Core.List.{List, [], _∷_, _++_}
 use Prim.Native.Nat.{ℕ, zero, suc, _+_, _-_, _*_, _^_, _/_, _%_, _≤_, _<_}
 use native.Mathlib.Omega.{arith}
@@ -10,17 +9,13 @@ use native.Mathlib.Nat.{div-add-mod}
 use native.Mathlib.Decide.{decLt}
 use lib.ListN.{length, getD, length-append, List·getD-append}
 use lib.Seq.{getD-append-seam}
-use lib.Dec.{ltb, leb, eqb}
-use borrow.Author.Tests.{lt-ltb, le-leb, lt-leb, ne-eqb, eq-eqb, eqb-true}
-use Rattle.values.specs.declared.Value.{Value}
-use Rattle.values.specs.Values.{pick}
+use borrow.Author.Tests.{lt-ltb, le-leb, lt-leb, ne-eqb, eq-eqb}
 use Rattle.values.specs.Operators.{unaryWidth, binaryWidth}
 use Rattle.sheet.specs.Reading.{ok}
 use Rattle.sheet.proofs.Reading.{ok-injective, bind-ok}
 use Rattle.sheet.specs.Expression.{Expr, variable, constant, unknown, unary, binary, conditional}
 use Rattle.sheet.specs.Module.{Module}
 use Rattle.encoding.specs.WellFormed.{WellTyped}
-use Rattle.events.specs.Cycle.{variables}
 use Rattle.nextstate.specs.Nodes.{Node, aVariable, aConstant, anUnknown, aUnary, aBinary, aConditional, aBranch, fourWords, nodeWords, nodeFrom, nodeAt, nodeWidth}
 use Rattle.nextstate.specs.Walk.{Emitted, emit, express}
 use Rattle.nextstate.specs.CycleRun.{width?, nodeFits, nodesFit, widthsFrom}

@@ -5,23 +5,22 @@ use mathlib.Core.List.{List, [], _∷_, _++_}
 use Prim.Native.Nat.{ℕ, zero, suc, _+_, _-_, _≤_, _<_}
 use native.Mathlib.Omega.{arith}
 use native.Mathlib.Decide.{ℕ-discrete}
-use lib.ListN.{length, getD, set, length-append}
+use lib.ListN.{length, getD, length-append}
 use lib.Dec.{ltb}
 use borrow.Author.Tests.{lt-ltb}
 use Rattle.values.specs.Values.{pick}
-use Rattle.sheet.specs.declared.EdgeTerm.{EdgeTerm}
-use Rattle.sheet.specs.Reading.{Res, ok}
+use Rattle.sheet.specs.Reading.{ok}
 use Rattle.sheet.specs.Expression.{Expr}
 use Rattle.sheet.specs.Module.{Module}
 use Rattle.sheet.proofs.Reading.{ok-injective, bind-ok}
-use Rattle.pseudocode.specs.Translation.{Instr, wait! }
+use Rattle.pseudocode.specs.Translation.{Instr}
 use Rattle.state.specs.Saved.{listOf}
 use Rattle.state.proofs.Rows.{length-listOf, getD-listOf}
 use Rattle.soundness.specs.Soundness.{Sound, SoundInstr, sound-wait, sound-set, sound-later, sound-go, sound-ifnot}
 use Rattle.events.specs.Cycle.{variables, codeOf, instrAt, isWait}
 use Rattle.events.proofs.Cycle.{absurd-bool}
 use Rattle.nextstate.specs.Nodes.{Node, aVariable, nodeWidth}
-use Rattle.nextstate.specs.Walk.{Held, Walked, ownRow, ownRows, walk}
+use Rattle.nextstate.specs.Walk.{Walked, ownRow, ownRows, walk}
 use Rattle.nextstate.specs.Extraction.{Tables, variableNodes, walkFrom, walksBelow, threadsBelow, extracted}
 use Rattle.nextstate.specs.Book.{entry}
 use Rattle.nextstate.specs.CycleRun.{nodeFits, widthsFrom}
@@ -30,10 +29,10 @@ use Rattle.threads.specs.Ruled.{Ruled}
 use Rattle.threads.proofs.Ruled.{sound-instr}
 use Rattle.threads.proofs.Resting.{way-bound}
 use Rattle.walking.proofs.Growing.{Grows, grows-refl, grows-trans, grows-by, length-ownRow, walk-grows}
-use Rattle.walking.proofs.Rows.{RowOf, row-of, nodes-begin}
+use Rattle.walking.proofs.Rows.{row-of}
 use Rattle.validity.proofs.Folds.{widths-new}
 use Rattle.validity.proofs.Made.{Made, Has, has-grows, made-nothing, made-snoc, made-prefix, coded-variable}
-use Rattle.validity.proofs.Walks.{RowHas, OwnNodes, HeldHas, Lands, Within, WalkMade, Ready, walk-made, lands-grows}
+use Rattle.validity.proofs.Walks.{RowHas, OwnNodes, HeldHas, Lands, WalkMade, Ready, walk-made, lands-grows}
 
 module _ (m : Module Expr) (w : Sound m) where
   -- ---- the variables' nodes

@@ -1,30 +1,29 @@
 -- Extraction's tables pass the cycle run's check (`tables-fit`): number 24 isn't met on them.
-use mathlib.Core.Path.{_≡_, refl, sym, ap, subst, _∙_}
-use mathlib.Core.Bool.{Bool, true, false, not, _&&_, _||_}
-use mathlib.Core.List.{List, [], _∷_, _++_}
+use mathlib.Core.Path.{_≡_, refl}
+use mathlib.Core.Bool.{Bool, true, false, not, _||_}
+use mathlib.Core.List.{List, []}
 use Prim.Native.Nat.{ℕ, zero, suc, _+_, _-_, _≤_, _<_}
 use native.Mathlib.Omega.{arith}
-use lib.ListN.{length, getD, replicate, length-append}
-use lib.Dec.{ltb, eqb}
+use lib.ListN.{length, getD, replicate}
 use borrow.Author.Tests.{lt-ltb, eq-eqb}
 use Rattle.values.specs.declared.Value.{Value}
 use Rattle.sheet.specs.Expression.{Expr}
 use Rattle.sheet.specs.Reading.{ok}
 use Rattle.sheet.specs.Module.{Module}
 use Rattle.soundness.specs.Soundness.{Sound}
-use Rattle.events.specs.Cycle.{variables, codeOf, instrAt, allBelow, isWait}
+use Rattle.events.specs.Cycle.{variables, codeOf, instrAt, isWait}
 use Rattle.events.specs.Calls.{widthOf}
 use Rattle.events.proofs.Cycle.{below-all}
 use Rattle.nextstate.specs.Rules.{writes}
-use Rattle.nextstate.specs.Nodes.{Node, aVariable, allWords, padded, nodeWidth}
+use Rattle.nextstate.specs.Nodes.{aVariable, allWords, padded}
 use Rattle.nextstate.specs.Extraction.{Tables, extracted}
 use Rattle.nextstate.specs.Book.{entry, worth}
-use Rattle.nextstate.specs.CycleRun.{nodeFits, nodesFit, widthsFrom, landings, registerFits, rowFits, rowsFit, tablesFit, tablesIn}
+use Rattle.nextstate.specs.CycleRun.{nodeFits, nodesFit, widthsFrom, registerFits, rowFits, rowsFit, tablesFit, tablesIn}
 use Rattle.threads.specs.Ruled.{Ruled}
 use Rattle.walking.proofs.Growing.{Grows, grows-by}
 use Rattle.validity.proofs.Folds.{fit-append}
-use Rattle.validity.proofs.Made.{Made, Has, has-grows}
-use Rattle.validity.proofs.Walks.{Lands, lands-grows}
+use Rattle.validity.proofs.Made.{Made, has-grows}
+use Rattle.validity.proofs.Walks.{lands-grows}
 use Rattle.validity.proofs.Short.{nodes-short}
 use Rattle.validity.proofs.Tables.{nodes-made, RowMade, row-made}
 use Rattle.validity.proofs.Words.{words, words-nodes, entry-in, worth-in}

@@ -1,37 +1,35 @@
 -- The walk keeps what the cycle run's check asks (`walk-made`): its nodes are Made, each register's node has the register's width, and
 -- the place's branch arms all end in waits of the thread.
 use mathlib.Core.Path.{_≡_, refl, sym, ap, subst, _∙_}
-use mathlib.Core.Logic.{_≢_, _⊎_, inl, inr}
-use mathlib.Core.Bool.{Bool, true, false, _&&_}
+use mathlib.Core.Logic.{inl, inr}
+use mathlib.Core.Bool.{Bool, true, false}
 use mathlib.Core.List.{List, [], _∷_, _++_}
-use Prim.Native.Nat.{ℕ, zero, suc, _+_, _-_, _^_, _≤_, _<_}
+use Prim.Native.Nat.{ℕ, zero, suc, _+_, _-_, _≤_, _<_}
 use native.Mathlib.Omega.{arith}
 use native.Mathlib.Decide.{ℕ-discrete, decLt}
 use lib.ListN.{length, getD, set, length-set, length-append, List·getD-append}
-use lib.Seq.{getD-set-same, getD-set-other, getD-append-seam, getD-at}
-use lib.Dec.{ltb, leb, eqb}
-use borrow.Author.Tests.{lt-ltb, le-leb, lt-leb, le-ltb, eq-eqb}
+use lib.Seq.{getD-set-same, getD-set-other, getD-at}
+use borrow.Author.Tests.{lt-ltb, le-leb, lt-leb, le-ltb}
 use Rattle.values.specs.Values.{pick}
-use Rattle.sheet.specs.declared.EdgeTerm.{EdgeTerm}
 use Rattle.sheet.specs.Reading.{Res, ok}
 use Rattle.sheet.specs.Expression.{Expr}
 use Rattle.sheet.specs.Statement.{isRegister}
 use Rattle.sheet.specs.Module.{Module}
 use Rattle.sheet.proofs.Reading.{ok-injective, bind-ok}
-use Rattle.pseudocode.specs.Translation.{Instr, wait!, set!, later!, go, ifnot}
+use Rattle.pseudocode.specs.Translation.{Instr}
 use Rattle.state.proofs.Rows.{getD-listOf}
 use Rattle.soundness.specs.Soundness.{Sound, SoundExpr, SoundInstr, sound-wait, sound-set, sound-later, sound-go, sound-ifnot}
 use Rattle.events.specs.Cycle.{codeOf, instrAt, isWait}
-use Rattle.nextstate.specs.Rules.{defers, writes}
-use Rattle.nextstate.specs.Nodes.{Node, aVariable, aConstant, aBranch, nodeWidth}
-use Rattle.nextstate.specs.Walk.{Emitted, Held, Walked, Merged, ownRow, ownRows, heldNode, landed, express, merge, visit, walk}
+use Rattle.nextstate.specs.Rules.{defers}
+use Rattle.nextstate.specs.Nodes.{Node, aConstant, aBranch, nodeWidth}
+use Rattle.nextstate.specs.Walk.{Emitted, Held, Walked, Merged, heldNode, landed, express, merge, visit, walk}
 use Rattle.nextstate.specs.CycleRun.{lands, landings, widthsFrom}
 use Rattle.threads.specs.Resting.{Leads, Way, here, step}
 use Rattle.threads.proofs.Ruled.{writes-register, sound-instr}
 use Rattle.threads.proofs.Resting.{leads-inside}
-use Rattle.walking.proofs.Growing.{Grows, grows-same, grows-trans, grows-length, grows-refl, grows-by, Branches, express-grows, MergesOne, written, unwritten, mergeOne-ok, merges-grows, merge-grows, merge-length, visit-branches, visit-wait, walk-grows}
-use Rattle.validity.proofs.Folds.{landings-length, landings-grow, landings-new, widths-length, widths-new}
-use Rattle.validity.proofs.Made.{Made, Has, has-grows, made-snoc, express-made, fits-branch, fits-constant, coded-branch, coded-constant, emit-made}
+use Rattle.walking.proofs.Growing.{Grows, grows-same, grows-trans, grows-length, grows-by, Branches, express-grows, MergesOne, written, unwritten, mergeOne-ok, merge-grows, merge-length, visit-branches, visit-wait, walk-grows}
+use Rattle.validity.proofs.Folds.{landings-grow, landings-new, widths-new}
+use Rattle.validity.proofs.Made.{Made, Has, has-grows, made-snoc, express-made, fits-branch, fits-constant, coded-branch, coded-constant}
 
 module _ (m : Module Expr) where
   -- Each register's node has the register's width.

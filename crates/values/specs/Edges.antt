@@ -2,10 +2,10 @@
 use mathlib.Core.Bool.{Bool, not, _&&_}
 use Prim.Native.Nat.{ℕ}
 use Rattle.values.specs.declared.Value.{Value}
-use Rattle.values.specs.declared.Value.the-variants.{Known, Unknown}
+use Rattle.values.specs.declared.Value.the-variants.{Known}
 use Rattle.values.specs.declared.Edge.{Edge}
 use Rattle.values.specs.declared.Edge.the-variants.{Change, Posedge, Negedge}
-use Rattle.values.specs.Values.{same, pick, _is_then_else_}
+use Rattle.values.specs.Values.{same, _is_then_else_}
 
 -- ---- becomes: now n, before not n
 

@@ -1,6 +1,6 @@
 -- Laws of the dump: what a variable is declared as, and that a value's figures are as many as it is wide and read back.
 -- Assumes nothing.
-use mathlib.Core.Path.{_≡_, refl, sym, ap, _∙_}
+use mathlib.Core.Path.{_≡_, refl, ap, _∙_}
 use mathlib.Core.Logic.{_≢_}
 use mathlib.Core.List.{List, [], _∷_, _++_}
 use Prim.Native.Nat.{ℕ, zero, suc, _+_, _-_, _*_, _/_, _%_, _^_, _≤_, _<_}
@@ -8,7 +8,6 @@ use native.Mathlib.Nat.{pow-suc}
 use native.Mathlib.Omega.{arith}
 use borrow.Author.Tests.{lt-ltb, le-ltb, eq-eqb, ne-eqb}
 use lib.ListN.{length, length-append}
-use Rattle.values.specs.Values.{pick}
 use Rattle.values.specs.declared.Value.{Value}
 use Rattle.writing.specs.Ascii.{ascii, byte}
 use Rattle.writing.specs.Numbers.{digit}

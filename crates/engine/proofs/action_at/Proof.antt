@@ -1,10 +1,9 @@
 -- `engine::action_at` meets its contract: the action of the two words that stand at the place.
-use mathlib.Core.Path.{_≡_, sym, ap, _∙_}
+use mathlib.Core.Path.{sym, ap, _∙_}
 use Prim.Native.Nat.{ℕ, _+_, _*_, _%_}
 use native.Mathlib.Omega.{arith}
 use lib.ListN.{getD}
 use borrow.Author.Tests.{eqb-false}
-use Rattle.pseudocode.specs.declared.Instruction.{Instruction}
 use Rattle.pseudocode.specs.Fetching.{decode}
 use Rattle.pseudocode.proofs.Fetching.{fetch-in, fetch-thread}
 use Rattle.changes.proofs.Firing.{waiting-word}

@@ -1,5 +1,5 @@
 -- `engine::seen_at` meets its contract: a register that holds nothing, or that no wait names.
-use mathlib.Core.Path.{_≡_, refl, sym, ap, _∙_}
+use mathlib.Core.Path.{sym, ap, _∙_}
 use mathlib.Core.Bool.{Bool, false, _&&_, and-false, true≢false}
 use Prim.Native.Nat.{ℕ, _+_}
 use lib.ListN.{getD}

@@ -1,6 +1,5 @@
 -- `exports::number_of_verdict` meets its contract. Assumes nothing.
 use borrow.Author.Needs.{needs}
-use mathlib.Core.Path.{refl}
 use Rattle.exports.specs.Saved.{numberOfVerdict}
 use Rattle.exports.proofs.number_of_verdict.Statement.{statement}
 use Rattle.exports.proofs.number_of_verdict.Tie as tie

@@ -1,6 +1,5 @@
 -- `exports::word_of_verdict` meets its contract. Assumes nothing.
 use borrow.Author.Needs.{needs}
-use mathlib.Core.Path.{refl}
 use Rattle.exports.specs.Saved.{wordOfVerdict}
 use Rattle.exports.proofs.word_of_verdict.Statement.{statement}
 use Rattle.exports.proofs.word_of_verdict.Tie as tie

@@ -1,6 +1,6 @@
 -- `hextext::completes` meets its contract. Assumes nothing.
 use borrow.Author.Needs.{needs}
-use mathlib.Core.Path.{sym, _∙_, ap}
+use mathlib.Core.Path.{_∙_, ap}
 use lib.Dec.{ltb}
 use Rattle.hextext.proofs.Steps.{completes-comment, completes-half, completes-none}
 use Rattle.hextext.proofs.completes.Statement.{statement}

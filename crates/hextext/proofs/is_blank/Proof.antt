@@ -1,5 +1,4 @@
 -- `hextext::is_blank` meets its contract. Assumes nothing.
-use native.Mathlib.Omega.{arith}
 use Rattle.hextext.proofs.Characters.{blank-space, blank-tab, blank-return}
 use Rattle.hextext.proofs.is_blank.Statement.{statement}
 use Rattle.hextext.proofs.is_blank.Tie as tie

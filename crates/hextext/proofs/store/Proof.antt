@@ -1,7 +1,6 @@
 -- `hextext::store` meets its contract. Assumes nothing.
 use borrow.Author.Needs.{needs}
 use borrow.Author.Tests.{not-true, not-false}
-use native.Mathlib.Omega.{arith}
 use mathlib.Core.Path.{sym, _∙_}
 use Rattle.hextext.proofs.Steps.{stored-made, stored-past, stored-none}
 use Rattle.hextext.proofs.store.Statement.{statement}

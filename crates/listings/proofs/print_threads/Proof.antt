@@ -1,6 +1,6 @@
 -- `listings::print_threads` meets its contract. The loop's invariant: what is still to be put gives the whole. Assumes nothing.
 use Prim.Native.Nat.{_≤_, _-_}
-use mathlib.Core.Path.{_≡_, refl, sym, _∙_, ap}
+use mathlib.Core.Path.{_≡_, sym, _∙_, ap}
 use borrow.Author.Needs.{needs}
 use Rattle.writing.specs.Buffer.{filled, puts}
 use Rattle.writing.proofs.Buffer.{puts-nil}

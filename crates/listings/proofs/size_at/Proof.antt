@@ -3,7 +3,6 @@ use Prim.Native.Nat.{ℕ}
 use mathlib.Core.Path.{sym}
 use borrow.Author.Needs.{needs}
 use lib.ListN.{List·getD-eq-default}
-use native.Mathlib.Omega.{arith}
 use Rattle.listings.proofs.size_at.Statement.{statement}
 use Rattle.listings.proofs.size_at.Tie as tie
 

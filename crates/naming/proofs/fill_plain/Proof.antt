@@ -1,10 +1,10 @@
 -- `naming::fill_plain` meets its contract. The loop's invariant: the bytes still to be stored give the whole table.
 -- Assumes nothing.
-use Prim.Native.Nat.{_≤_, _-_, _+_, _/_, _%_}
-use mathlib.Core.Path.{_≡_, refl, sym, _∙_, ap}
+use Prim.Native.Nat.{_≤_, _-_, _/_}
+use mathlib.Core.Path.{_≡_, sym, _∙_}
 use native.Mathlib.Omega.{arith}
 use borrow.Author.Needs.{needs}
-use lib.ListN.{length, drop, getD}
+use lib.ListN.{drop}
 use lib.Seq.{sets}
 use Rattle.naming.specs.Naming.{plainTable, plainly}
 use Rattle.naming.proofs.Naming.{plain-start, plain-step, plain-end, plainNumber-≤}

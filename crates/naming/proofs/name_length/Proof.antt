@@ -1,8 +1,7 @@
 -- `naming::name_length` meets its contract. The loop's invariant: the bytes passed and the rest of the name are the whole.
 -- Assumes nothing.
 use Prim.Native.Nat.{_≤_, _-_, _+_, _*_}
-use mathlib.Core.Path.{_≡_, refl, sym, _∙_, ap}
-use native.Mathlib.Omega.{arith}
+use mathlib.Core.Path.{_≡_, sym, ap}
 use borrow.Author.Needs.{needs}
 use lib.ListN.{length}
 use Rattle.naming.specs.Naming.{nameFrom, nameOf}

@@ -1,9 +1,6 @@
 -- `naming::put_plain` meets its contract. Assumes nothing.
 use borrow.Author.Needs.{needs}
 use mathlib.Core.Path.{sym}
-use mathlib.Core.List.{_∷_}
-use Rattle.writing.specs.Numbers.{decimal}
-use Rattle.writing.specs.Buffer.{filled, puts}
 use Rattle.naming.specs.Naming.{plainName}
 use Rattle.naming.proofs.put_plain.Statement.{statement}
 use Rattle.naming.proofs.put_plain.Tie as tie

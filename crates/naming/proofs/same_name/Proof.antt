@@ -4,7 +4,7 @@ use Prim.Native.Nat.{_≤_, _<_, _-_}
 use mathlib.Core.Path.{_≡_, refl, sym, _∙_, ap}
 use native.Mathlib.Omega.{arith}
 use borrow.Author.Needs.{needs}
-use lib.ListN.{length, drop, drop-of-length-le}
+use lib.ListN.{length, drop}
 use Rattle.naming.specs.Naming.{nameOf, sameText}
 use Rattle.naming.proofs.Naming.{nameOf-past, length-nameOf, getD-nameOf}
 use Rattle.naming.proofs.Naming.{sameText-length, sameText-step, sameText-differ, sameText-rest}

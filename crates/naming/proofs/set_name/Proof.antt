@@ -1,10 +1,10 @@
 -- `naming::set_name` meets its contract. The loop's invariant: the bytes still to be stored give the whole row.
 -- Assumes nothing.
 use Prim.Native.Nat.{_≤_, _-_, _+_, _*_}
-use mathlib.Core.Path.{_≡_, refl, sym, _∙_, ap}
+use mathlib.Core.Path.{_≡_, sym, _∙_}
 use native.Mathlib.Omega.{arith}
 use borrow.Author.Needs.{needs}
-use lib.ListN.{length, drop, take}
+use lib.ListN.{drop, take}
 use lib.Seq.{sets}
 use Rattle.naming.specs.Naming.{padded, renamed}
 use Rattle.naming.proofs.Naming.{renamed-past, row-start, sets-step, row-done, length-padded}

@@ -1,5 +1,4 @@
 -- `naming::within` meets its contract. Assumes nothing.
-use borrow.Author.Needs.{needs}
 use mathlib.Core.Path.{sym}
 use Rattle.naming.proofs.Naming.{within-less, within-all}
 use Rattle.naming.proofs.within.Statement.{statement}

@@ -1,8 +1,7 @@
 -- `reasons::next_line` meets its contract. The loop's invariant: what stands behind the line is the same from here on. Assumes
 -- nothing.
 use Prim.Native.Nat.{_-_}
-use mathlib.Core.Path.{_≡_, refl, sym, _∙_}
-use native.Mathlib.Omega.{arith}
+use mathlib.Core.Path.{_≡_, refl, _∙_}
 use borrow.Author.Needs.{needs}
 use lib.ListN.{length, drop}
 use Rattle.reasons.specs.Reasons.{otherLines}

@@ -1,7 +1,6 @@
 -- `reasons::put_rest` meets its contract. The loop's invariant: what is left of the line gives the whole. Assumes nothing.
 use Prim.Native.Nat.{_-_}
 use mathlib.Core.Path.{_≡_, refl, sym, ap, _∙_}
-use native.Mathlib.Omega.{arith}
 use borrow.Author.Needs.{needs}
 use lib.ListN.{length, drop}
 use Rattle.writing.specs.Buffer.{filled, puts}

@@ -1,6 +1,6 @@
 -- `stimulus::entry_of` meets its contract, row by row. Assumes nothing.
 use borrow.Author.Needs.{needs}
-use mathlib.Core.Path.{sym, ap, _∙_}
+use mathlib.Core.Path.{ap, _∙_}
 use Rattle.stimulus.specs.Lines.{fitted}
 use Rattle.stimulus.proofs.Lines.{entry-x, entry-hex, entry-decimal}
 use Rattle.stimulus.proofs.entry_of.Statement.{statement}

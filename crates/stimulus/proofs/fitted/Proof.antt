@@ -1,7 +1,6 @@
 -- `stimulus::fitted` meets its contract, row by row. Assumes nothing.
 use borrow.Author.Needs.{needs}
 use borrow.Author.Tests.{not-true, not-false}
-use native.Mathlib.Omega.{arith}
 use mathlib.Core.Path.{sym, _∙_}
 use Rattle.stimulus.proofs.Lines.{fitted-bad, fitted-long, fitted-wide, fitted-is}
 use Rattle.stimulus.proofs.fitted.Statement.{statement}

@@ -1,5 +1,4 @@
 -- `tabulate::column_width` meets its contract. Assumes nothing.
-use mathlib.Core.Path.{sym, _∙_}
 use Rattle.tabulate.specs.Tabulate.{columnWidth}
 use borrow.Author.Needs.{needs}
 use Rattle.tabulate.proofs.column_width.Statement.{statement}

@@ -1,7 +1,7 @@
 -- `tabulate::digit_count` meets its contract. The loop's invariant: the digits counted and those of the rest are one more
 -- than the number's. Assumes nothing.
-use Prim.Native.Nat.{_≤_, _<_, _+_, _-_}
-use mathlib.Core.Path.{_≡_, refl, sym, _∙_, ap}
+use Prim.Native.Nat.{_≤_, _+_, _-_}
+use mathlib.Core.Path.{_≡_}
 use native.Mathlib.Omega.{arith}
 use lib.ListN.{length}
 use Rattle.writing.specs.Numbers.{decimal}

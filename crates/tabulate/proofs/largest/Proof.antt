@@ -1,7 +1,6 @@
 -- `tabulate::largest` meets its contract. Assumes nothing.
-use mathlib.Core.Path.{_≡_, sym, _∙_, ap}
+use mathlib.Core.Path.{sym}
 use Prim.Native.Nat.{_-_}
-use native.Mathlib.Omega.{arith}
 use lib.Pow.{pow-pos}
 use Rattle.tabulate.proofs.Tabulate.{largest-less, largest-all, shifted}
 use borrow.Author.Needs.{needs}

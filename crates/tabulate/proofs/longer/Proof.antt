@@ -1,7 +1,6 @@
 -- `tabulate::longer` meets its contract. Assumes nothing.
 use mathlib.Core.Path.{sym}
 use Rattle.tabulate.proofs.Tabulate.{longer-second, longer-first}
-use borrow.Author.Needs.{needs}
 use Rattle.tabulate.proofs.longer.Statement.{statement}
 use Rattle.tabulate.proofs.longer.Tie as tie
 

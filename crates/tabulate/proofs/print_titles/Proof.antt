@@ -1,10 +1,10 @@
 -- `tabulate::print_titles` meets its contract. The loop's invariant: what is still to be put gives the whole.
 -- Assumes nothing.
-use Prim.Native.Nat.{_≤_, _<_, _+_, _-_}
-use mathlib.Core.Path.{_≡_, refl, sym, _∙_, ap}
+use Prim.Native.Nat.{_≤_, _+_, _-_}
+use mathlib.Core.Path.{_≡_, sym, _∙_, ap}
 use native.Mathlib.Omega.{arith}
 use Rattle.writing.specs.Buffer.{filled, puts}
-use Rattle.naming.specs.Naming.{texts, within}
+use Rattle.naming.specs.Naming.{texts}
 use Rattle.naming.proofs.Naming.{texts-next, texts-done, within-80}
 use Rattle.tabulate.specs.Tabulate.{title, titles}
 use borrow.Author.Needs.{needs}

@@ -1,11 +1,11 @@
 -- `tabulate::print_values` meets its contract. The loop's invariant: what is still to be put gives the whole.
 -- Assumes nothing.
-use Prim.Native.Nat.{_≤_, _<_, _+_, _-_}
-use mathlib.Core.Path.{_≡_, refl, sym, _∙_, ap}
+use Prim.Native.Nat.{_≤_, _+_, _-_}
+use mathlib.Core.Path.{_≡_, sym, _∙_, ap}
 use native.Mathlib.Omega.{arith}
 use Rattle.values.specs.Planes.{valueAt}
 use Rattle.writing.specs.Buffer.{filled, puts}
-use Rattle.naming.specs.Naming.{texts, within}
+use Rattle.naming.specs.Naming.{texts}
 use Rattle.naming.proofs.Naming.{texts-next, texts-done, within-80}
 use Rattle.tabulate.specs.Tabulate.{cell, columnWidth, shown, entry, entries}
 use borrow.Author.Needs.{needs}

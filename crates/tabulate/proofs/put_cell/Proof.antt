@@ -1,5 +1,5 @@
 -- `tabulate::put_cell` meets its contract. Assumes nothing.
-use mathlib.Core.Path.{_≡_, sym, _∙_, ap}
+use mathlib.Core.Path.{sym, _∙_, ap}
 use Prim.Native.Nat.{_-_}
 use Rattle.writing.specs.Ascii.{ascii}
 use Rattle.writing.proofs.Buffer.{both}

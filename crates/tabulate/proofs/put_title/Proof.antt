@@ -1,10 +1,8 @@
 -- `tabulate::put_title` meets its contract. Assumes nothing.
-use mathlib.Core.Path.{_≡_, sym, _∙_, ap}
+use mathlib.Core.Path.{sym, _∙_, ap}
 use Prim.Native.Nat.{_-_}
-use lib.ListN.{length}
 use Rattle.writing.specs.Ascii.{ascii}
 use Rattle.writing.proofs.Buffer.{both}
-use Rattle.naming.specs.Naming.{nameOf}
 use Rattle.tabulate.specs.Tabulate.{aligned, cell, title, columnWidth}
 use borrow.Author.Needs.{needs}
 use Rattle.tabulate.proofs.put_title.Statement.{statement}

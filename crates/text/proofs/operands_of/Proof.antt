@@ -1,7 +1,6 @@
 -- `text::operands_of` meets its contract. Assumes nothing.
 use borrow.Author.Tests.{ne-eqb}
 use Rattle.text.specs.Printing.{operandsOf}
-use borrow.Author.Needs.{needs}
 use Rattle.text.proofs.operands_of.Statement.{statement}
 use Rattle.text.proofs.operands_of.Tie as tie
 

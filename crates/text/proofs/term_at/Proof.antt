@@ -3,7 +3,6 @@ use mathlib.Core.Path.{sym}
 use Rattle.pseudocode.specs.Instruction.{noTerm}
 use Rattle.text.specs.Printing.{allTerms}
 use Rattle.text.proofs.Printing.{term-none}
-use borrow.Author.Needs.{needs}
 use Rattle.text.proofs.term_at.Statement.{statement}
 use Rattle.text.proofs.term_at.Tie as tie
 

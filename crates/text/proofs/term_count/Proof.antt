@@ -1,6 +1,5 @@
 -- `text::term_count` meets its contract. Assumes nothing.
 use Rattle.text.proofs.Printing.{count-terms, count-eight}
-use borrow.Author.Needs.{needs}
 use Rattle.text.proofs.term_count.Statement.{statement}
 use Rattle.text.proofs.term_count.Tie as tie
 

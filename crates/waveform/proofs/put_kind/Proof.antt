@@ -1,7 +1,5 @@
 -- `waveform::put_kind` meets its contract. Assumes nothing.
-use mathlib.Core.Path.{_∙_, sym, ap}
 use Rattle.writing.specs.Ascii.{ascii}
-use Rattle.writing.specs.Buffer.{filled, puts}
 use Rattle.waveform.proofs.Waveform.{kind-input, kind-register, kind-wire}
 use borrow.Author.Needs.{needs}
 use Rattle.waveform.proofs.put_kind.Statement.{statement}

@@ -1,6 +1,5 @@
 -- `sheet::stmt::narrow` meets its contract, edge by edge. Assumes nothing.
 use borrow.Author.Needs.{needs}
-use mathlib.Core.Path.{sym, ap, _∙_}
 use Rattle.sheet.specs.Statement.{narrow}
 use Rattle.sheet.proofs.stmt.narrow.Statement.{statement}
 use Rattle.sheet.proofs.stmt.narrow.Tie as tie

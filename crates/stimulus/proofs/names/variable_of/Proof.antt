@@ -2,8 +2,8 @@
 use borrow.Author.Needs.{needs}
 use borrow.Author.Tests.{not-true, not-false}
 use native.Mathlib.Omega.{arith}
-use mathlib.Core.Path.{_≡_, sym, ap, _∙_}
-use Prim.Native.Nat.{ℕ, _+_}
+use mathlib.Core.Path.{_≡_, sym, _∙_}
+use Prim.Native.Nat.{_+_}
 use Rattle.stimulus.proofs.Naming.{below-same, variable-short, variable-bad, variable-input, variable-register, variable-wire, variable-none}
 use Rattle.stimulus.proofs.names.variable_of.Statement.{statement}
 use Rattle.stimulus.proofs.names.variable_of.Tie as tie

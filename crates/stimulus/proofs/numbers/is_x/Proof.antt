@@ -1,6 +1,5 @@
 -- `stimulus::numbers::is_x` meets its contract. Assumes nothing.
 use borrow.Author.Needs.{needs}
-use native.Mathlib.Omega.{arith}
 use mathlib.Core.Path.{ap, _∙_}
 use Rattle.stimulus.specs.Numbers.{isLetterX}
 use Rattle.stimulus.proofs.Digits.{x-one, x-other}
