@@ -1,8 +1,9 @@
--- `netlist::nodes::is_operator` meets its contract, by the kind of node. Assumes nothing.
-use Rattle.netlist.specs.Cells.{nodeOf, isOperator}
+-- `netlist::words::is_operator` meets its contract, by the kind of node. Assumes nothing.
+use Rattle.nodes.specs.Cells.{nodeOf}
+use Rattle.netlist.specs.Cells.{isOperator}
 use borrow.Author.Needs.{needs}
-use Rattle.netlist.proofs.nodes.is_operator.Statement.{statement}
-use Rattle.netlist.proofs.nodes.is_operator.Tie as tie
+use Rattle.netlist.proofs.words.is_operator.Statement.{statement}
+use Rattle.netlist.proofs.words.is_operator.Tie as tie
 
 returns : tie.Need-returns
 unfolding isOperator nodeOf
