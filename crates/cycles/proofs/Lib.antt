@@ -1,16 +1,4 @@
-pub mod Cells
-pub mod Planes
-pub mod Passes
-pub mod Places
-pub mod Turns
-pub mod Settling
-pub mod Working
-pub mod Rows
-pub mod Taking
-pub mod Handing
-pub mod Clocking
-pub mod Keeping
-pub mod Reaching
+pub mod Firsts
 pub mod Rounds
 pub mod Judging
 pub mod Sheets

@@ -7,7 +7,6 @@ use native.Mathlib.Omega.{arith}
 use borrow.Author.Tests.{eq-eqb, ne-eqb}
 use lib.ListN.{length, getD, length-append, List·getD-append, List·getD-eq-default}
 use lib.Dec.{eqb}
-use Rattle.values.specs.declared.Value.{Value}
 use Rattle.values.specs.declared.Value.the-variants.{Known, Unknown}
 use Rattle.values.specs.Values.{pick, fits}
 use Rattle.values.specs.Planes.{valueAt}
@@ -21,17 +20,19 @@ use Rattle.events.specs.declared.Inputs.{Inputs}
 use Rattle.events.specs.Cycle.{allBelow}
 use Rattle.events.specs.Calls.{widthOf, inputOf}
 use Rattle.events.proofs.Cycle.{all-same}
+use Rattle.tables.specs.Readers.{atMost}
+use Rattle.tables.proofs.Readers.{atMost-same}
 use Rattle.engine.specs.declared.Shape.{Shape}
 use Rattle.nextstate.specs.declared.Registers.{Registers}
 use Rattle.nextstate.specs.declared.Clocked.{Clocked}
 use Rattle.nextstate.specs.CycleRun.{tablesIn, registersFit, upperInputsFit, refused, clockedIn}
 use Rattle.cycles.specs.declared.Cycled.{Cycled}
-use Rattle.cycles.specs.Context.{Context, TablesJudged, RegistersJudged}
-use Rattle.cycles.specs.Running.{Planes, putAt, putAll, Stand, course, Step, stepAt, answerAt}
-use Rattle.cycles.specs.Rounds.{itemAt, itemsFit, Reached, lastAt}
+use Rattle.checking.specs.Context.{Context, TablesJudged, RegistersJudged}
+use Rattle.clocking.specs.Running.{Planes, putAt, putAll, Stand, course, Step, stepAt, answerAt, Reached}
+use Rattle.cycles.specs.Rounds.{itemAt, itemsFit, lastAt}
 use Rattle.cycles.specs.Many.{itemsFrom, inputsFrom, rowInputs, registersOf, ended, cyclesFrom, cyclesOf, cyclesIn, RowsAnswer, ManyAnswers}
-use Rattle.cycles.proofs.Settling.{Long}
-use Rattle.cycles.proofs.Handing.{blank, blank-long}
+use Rattle.clocking.proofs.Settling.{Long}
+use Rattle.clocking.proofs.Handing.{blank, blank-long}
 use Rattle.cycles.proofs.Rounds.{Held, held-first, row-more}
 
 -- ---- the items of a row
@@ -238,8 +239,8 @@ module _ (s ws starts code lengths firsts written : List ℕ) (all : List Bool) 
 
         going-on :
             itemsFit ws (shape .inputs) value unknown (16 * r + 1) ≡ true → (count : ℕ) → Reached rs count → (u : Step) →
-            u ≡ stepAt (course s code rs firsts written (shape .inputs) (shape .registers)) ws starts ns sizes (shape .wires) (shape .threads)
-            count d
+            u ≡ stepAt (course s code rs firsts written (shape .inputs) (shape .registers)) ws starts ns sizes (shape .wires)
+            (atMost 8 (shape .threads)) count d
             (record { planes = putAll 80 1 (itemAt value unknown (16 * r + 1)) (shape .inputs - 1) (b .planes); places = b .places }) →
             Going (r + 1) (u .nodes) (u .stand)
         unfolding lastAt
@@ -251,7 +252,7 @@ module _ (s ws starts code lengths firsts written : List ℕ) (all : List Bool) 
             (lastOf r b) (b .planes) (y .held) (itemAt value unknown (16 * r + 1)) (rowInputs (m .scope .inputs) value unknown r)
             (λ v o. item-input (m .scope .inputs) value unknown r v (omega (arith, c .sound .inputs-most)))
             (items-fit (c .sound) value unknown r ∙ rw (c .widths, ← c .inputs) t) d (y .nodes) count reached (b .places) (y .places) u
-            (rw (c .inputs, c .registers, c .wires, c .threads, ← c .widths) at e) in
+            (rw (c .inputs, c .registers, c .wires, c .threads, atMost-same 8 (length (m .threads)) (c .sound .threads-most), ← c .widths) at e) in
             let same = last-more m c (u .stand) in
             let next : lastOf (r + 1) (u .stand) ≡ call m (registersOf (lastOf r b)) (inputs r) = same ∙ x .answer ∙ rw (c .inputs) in
             record {
@@ -273,7 +274,7 @@ module _ (s ws starts code lengths firsts written : List ℕ) (all : List Bool) 
         pub going-row :
             itemsFit ws (shape .inputs) value unknown (16 * r + 1) ≡ true → (count : ℕ) → Reached rs count → (p : Planes) →
             p ≡ putAll 80 1 (itemAt value unknown (16 * r + 1)) (shape .inputs - 1) (b .planes) → (u : Step) →
-            u ≡ stepAt (course s code rs firsts written (shape .inputs) (shape .registers)) ws starts ns sizes (shape .wires) (shape .threads)
-            count d (record { planes = p; places = b .places }) →
+            u ≡ stepAt (course s code rs firsts written (shape .inputs) (shape .registers)) ws starts ns sizes (shape .wires)
+            (atMost 8 (shape .threads)) count d (record { planes = p; places = b .places }) →
             Going (r + 1) (u .nodes) (u .stand)
         going-row t count reached p f u e = going-on t count reached u (rw f at e)

@@ -2,20 +2,20 @@
 -- what the next cycle run gives. Assumes nothing.
 use mathlib.Core.Path.{_≡_, refl, sym, ap, _∙_}
 use mathlib.Core.Logic.{_≢_}
-use mathlib.Core.Bool.{Bool, true, false, _&&_}
+use mathlib.Core.Bool.{Bool, true, false}
 use mathlib.Core.List.{List, []}
 use Prim.Native.Nat.{ℕ, _+_, _-_, _≤_, _<_}
 use native.Mathlib.Decide.{ℕ-discrete, decLt}
 use native.Mathlib.Omega.{arith}
 use lib.Pow.{pow-lt}
-use borrow.Author.Tests.{eq-eqb, ne-eqb, lt-ltb, le-ltb, le-leb, lt-leb}
+use borrow.Author.Tests.{ne-eqb, lt-ltb, le-ltb, le-leb}
 use lib.ListN.{length, getD}
-use lib.Dec.{ltb, leb, eqb}
+use lib.Dec.{eqb}
 use Rattle.values.specs.declared.Value.{Value}
 use Rattle.values.specs.declared.Value.the-variants.{Known, Unknown}
 use Rattle.values.specs.Values.{pick, fits}
 use Rattle.values.specs.Planes.{valueAt}
-use Rattle.values.proofs.Values.{fits-known, fits-unknown}
+use Rattle.values.proofs.Values.{fits-known}
 use Rattle.sheet.specs.Expression.{Expr}
 use Rattle.sheet.specs.Statement.{isRegister}
 use Rattle.sheet.specs.Module.{Module}
@@ -25,7 +25,7 @@ use Rattle.soundness.specs.Soundness.{Fitting, Sound}
 use Rattle.events.specs.declared.Inputs.{Inputs}
 use Rattle.events.specs.Cycle.{variables, codeOf, instrAt, isWait, wireVariable, allBelow}
 use Rattle.events.specs.Calls.{widthOf, inputOf}
-use Rattle.events.proofs.Cycle.{absurd-bool, and-left, and-right, all-below, below-all, none-below}
+use Rattle.events.proofs.Cycle.{and-left, and-right, all-below, below-all, none-below}
 use Rattle.tables.specs.Holding.{Holding}
 use Rattle.threads.specs.Ruled.{Ruled}
 use Rattle.settling.proofs.Settle.{settle-other, settle-below, settle-agree, settle-fits}
@@ -34,17 +34,16 @@ use Rattle.nextstate.specs.declared.Clocked.{Clocked}
 use Rattle.nextstate.specs.Rules.{writes, someThread}
 use Rattle.nextstate.specs.Nodes.{nodeAt}
 use Rattle.nextstate.specs.Extraction.{Tables}
-use Rattle.nextstate.specs.Book.{Book, settle, settled, put}
-use Rattle.nextstate.specs.CycleRun.{nodesFit, widthsFrom, rowsFit, tablesFit, tablesIn, registersFit, upperInputsFit, handed, clocked, given, refused, clockedIn}
-use Rattle.cycles.specs.Checking.{rowsTo}
-use Rattle.cycles.specs.Running.{Planes, planes, valuesIn, putAt, putAll, settleAt, Stand, Course, course, keepRegisters, Step, stepAt, answerAt}
-use Rattle.cycles.specs.Rounds.{Reached}
+use Rattle.nextstate.specs.Book.{settle, settled, put}
+use Rattle.nextstate.specs.CycleRun.{nodesFit, widthsFrom, rowsFit, tablesFit, tablesIn, registersFit, upperInputsFit, handed, given, refused, clockedIn}
+use Rattle.nodes.specs.Rows.{rowsTo}
+use Rattle.clocking.specs.Running.{Planes, planes, valuesIn, putAt, putAll, settleAt, Stand, Course, course, keepRegisters, Step, stepAt, answerAt, Reached}
 use Rattle.cycles.specs.Many.{registersOf}
-use Rattle.cycles.proofs.Settling.{Long, put-long, values-put, all-long, settle-all}
-use Rattle.cycles.proofs.Taking.{writes-register}
-use Rattle.cycles.proofs.Handing.{AllPut, all-put, blank, blank-long, blank-values}
-use Rattle.cycles.proofs.Keeping.{keep-twice, AllKept, all-kept}
-use Rattle.cycles.proofs.Clocking.{stepped-same, nodes-long, last, end-other, end-fits, end-eight, end-waits}
+use Rattle.clocking.proofs.Settling.{Long, put-long, values-put, all-long, settle-all}
+use Rattle.clocking.proofs.Taking.{writes-register}
+use Rattle.clocking.proofs.Handing.{AllPut, all-put, blank, blank-long, blank-values}
+use Rattle.clocking.proofs.Keeping.{keep-twice, AllKept, all-kept}
+use Rattle.clocking.proofs.Clocking.{stepped-same, nodes-long, last, end-other, end-fits, end-eight, end-waits}
 
 -- ---- what is handed, by the kinds of variable
 

@@ -1,15 +1,12 @@
 -- What the code has at hand of a sheet that extraction accepts is a context of its module, and the public call by it.
 -- Assumes nothing.
 use mathlib.Core.Path.{_≡_, refl, sym, ap, _∙_}
-use mathlib.Core.Bool.{Bool, true, false, _&&_, _||_}
+use mathlib.Core.Bool.{Bool, false, _||_}
 use mathlib.Core.List.{List}
-use Prim.Native.Nat.{ℕ, zero, suc, _+_, _-_, _≤_, _<_}
+use Prim.Native.Nat.{ℕ, _+_, _-_, _≤_, _<_}
 use native.Mathlib.Omega.{arith}
 use borrow.Author.Tests.{eq-eqb, ne-eqb}
-use lib.ListN.{length, getD, set, take, drop, replicate, length-replicate, length-set}
-use lib.Seq.{getD-set-same, getD-set-other}
-use lib.Dec.{eqb}
-use Rattle.values.specs.Values.{pick}
+use lib.ListN.{length, getD, take, drop, replicate, length-replicate}
 use Rattle.sheet.specs.Reading.{Res, ok, no, _>>=_}
 use Rattle.sheet.specs.Expression.{Expr, located}
 use Rattle.sheet.specs.Module.{Module, Sheet, readSheet, read}
@@ -23,7 +20,7 @@ use Rattle.soundness.specs.Soundness.{Sound}
 use Rattle.soundness.proofs.Soundness.{sound}
 use Rattle.events.specs.declared.Inputs.{Inputs}
 use Rattle.events.specs.Cycle.{anyBelow}
-use Rattle.events.proofs.Cycle.{any-same, Below, at-end, before, below-suc}
+use Rattle.events.proofs.Cycle.{any-same}
 use Rattle.tables.specs.Readers.{atMost, readersBelow, watchedBelow}
 use Rattle.tables.specs.Holding.{Holding}
 use Rattle.tables.proofs.Readers.{atMost-same}
@@ -32,41 +29,22 @@ use Rattle.engine.specs.declared.Shape.{Shape}
 use Rattle.refinement.specs.Refinement.{PlanOf}
 use Rattle.rules.specs.Writers.{plainBelow, laterBelow}
 use Rattle.rules.proofs.Writing.{plain-law, later-law}
-use Rattle.extraction.specs.Extracting.{Answers}
+use Rattle.extraction.specs.Extracting.{numberIn}
+use Rattle.extraction.proofs.Extracting.{refused-some}
 use Rattle.simulator.specs.Filled.{shapeOf, widthsEnd, filled}
 use Rattle.simulator.proofs.Reading.{ReadAs, accepted, refused, read-as}
 use Rattle.simulator.proofs.Plan.{widths-inside, plan-of}
 use Rattle.nextstate.specs.declared.Registers.{Registers}
 use Rattle.nextstate.specs.declared.Clocked.{Clocked}
-use Rattle.nextstate.specs.Rules.{sets, defers, writes, someThread, rule}
+use Rattle.nextstate.specs.Rules.{writes, someThread, rule}
 use Rattle.nextstate.proofs.Numbers.{extracted-rule}
 use Rattle.threads.proofs.Ruled.{ruled}
 use Rattle.nextstate.specs.Extraction.{Tables, extracted, expressions, rightLengths}
 use Rattle.nextstate.specs.CycleRun as run
 use Rattle.nextstate.specs.CycleRun.{tablesIn, extractable, clockedOr, clockedIn, cycleRun}
-use Rattle.cycles.specs.Checking.{rowsTo, firstsTo}
-use Rattle.cycles.specs.Context.{Context, CycleAnswers, Numbered}
-
--- ---- the first row of each thread
-
-firsts-long : (s code sizes : List ℕ) (n : ℕ) (fs : List ℕ) → length (firstsTo s code sizes n fs) ≡ length fs
-unfolding firstsTo
-firsts-long s code sizes zero fs = refl
-firsts-long s code sizes (suc n) fs = length-set (firstsTo s code sizes n fs) n (rowsTo s code sizes n) ∙ firsts-long s code sizes n fs
-
-firsts-at :
-    (s code sizes fs : List ℕ) (n i : ℕ) → n ≤ length fs → i < n → getD (firstsTo s code sizes n fs) i 0 ≡ rowsTo s code sizes i
-unfolding firstsTo
-firsts-at s code sizes fs zero i l h = absurd (omega arith)
-firsts-at s code sizes fs (suc n) i l h = by (λ o. firsts-at s code sizes fs n i (omega arith) o) (below-suc n i h)
-  where
-    gs : List ℕ
-    gs = firstsTo s code sizes n fs
-
-    by : (i < n → getD gs i 0 ≡ rowsTo s code sizes i) → Below n i → getD (set gs n (rowsTo s code sizes n)) i 0 ≡ rowsTo s code sizes i
-    by r (at-end e) =
-        rw e (getD-set-same gs n (rowsTo s code sizes n) 0 (omega (arith, firsts-long s code sizes n fs)))
-    by r (before o) = getD-set-other gs n i (rowsTo s code sizes n) 0 (λ e. omega arith) ∙ r o
+use Rattle.checking.specs.Context.{Context}
+use Rattle.cycles.specs.Answers.{firstsTo}
+use Rattle.cycles.proofs.Firsts.{firsts-at}
 
 -- ---- the context of a sheet that was read
 
@@ -149,21 +127,25 @@ module _ (s : List ℕ) (x : Sheet ℕ) (m : Module Expr) (h : readSheet (locate
                 (λ i o. written-same i r o);
           }
 
--- ---- the number of a sheet
+-- ---- the number of a sheet, 1 to 21, or 0
 
-number-both : (x : Res (Module Expr)) (f : Module Expr → Res Tables) (n : ℕ) (ns rs : List ℕ) →
-    Answers (x >>= f) n ns rs → Numbered (x >>= (λ m. f m >>= (λ T. ok m))) n
-unfolding Answers Numbered
-number-both (no k p) f n ns rs a = a
-number-both (ok m) f n ns rs a = by (f m) a
+unfoldable pub Numbered : Res (Module Expr) → ℕ → Type 0
+Numbered (ok m) r = r ≡ 0
+Numbered (no n p) r = (r ≡ n) × (1 ≤ n)
+
+number-both : (x : Res (Module Expr)) (f : Module Expr → Res Tables) (n : ℕ) → n ≡ numberIn (x >>= f) →
+    ((k p : ℕ) → (x >>= f) ≡ no k p → 1 ≤ k) → Numbered (x >>= (λ m. f m >>= (λ T. ok m))) n
+unfolding numberIn Numbered
+number-both (no k p) f n a l = (a, l k p refl)
+number-both (ok m) f n a l = by (f m) a l
   where
-    by : (y : Res Tables) → Answers y n ns rs → Numbered (y >>= (λ T. ok m)) n
-    by (ok T) b = b .0
-    by (no k p) b = b
+    by : (y : Res Tables) → n ≡ numberIn y → ((k p : ℕ) → y ≡ no k p → 1 ≤ k) → Numbered (y >>= (λ T. ok m)) n
+    by (ok T) b o = b
+    by (no k p) b o = (b, o k p refl)
 
-pub number-same : (s : List ℕ) (n : ℕ) (ns rs : List ℕ) → Answers (expressions s) n ns rs → Numbered (extractable s) n
+pub number-same : (s : List ℕ) (n : ℕ) → n ≡ numberIn (expressions s) → Numbered (extractable s) n
 unfolding expressions extractable
-number-same s n ns rs a = number-both (read s) extracted n ns rs a
+number-same s n a = number-both (read s) extracted n a (λ k p h. refused-some s h)
 
 -- ---- a sheet that extraction accepts was read, and the module is its own
 
@@ -198,7 +180,7 @@ pub record Own (s : List ℕ) (r : SheetRead) : Type 0 where
   pub extractable : extractable s ≡ ok (trees s sheet .contents)
   pub unbroken : rule (trees s sheet .contents) ≡ 0
 
-module _ (s : List ℕ) (r : SheetRead) (e : r ≡ sheetAnswer (readSheet (located s) s)) (n : ℕ) (q : Numbered (extractable s) n) (z : n ≡ 0) where
+module _ (s : List ℕ) (r : SheetRead) (e : r ≡ sheetAnswer (readSheet (located s) s)) (n : ℕ) (q : n ≡ numberIn (expressions s)) (z : n ≡ 0) where
   pub own : Own s r
   unfolding extractable
   own = by (read-as s r e)
@@ -210,10 +192,10 @@ module _ (s : List ℕ) (r : SheetRead) (e : r ≡ sheetAnswer (readSheet (locat
             place = h;
             same = m;
             layout = l;
-            extractable = extracted-own (read s) extracted m n z q;
-            unbroken = extracted-unbroken (read s) m n z q;
+            extractable = extracted-own (read s) extracted m n z (number-same s n q);
+            unbroken = extracted-unbroken (read s) m n z (number-same s n q);
           }
-      by (refused k p h o b l) = absurd (refused-never (read s) extracted h b n z q)
+      by (refused k p h o b l) = absurd (refused-never (read s) extracted h b n z (number-same s n q))
 
   pub own-inside : widthsEnd (r .layout) ≤ length s
   own-inside = rw (own .layout) (widths-inside s (own .sheet) (own .place) .inside)
@@ -233,9 +215,9 @@ module _ (s ns rs : List ℕ) (g : Registers) (a : Inputs) (r : Clocked) where
   cycle-rows e d h = rw (eq-eqb (length ns) 16384 e, ne-eqb (length rs) 1056 d) h
 
   module _ (e : length ns ≡ 16384) (f : length rs ≡ 1056) where
-    pub cycle-refused : (n : ℕ) → Numbered (extractable s) n → (n ≡ 0 → ⊥) → r ≡ run.refused n g → r ≡ cycleRun s ns rs g a
+    pub cycle-refused : (n : ℕ) → n ≡ numberIn (expressions s) → (n ≡ 0 → ⊥) → r ≡ run.refused n g → r ≡ cycleRun s ns rs g a
     unfolding cycleRun rightLengths clockedOr Numbered
-    cycle-refused n q d h = rw (eq-eqb (length ns) 16384 e, eq-eqb (length rs) 1056 f) (by (extractable s) q)
+    cycle-refused n q d h = rw (eq-eqb (length ns) 16384 e, eq-eqb (length rs) 1056 f) (by (extractable s) (number-same s n q))
       where
         by : (x : Res (Module Expr)) → Numbered x n → r ≡ clockedOr x (tablesIn ns rs) g a
         by (ok m) b = absurd (d b)
@@ -264,13 +246,19 @@ module _ (s : List ℕ) (y : Layout) (end : ℕ) (ending : end ≡ widthsEnd y) 
         (context s x m h e plain later written all (rw (same-code, same-lengths, o) at same-plain)
         (rw (same-code, same-lengths, o) at same-later) joined (rw o at united) k shape (rw o at same-shape))
 
-    pub cycle-whole :
-        (ns rs : List ℕ) (g : Registers) (a : Inputs) (r : Clocked) → length ns ≡ 16384 → length rs ≡ 1056 →
-        (t : SheetRead) → t ≡ sheetAnswer (readSheet (located s) s) → y ≡ t .layout →
-        (n : ℕ) → Numbered (extractable s) n → n ≡ 0 →
-        CycleAnswers s (take (end - 4) (drop 4 s)) (y .starts) code lengths firsts written all shape ns rs g a r →
-        r ≡ cycleRun s ns rs g a
-    cycle-whole ns rs g a r e f t read-it w n q z h =
+    -- The module of a sheet that extraction accepts, and its context.
+    pub record Whole : Type 0 where
+      pub contents : Module Expr
+      pub extractable : extractable s ≡ ok contents
+      pub context : Context s contents (take (end - 4) (drop 4 s)) (y .starts) code lengths firsts written all shape
+
+    pub whole :
+        (t : SheetRead) → t ≡ sheetAnswer (readSheet (located s) s) → y ≡ t .layout → (n : ℕ) → n ≡ numberIn (expressions s) → n ≡ 0 → Whole
+    whole t read-it w n q z =
         let mine = own s t read-it n q z in
         let m = trees s (mine .sheet) .contents in
-        cycle-accepted s ns rs g a r e f m (mine .extractable) (h m (at-hand (mine .sheet) m (mine .place) (mine .same) (mine .unbroken) (w ∙ mine .layout)))
+        record {
+          contents = m;
+          extractable = mine .extractable;
+          context = at-hand (mine .sheet) m (mine .place) (mine .same) (mine .unbroken) (w ∙ mine .layout);
+        }

@@ -1,6 +1,3 @@
-pub mod Cells
-pub mod Checking
-pub mod Running
-pub mod Context
+pub mod Answers
 pub mod Rounds
 pub mod Many

@@ -18,7 +18,7 @@ use Rattle.nextstate.specs.declared.Clocked.{Clocked}
 use Rattle.nextstate.specs.Extraction.{Tables, rightLengths}
 use Rattle.nextstate.specs.CycleRun.{tablesFit, tablesIn, registersFit, refused, clockedIn, extractable, cycleRun}
 use Rattle.cycles.specs.declared.Cycled.{Cycled}
-use Rattle.cycles.specs.Context.{Context, TablesJudged}
+use Rattle.checking.specs.Context.{Context, TablesJudged}
 
 -- ---- rows of 16: item 0, the clock's, isn't looked at, item v + 1 is input item v of the cycle run
 

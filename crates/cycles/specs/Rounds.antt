@@ -1,7 +1,7 @@
 -- Rows of inputs one after the other, on planes that stay from row to row. proofs/Rounds says that on a sheet that was accepted and
 -- tables that fit this is cycle run after cycle run.
-use Prim.Native.Nat.{ℕ, _+_, _-_, _≤_, _<_}
-use mathlib.Core.Bool.{Bool, true, false}
+use Prim.Native.Nat.{ℕ, _+_, _-_}
+use mathlib.Core.Bool.{Bool, false}
 use mathlib.Core.List.{List}
 use lib.ListN.{getD}
 use lib.Dec.{eqb}
@@ -13,7 +13,7 @@ use Rattle.engine.specs.declared.Shape.{Shape}
 use Rattle.nextstate.specs.declared.Registers.{Registers}
 use Rattle.nextstate.specs.declared.Clocked.{Clocked}
 use Rattle.nextstate.specs.CycleRun.{refused}
-use Rattle.cycles.specs.Running.{Stand, answerAt}
+use Rattle.clocking.specs.Running.{Stand, answerAt}
 
 -- ---- a row, whose input 1 stands at place i
 
@@ -24,12 +24,6 @@ itemAt ns xs i v = pick (getD xs (i + v) false) Unknown (Known (getD ns (i + v) 
 -- 25
 unfoldable pub itemsFit : List ℕ → ℕ → List ℕ → List Bool → ℕ → Bool
 itemsFit ws inputs ns xs i = allBelow (inputs - 1) (λ v. fits (getD ws (1 + v) 0) (itemAt ns xs i v))
-
--- ---- the nodes that are worked out: so many that every entry of the rows is one of them, or none of the 4,096
-
-pub record Reached (rs : List ℕ) (n : ℕ) : Type 0 where
-  pub most : n ≤ 4096
-  pub entry : (j : ℕ) → getD rs j 0 < 4096 → getD rs j 0 < n
 
 -- ---- what the last of r cycles gave
 

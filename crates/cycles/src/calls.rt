@@ -1,22 +1,22 @@
 // The cycle run on a sheet that was accepted and whose tables are filled: "24, 31, 25", and the cycle.
-use crate::checking::nodes_fit;
-use crate::checking::places_wait;
-use crate::checking::rows_fit;
-use crate::checking::values_fit;
-use crate::running::clock;
-use crate::running::upper;
+use checking::inputs_right;
+use checking::registers_right;
+use checking::tables_fit;
+use clocking::clock;
 use engine::Shape;
 use events::Inputs;
 use nextstate::Clocked;
 use nextstate::Registers;
+use nodes::size_of;
+use nodes::waits_to;
 ghost use mathlib.Core.Path.{_≡_};
 ghost use mathlib.Core.Bool.{false, _||_};
 ghost use Prim.Native.Nat.{ℕ, _≤_, _<_};
 ghost use lib.ListN.{getD};
 ghost use Rattle.masks.specs.Masks.{bits};
 ghost use Rattle.events.specs.Cycle.{anyBelow};
-ghost use Rattle.nextstate.specs.CycleRun.{refused, extractable};
-ghost use Rattle.cycles.specs.Context.{TablesJudged, RegistersJudged, inputsRight, CycleAnswers, Numbered};
+ghost use Rattle.nextstate.specs.CycleRun.{refused};
+ghost use Rattle.cycles.specs.Answers.{CycleAnswers, firstsTo};
 
 // A refusal hands back the registers and places that it got, and wires all x.
 pub fn refused(number: u8, before: Registers) -> Clocked
@@ -37,85 +37,6 @@ pub fn refused(number: u8, before: Registers) -> Clocked
     }
 }
 
-// 24: are the lent tables in order? Fills the nodes' widths.
-pub fn tables_fit(
-    sheet: &[u8],
-    widths: &[u8],
-    code: &[u16; 4096],
-    lengths: &[usize; 8],
-    firsts: &[u16; 8],
-    written: &[u32; 8],
-    shape: Shape,
-    nodes: &[u16],
-    rows: &[u16],
-    sizes: &mut [u8; 4096],
-) -> bool
-    requires { ⌜ shape .threads ≤ 8 ⌝ }
-    ensures { λ r. ⌜
-        TablesJudged (now (sheet .entry)) (now (widths .entry)) (now (code .entry)) (now (lengths .entry)) (now (firsts .entry))
-        (now (written .entry)) shape (now (nodes .entry)) (now (rows .entry)) (now (sizes .entry)) (now (sizes .exit)) r
-        ⌝ }
-{
-    if !nodes_fit(widths, nodes, sizes) {
-        return false;
-    }
-    let mut marks = [false; 4096];
-    rows_fit(
-        sheet,
-        code,
-        lengths,
-        widths,
-        sizes,
-        nodes,
-        rows,
-        shape.inputs,
-        shape.registers,
-        firsts,
-        written,
-        shape.threads,
-        &mut marks,
-    )
-}
-
-// 31: do the registers fit, and is each place a wait?
-pub fn registers_right(
-    sheet: &[u8],
-    widths: &[u8],
-    code: &[u16; 4096],
-    lengths: &[usize; 8],
-    shape: Shape,
-    before: Registers,
-) -> bool
-    ensures { λ r. ⌜
-        RegistersJudged (now (sheet .entry)) (now (widths .entry)) (now (code .entry)) (now (lengths .entry)) shape before r
-        ⌝ }
-{
-    if !values_fit(
-        widths,
-        shape.inputs,
-        &before.value,
-        &before.unknown,
-        shape.registers,
-    ) {
-        return false;
-    }
-    places_wait(sheet, code, lengths, &before.places, shape.threads)
-}
-
-// 25: are the inputs as many as the sheet's but for the clock, and does each fit its width?
-pub fn inputs_right(widths: &[u8], inputs: u8, given: Inputs) -> bool
-    ensures { λ r. ⌜ r ≡ inputsRight (now (widths .entry)) inputs given ⌝ }
-{
-    if inputs == 0 {
-        return false;
-    }
-    let n = upper(inputs);
-    if given.count != n {
-        return false;
-    }
-    values_fit(widths, 1, &given.value, &given.unknown, n)
-}
-
 // The cycle run, from 24 on.
 pub fn cycle_filled(
     sheet: &[u8],
@@ -132,7 +53,6 @@ pub fn cycle_filled(
     before: Registers,
     given: Inputs,
 ) -> Clocked
-    requires { ⌜ shape .threads ≤ 8 ⌝ }
     ensures { λ r. ⌜
         CycleAnswers (now (sheet .entry)) (now (widths .entry)) (now (starts .entry)) (now (code .entry)) (now (lengths .entry))
         (now (firsts .entry)) (now (written .entry)) (bits all) shape (now (nodes .entry)) (now (rows .entry)) before given r
@@ -208,11 +128,25 @@ pub fn union_of(written: &[u32; 8], threads: u8) -> u32
     all
 }
 
-// The number of a sheet that extraction refuses, 1 to 21, else 0.
-pub fn sheet_number(sheet: &[u8]) -> u8
-    ensures { λ r. ⌜ Numbered (extractable (now (sheet .entry))) r ⌝ }
+// Fills in the first row of each thread.
+pub fn fill_firsts(
+    sheet: &[u8],
+    code: &[u16; 4096],
+    sizes: &[usize; 8],
+    threads: u8,
+    firsts: &mut [u16; 8],
+)
+    requires { ⌜ threads ≤ 8 ⌝ }
+    ensures { λ _. ⌜
+        now (firsts .exit) ≡ firstsTo (now (sheet .entry)) (now (code .entry)) (now (sizes .entry)) threads (now (firsts .entry))
+        ⌝ }
 {
-    let mut nodes = [0u16; 16384];
-    let mut rows = [0u16; 1056];
-    extraction::expressions(sheet, &mut nodes, &mut rows)
+    let mut row: u16 = 0;
+    let mut n: u8 = 0;
+    while n < threads {
+        let i = n as usize;
+        firsts[i] = row;
+        row += waits_to(sheet, code, i, size_of(sizes, i));
+        n += 1;
+    }
 }

@@ -1,17 +1,13 @@
 // The cycle run (document 01, "Extraction and the cycle run"): lent tables are judged (number 24), and clock cycles are worked
 // out by them.
 mod calls;
-mod checking;
 mod many;
-mod nodes;
-mod running;
 
 use calls::cycle_filled;
+use calls::fill_firsts;
 use calls::joined;
 use calls::refused;
-use calls::sheet_number;
 use calls::union_of;
-use checking::fill_firsts;
 use events::Inputs;
 use many::ended;
 use many::run_filled;
@@ -22,17 +18,6 @@ use simulator::planning::widths_end;
 ghost use mathlib.Core.Path.{_≡_};
 ghost use Rattle.nextstate.specs.CycleRun.{cycleRun};
 ghost use Rattle.cycles.specs.Many.{cyclesRun};
-
-// A node by its kind.
-pub enum Cell {
-    Variable(u16),
-    Constant { width: u16, number: u32 },
-    Blank(u16),
-    Unary { op: u8, a: u16 },
-    Binary { op: u8, a: u16, b: u16 },
-    Conditional { c: u16, a: u16, b: u16 },
-    Branch { c: u16, a: u16, b: u16 },
-}
 
 // What `run` gives: how many cycles were accepted, the number that refused the next, 0 where none was; registers and places as the
 // last accepted cycle left them, and the wires' values after it.
@@ -62,7 +47,7 @@ pub fn cycle(
     if rows.len() != 1056 {
         return refused(23, before);
     }
-    let number = sheet_number(sheet);
+    let number = extraction::number(sheet);
     if number != 0 {
         return refused(number, before);
     }
@@ -125,7 +110,7 @@ pub fn run(
     if rows.len() != 1056 {
         return ended(0, 23, refused(23, before));
     }
-    let number = sheet_number(sheet);
+    let number = extraction::number(sheet);
     if number != 0 {
         return ended(0, number, refused(number, before));
     }

@@ -2,27 +2,28 @@
 // once.
 use crate::Cycled;
 use crate::calls::refused;
-use crate::calls::registers_right;
-use crate::calls::tables_fit;
-use crate::running::answer;
-use crate::running::place;
-use crate::running::put_all;
-use crate::running::put_value;
-use crate::running::step;
-use crate::running::upper;
+use checking::registers_right;
+use checking::tables_fit;
+use clocking::answer;
+use clocking::place;
+use clocking::put_all;
+use clocking::put_value;
+use clocking::reach;
+use clocking::step;
 use engine::Shape;
 use nextstate::Clocked;
 use nextstate::Registers;
+use nodes::upper;
 use sheet::byte_at;
 use values::Value;
 ghost use mathlib.Core.Path.{_≡_};
 ghost use mathlib.Core.Bool.{false};
-ghost use Prim.Native.Nat.{_+_, _-_, _≤_, _<_};
+ghost use Prim.Native.Nat.{_+_, _-_};
 ghost use lib.ListN.{getD};
 ghost use Rattle.masks.specs.Masks.{bits};
-ghost use Rattle.cycles.specs.Running.{planes, putAll, stand};
+ghost use Rattle.clocking.specs.Running.{planes, putAll, stand};
 ghost use Rattle.cycles.specs.Many.{ended, RowsAnswer, ManyAnswers};
-ghost use Rattle.cycles.specs.Rounds.{itemAt, itemsFit, Reached, lastAt};
+ghost use Rattle.cycles.specs.Rounds.{itemAt, itemsFit, lastAt};
 
 // The number `v` places after `at`; past the end 0.
 fn number_at(numbers: &[u32], at: usize, v: usize) -> u32
@@ -102,29 +103,6 @@ fn put_items(
     }
 }
 
-// How many nodes there are up to an entry, if it is one of the 4,096, and to `n`.
-fn further(n: u16, entry: u16) -> u16
-    ensures { λ r. ⌜ (n ≤ r) × (entry < 4096 → entry < r) × (n ≤ 4096 → r ≤ 4096) ⌝ }
-{
-    if 4096 <= entry {
-        return n;
-    }
-    if entry < n { n } else { entry + 1 }
-}
-
-// How many nodes the rows reach.
-fn reach(rows: &[u16]) -> u16
-    ensures { λ n. ⌜ Reached (now (rows .entry)) n ⌝ }
-{
-    let mut n: u16 = 1;
-    let mut j: usize = 0;
-    while j < rows.len() {
-        n = further(n, rows[j]);
-        j += 1;
-    }
-    n
-}
-
 // Where the cycles end: how many, the number that refused the next, and what the last one gave.
 pub fn ended(cycles: usize, number: u8, last: Clocked) -> Cycled
     ensures { λ r. ⌜ r ≡ ended cycles number last ⌝ }
@@ -198,7 +176,6 @@ fn run_rows(
     value: &[u32],
     unknown: &[bool],
 ) -> Cycled
-    requires { ⌜ shape .threads ≤ 8 ⌝ }
     ensures { λ r. ⌜
         RowsAnswer (now (sheet .entry)) (now (widths .entry)) (now (starts .entry)) (now (code .entry)) (now (lengths .entry))
         (now (firsts .entry)) (now (written .entry)) (bits all) shape (now (nodes .entry)) (now (rows .entry)) (now (sizes .entry))
@@ -292,7 +269,6 @@ pub fn run_filled(
     value: &[u32],
     unknown: &[bool],
 ) -> Cycled
-    requires { ⌜ shape .threads ≤ 8 ⌝ }
     ensures { λ r. ⌜
         ManyAnswers (now (sheet .entry)) (now (widths .entry)) (now (starts .entry)) (now (code .entry)) (now (lengths .entry))
         (now (firsts .entry)) (now (written .entry)) (bits all) shape (now (nodes .entry)) (now (rows .entry)) before

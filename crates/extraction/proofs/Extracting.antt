@@ -5,6 +5,7 @@ use mathlib.Core.Bool.{Bool, true, false}
 use mathlib.Core.List.{List}
 use Prim.Native.Nat.{ℕ, suc, _+_, _≤_, _<_}
 use native.Mathlib.Nat.{le-refl}
+use native.Mathlib.Decide.{ℕ-discrete}
 use native.Mathlib.Omega.{arith}
 use lib.ListN.{length, replicate, length-map, length-replicate}
 use borrow.Author.Tests.{ltb-false, eq-eqb, ne-eqb}
@@ -30,10 +31,11 @@ use Rattle.rules.proofs.Writing.{plain-law, later-law}
 use Rattle.rules.proofs.Rules.{rule-law}
 use Rattle.nextstate.specs.Rules.{twoWriters, bothWays, plainlyShared, otherWait, startsRunning, runsAway}
 use Rattle.nextstate.specs.Rules.{clockRead, readsUpward, manyWaits, waitsBelow, rule}
+use Rattle.nextstate.proofs.Numbers as numbers
 use Rattle.nextstate.specs.Extraction.{Tables, threadsBelow, extracted, expressions, Extracted, filled, rightLengths, extract}
 use Rattle.extraction.specs.declared.Extent.{Extent}
 use Rattle.extraction.specs.Filling.{Filling, filling, extent, variablesBelow, threadsBelowAt}
-use Rattle.extraction.specs.Extracting.{fillAt, Answers}
+use Rattle.extraction.specs.Extracting.{fillAt, Answers, numberIn}
 use Rattle.extraction.proofs.Placing.{fetched}
 use Rattle.extraction.proofs.Rows.{Fills, spilled, threads-filled}
 use Rattle.extraction.proofs.Rows as the-rows
@@ -222,6 +224,35 @@ module _ (s : List ℕ) (r : SheetRead) (given : r ≡ sheetAnswer (readSheet (l
       answer-spilled over =
           rw (it .read-as, eq-eqb (rule m) 0 keeps)
           (answer-spills e ns rs (fills s (replicate 4096 0) (it .sheet-read) m (it .located-as) (it .read-as) long keeps) filled-as over)
+
+-- ---- the number alone
+
+pub number-in : (o : Res Tables) (n : ℕ) (ns rs : List ℕ) → Answers o n ns rs → n ≡ numberIn o
+unfolding Answers numberIn
+number-in (ok T) n ns rs a = a .0
+number-in (no k p) n ns rs a = a .0
+
+-- A sheet that is refused has a number from 1 on.
+module _ (s ns rs : List ℕ) (nodes : length ns ≡ 16384) (rows : length rs ≡ 1056) {n p : ℕ} (h : expressions s ≡ no n p) where
+  zero-number : n ≡ 0 → extract s ns rs .number ≡ 0
+  unfolding extract rightLengths filled
+  zero-number z = rw (eq-eqb (length ns) 16384 nodes, eq-eqb (length rs) 1056 rows, h) z
+
+  never-zero : n ≡ 0 → ⊥
+  unfolding expressions
+  never-zero z =
+      let a = numbers.accepted s ns rs (zero-number z) in
+      let e : no n p ≡ ok (a .tables) = rw (a .reads, a .extracts) at (sym h) in
+      let o : _≡_ {A = ℕ} 0 1 = cc in omega arith
+
+pub refused-some : (s : List ℕ) {n p : ℕ} → expressions s ≡ no n p → 1 ≤ n
+refused-some s {n} h = by (ℕ-discrete n 0)
+  where
+    by : Dec (n ≡ 0) → 1 ≤ n
+    by (yes z) =
+        absurd
+        (never-zero s (replicate 16384 0) (replicate 1056 0) (length-replicate {A = ℕ} 16384 0) (length-replicate {A = ℕ} 1056 0) h z)
+    by (Prim.no z) = omega arith
 
 -- ---- the ways through `extract`
 

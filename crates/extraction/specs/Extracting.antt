@@ -25,3 +25,8 @@ fillAt s y code sizes l rs =
 unfoldable pub Answers : Res Tables → ℕ → List ℕ → List ℕ → Type 0
 Answers (ok T) r ns rs = (r ≡ 0) × (ns ≡ padded 16384 (allWords (T .nodes))) × (rs ≡ padded 1056 (T .rows))
 Answers (no n p) r ns rs = (r ≡ n) × (1 ≤ n)
+
+-- The number of a refusal, else 0.
+unfoldable pub numberIn : Res Tables → ℕ
+numberIn (ok T) = 0
+numberIn (no n p) = n

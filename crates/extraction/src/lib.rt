@@ -11,7 +11,7 @@ ghost use lib.ListN.{length, replicate};
 ghost use Rattle.tables.specs.Readers.{atMost};
 ghost use Rattle.nextstate.specs.Extraction.{expressions, extract};
 ghost use Rattle.extraction.specs.Filling.{filling};
-ghost use Rattle.extraction.specs.Extracting.{fillAt, Answers};
+ghost use Rattle.extraction.specs.Extracting.{fillAt, Answers, numberIn};
 
 // What an expression's nodes leave: the place after it, the number of its node, and how many nodes there are, 4,097 where there
 // is no room for more.
@@ -112,7 +112,7 @@ fn fill(
 }
 
 // The nodes and rows of a sheet, in tables that are all 0; 0, or the number of its refusal.
-pub fn expressions(sheet: &[u8], nodes: &mut [u16; 16384], rows: &mut [u16; 1056]) -> u8
+fn expressions(sheet: &[u8], nodes: &mut [u16; 16384], rows: &mut [u16; 1056]) -> u8
     requires { ⌜ (now nodes ≡ replicate 16384 0) × (now rows ≡ replicate 1056 0) ⌝ }
     ensures { λ r. ⌜ Answers (expressions (now (sheet .entry))) r (now (nodes .exit)) (now (rows .exit)) ⌝ }
 {
@@ -134,6 +134,15 @@ pub fn expressions(sheet: &[u8], nodes: &mut [u16; 16384], rows: &mut [u16; 1056
         return 21;
     }
     0
+}
+
+// The number that extraction refuses a sheet by, 1 to 21, else 0.
+pub fn number(sheet: &[u8]) -> u8
+    ensures { λ r. ⌜ r ≡ numberIn (expressions (now (sheet .entry))) ⌝ }
+{
+    let mut nodes = [0u16; 16384];
+    let mut rows = [0u16; 1056];
+    expressions(sheet, &mut nodes, &mut rows)
 }
 
 // Copies a node table.

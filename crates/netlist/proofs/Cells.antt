@@ -1,5 +1,5 @@
 -- Laws of one node of lent tables, by its kind and its number, and of the count of the nodes. Assumes nothing.
-use mathlib.Core.Path.{_≡_, refl, sym}
+use mathlib.Core.Path.{_≡_, refl}
 use mathlib.Core.Bool.{Bool, true, false}
 use mathlib.Core.List.{List}
 use Prim.Native.Nat.{ℕ, zero, suc, _+_, _*_, _-_, _≤_, _<_}
@@ -7,34 +7,10 @@ use native.Mathlib.Numerals.{sub-one}
 use native.Mathlib.Omega.{arith}
 use lib.ListN.{getD}
 use lib.Dec.{eqb}
-use borrow.Author.Tests.{le-leb, lt-leb, lt-ltb, le-ltb, eq-eqb, ne-eqb}
+use borrow.Author.Tests.{lt-ltb, le-ltb, eq-eqb, ne-eqb}
 use Rattle.values.specs.Values.{pick}
-use Rattle.nextstate.specs.Nodes.{Node, anUnknown, aUnary, aBinary, nodeFrom, nodeAt}
-use Rattle.netlist.specs.Cells.{operatorOf, nodeIn, blank, countBelow}
-
--- ---- operatorOf, nodeFrom: by the kind
-
-module _ (k a b : ℕ) where
-  pub operator-low : k < 11 → anUnknown 0 ≡ operatorOf k a b
-  unfolding operatorOf
-  operator-low h = rw (lt-leb 11 k h)
-
-  pub operator-high : 19 < k → anUnknown 0 ≡ operatorOf k a b
-  unfolding operatorOf
-  operator-high h = rw (le-leb 11 k (omega arith), lt-leb k 12 (omega arith), lt-leb k 19 h)
-
-  pub operator-unary : 11 ≤ k → k ≤ 12 → aUnary (k - 10) a ≡ operatorOf k a b
-  unfolding operatorOf
-  operator-unary h l = rw (le-leb 11 k h, le-leb k 12 l)
-
-  pub operator-binary : 12 < k → k ≤ 19 → aBinary (k - 10) a b ≡ operatorOf k a b
-  unfolding operatorOf
-  operator-binary h l = rw (le-leb 11 k (omega arith), lt-leb k 12 h, le-leb k 19 l)
-
-  pub from-operator :
-      (c : ℕ) → (k ≡ 0 → ⊥) → (k ≡ 1 → ⊥) → (k ≡ 2 → ⊥) → (k ≡ 20 → ⊥) → (k ≡ 40 → ⊥) → operatorOf k a b ≡ nodeFrom k a b c
-  unfolding operatorOf nodeFrom
-  from-operator c p q r s t = rw (ne-eqb k 0 p, ne-eqb k 1 q, ne-eqb k 2 r, ne-eqb k 20 s, ne-eqb k 40 t)
+use Rattle.nextstate.specs.Nodes.{anUnknown, nodeAt}
+use Rattle.netlist.specs.Cells.{nodeIn, blank, countBelow}
 
 module _ (ws : List ℕ) where
   -- ---- nodeIn

@@ -1,15 +1,14 @@
 -- What is printed of small tables, computed by the definitions.
 use mathlib.Core.Path.{_≡_, refl}
-use mathlib.Core.Bool.{Bool, true, false}
 use Prim.Native.Nat.{ℕ}
 use mathlib.Core.List.{List, [], _∷_, _++_}
-use lib.ListN.{getD, replicate, take}
-use Rattle.writing.specs.Ascii.{ascii, byte}
+use lib.ListN.{replicate, take}
+use Rattle.writing.specs.Ascii.{ascii}
 use Rattle.writing.specs.Numbers.{digits, decimal}
 use Rattle.naming.specs.Naming.{plainMark, plainNumber, plainName, plainByte, plainBytes, plainTable, nameFrom, nameOf}
 use Rattle.signs.specs.Signs.{sign, constantText, unknownText}
-use Rattle.nextstate.specs.Nodes.{Node, aVariable, aConstant, anUnknown, aUnary, aBinary, aConditional, aBranch, fourWords, nodeWords, allWords, nodeFrom, nodeAt}
-use Rattle.netlist.specs.Cells.{nodeIn, isOperator, blank, countBelow, nodeCount}
+use Rattle.nextstate.specs.Nodes.{Node, aVariable, aConstant, aUnary, aBinary, aConditional, aBranch, fourWords, nodeWords, allWords, nodeFrom, nodeAt}
+use Rattle.netlist.specs.Cells.{nodeIn, isOperator, blank, countBelow}
 use Rattle.netlist.specs.Uses.{operandsOf, oneMore, counted, allCounted, operandUses, entryUses, usesOf, named}
 use Rattle.netlist.specs.Infix.{nodeName, written, operandBelow, infixText, ownText, nodeLine, entryLine, placeLine}
 use Rattle.netlist.specs.Dot.{unblanked, label, edge, plainEdge, letteredEdge, arms, edges, dotNode}

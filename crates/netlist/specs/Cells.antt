@@ -1,29 +1,11 @@
 -- One node of lent tables, as the code reads it.
-use Prim.Native.Nat.{ℕ, zero, suc, _+_, _-_, _*_}
+use Prim.Native.Nat.{ℕ, zero, suc, _+_, _*_}
 use mathlib.Core.Bool.{Bool, true, false, _&&_}
 use mathlib.Core.List.{List}
 use lib.ListN.{getD}
-use lib.Dec.{ltb, leb, eqb}
+use lib.Dec.{ltb, eqb}
 use Rattle.values.specs.Values.{pick}
 use Rattle.nextstate.specs.Nodes.{Node, aVariable, aConstant, anUnknown, aUnary, aBinary, aConditional, aBranch, nodeAt}
-use Rattle.netlist.specs.declared.Cell.{Cell}
-use Rattle.netlist.specs.declared.Cell.the-variants.{Variable, Constant, Unknown, Unary, Binary, Conditional, Branch}
-
--- ---- the code's answer as a node
-
-unfoldable pub nodeOf : Cell → Node
-nodeOf (Variable v) = aVariable v
-nodeOf (Constant w n) = aConstant w n
-nodeOf (Unknown w) = anUnknown w
-nodeOf (Unary o a) = aUnary o a
-nodeOf (Binary o a b) = aBinary o a b
-nodeOf (Conditional c a b) = aConditional c a b
-nodeOf (Branch c a b) = aBranch c a b
-
--- The last clause of `nodeFrom`.
-unfoldable pub operatorOf : ℕ → ℕ → ℕ → Node
-operatorOf k a b =
-    pick (leb 11 k) (pick (leb k 12) (aUnary (k - 10) a) (pick (leb k 19) (aBinary (k - 10) a b) (anUnknown 0))) (anUnknown 0)
 
 -- ---- nodeIn: node n of the 4,096 in the lent words; past them an unknown constant of width 0, which no table may hold
 

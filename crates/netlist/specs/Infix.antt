@@ -1,7 +1,7 @@
 -- Nodes as text with infix operators. A node that is used once stands where it is used; one that is used more than once, and is no
 -- variable or constant, has a line of its own and stands elsewhere by its number: so no node is written out twice.
 use Prim.Native.Nat.{ℕ, zero, suc, _%_}
-use mathlib.Core.List.{List, [], _∷_, _++_}
+use mathlib.Core.List.{List, _∷_, _++_}
 use lib.Dec.{eqb}
 use Rattle.values.specs.Values.{pick}
 use Rattle.writing.specs.Ascii.{ascii, byte}

@@ -1,9 +1,9 @@
 // How often nodes are used. Each function equals its definition in specs/Uses, for words and counts of any contents.
-use crate::Cell;
-use crate::nodes::cell_at;
+use crate::words::cell_at;
+use nodes::Cell;
 ghost use mathlib.Core.Path.{_≡_};
 ghost use Prim.Native.Nat.{_≤_, min};
-ghost use Rattle.netlist.specs.Cells.{nodeOf};
+ghost use Rattle.nodes.specs.Cells.{nodeOf};
 ghost use Rattle.netlist.specs.Uses.{operandsOf, oneMore, counted, allCounted, operandUses, entryUses};
 
 // The lesser of two numbers.
@@ -40,7 +40,7 @@ fn count_operands(cell: Cell, uses: &mut [u8; 4096])
             width: _,
             number: _,
         } => {}
-        Cell::Unknown(_) => {}
+        Cell::Blank(_) => {}
         Cell::Unary { op: _, a } => count_use(a, uses),
         Cell::Binary { op: _, a, b } => {
             count_use(a, uses);

@@ -1,8 +1,8 @@
 // The lines of a Graphviz graph. Each function equals its definition in specs/Dot.
-use crate::Cell;
-use crate::nodes::narrow;
-use crate::nodes::wide;
+use crate::words::narrow;
+use crate::words::wide;
 use naming::put_name;
+use nodes::Cell;
 use signs::put_constant;
 use signs::put_unknown;
 use writing::put_byte;
@@ -11,7 +11,7 @@ use writing::put_word;
 ghost use mathlib.Core.Path.{_≡_};
 ghost use Rattle.writing.specs.Buffer.{filled, puts};
 ghost use Rattle.signs.specs.Signs.{sign};
-ghost use Rattle.netlist.specs.Cells.{nodeOf};
+ghost use Rattle.nodes.specs.Cells.{nodeOf};
 ghost use Rattle.netlist.specs.Dot.{unblanked, label, edge, plainEdge, letteredEdge, arms, edges};
 
 // An operator's sign without blanks.
@@ -40,7 +40,7 @@ pub fn print_label(names: &[u8; 2560], cell: Cell, text: &mut [u8; 65536], pos: 
     match cell {
         Cell::Variable(v) => put_name(names, wide(v), text, pos),
         Cell::Constant { width, number } => put_constant(narrow(width), number, text, pos),
-        Cell::Unknown(width) => put_unknown(narrow(width), text, pos),
+        Cell::Blank(width) => put_unknown(narrow(width), text, pos),
         Cell::Unary { op, a: _ } => print_sign(op, text, pos),
         Cell::Binary { op, a: _, b: _ } => print_sign(op, text, pos),
         Cell::Conditional { c: _, a: _, b: _ } => put_word(b"?:", text, pos),
@@ -93,7 +93,7 @@ pub fn print_edges(n: u16, cell: Cell, text: &mut [u8; 65536], pos: usize) -> us
             width: _,
             number: _,
         } => pos,
-        Cell::Unknown(_) => pos,
+        Cell::Blank(_) => pos,
         Cell::Unary { op: _, a } => print_plain(n, a, text, pos),
         Cell::Binary { op: _, a, b } => {
             let p = print_plain(n, a, text, pos);

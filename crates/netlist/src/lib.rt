@@ -3,8 +3,8 @@
 // new position are what putting the text at the old position gives.
 mod counting;
 mod dot;
-mod nodes;
 mod printing;
+mod words;
 
 use counting::count_entries;
 use counting::count_nodes;
@@ -12,10 +12,10 @@ use counting::lesser;
 use dot::print_edges;
 use dot::print_label;
 use naming::put_name;
-use nodes::cell_at;
-use nodes::is_operator;
 use printing::print_operand;
 use printing::print_own;
+use words::cell_at;
+use words::is_operator;
 use writing::put_byte;
 use writing::put_marked;
 use writing::put_word;
@@ -26,17 +26,6 @@ ghost use Rattle.netlist.specs.Cells.{blank, nodeCount};
 ghost use Rattle.netlist.specs.Uses.{usesOf, named};
 ghost use Rattle.netlist.specs.Infix.{infixText, nodeLine, entryLine, placeLine};
 ghost use Rattle.netlist.specs.Dot.{dotNode};
-
-// A node by its kind.
-pub enum Cell {
-    Variable(u16),
-    Constant { width: u16, number: u32 },
-    Unknown(u16),
-    Unary { op: u8, a: u16 },
-    Binary { op: u8, a: u16, b: u16 },
-    Conditional { c: u16, a: u16, b: u16 },
-    Branch { c: u16, a: u16, b: u16 },
-}
 
 // ---- counts
 

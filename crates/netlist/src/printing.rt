@@ -1,10 +1,10 @@
 // Nodes as text with infix operators. The functions call each other: an operand is printed out only where it is below its node.
-use crate::Cell;
 use crate::is_named;
-use crate::nodes::cell_at;
-use crate::nodes::narrow;
-use crate::nodes::wide;
+use crate::words::cell_at;
+use crate::words::narrow;
+use crate::words::wide;
 use naming::put_name;
+use nodes::Cell;
 use signs::put_constant;
 use signs::put_sign;
 use signs::put_unknown;
@@ -124,7 +124,7 @@ pub fn print_own(
     match cell {
         Cell::Variable(v) => put_name(names, wide(v), text, pos),
         Cell::Constant { width, number } => put_constant(narrow(width), number, text, pos),
-        Cell::Unknown(width) => put_unknown(narrow(width), text, pos),
+        Cell::Blank(width) => put_unknown(narrow(width), text, pos),
         Cell::Unary { op, a } => {
             let p = put_sign(op, text, pos);
             print_operand(nodes, uses, names, n, a, text, p)

@@ -1,11 +1,9 @@
 -- `cycles::cycle` meets its contract: each way through the code is a law of proofs/Sheets. Assumes nothing.
 use borrow.Author.Needs.{needs}
 use mathlib.Core.Path.{refl}
-use Prim.Native.Nat.{_≤_}
 use native.Mathlib.Omega.{arith}
-use Rattle.simulator.specs.Filled.{shapeOf}
 use Rattle.simulator.proofs.Plan.{widths-start}
-use Rattle.cycles.proofs.Sheets.{own-inside, own-threads, cycle-nodes, cycle-rows, cycle-refused, cycle-whole}
+use Rattle.cycles.proofs.Sheets.{own-inside, own-threads, whole, cycle-nodes, cycle-rows, cycle-refused, cycle-accepted}
 use Rattle.cycles.proofs.cycle.Statement.{statement}
 use Rattle.cycles.proofs.cycle.Tie as tie
 
@@ -21,10 +19,10 @@ returns-2 c =
 
 returns-3 : tie.Need-returns-3
 returns-3 c =
-    let the-sheet-number = c .before .before .sheet-number in
+    let the-number = c .before .before .number in
     let a = c .before .before .before .before .before .before .before .before .args in
-    cycle-refused (a .sheet .now) (a .nodes .now) (a .rows .now) (a .before) (a .inputs) _ (c .before .before .before .before .if1 .left) (c .before .before .before .if2 .left) (the-sheet-number .result)
-    (the-sheet-number .ensures) (c .before .if3 .taken) (c .refused3 .ensures)
+    cycle-refused (a .sheet .now) (a .nodes .now) (a .rows .now) (a .before) (a .inputs) _ (c .before .before .before .before .if1 .left) (c .before .before .before .if2 .left) (the-number .result)
+    (the-number .ensures) (c .before .if3 .taken) (c .refused3 .ensures)
 
 sub-widths : tie.Need-sub-widths
 sub-widths c = omega (arith, c .widths-end .ensures, widths-start (c .before .before .read .result .layout))
@@ -35,28 +33,20 @@ part-widths-start c = omega (arith, c .widths-end .ensures, widths-start (c .bef
 part-widths-end : tie.Need-part-widths-end
 part-widths-end c =
     let the-read = c .before .before .read in
-    let the-sheet-number = c .before .before .before .before .sheet-number in
-    omega (arith, c .widths-end .ensures, own-inside (c .before .before .before .before .before .before .before .before .before .before .args .sheet .now) (the-read .result) (the-read .ensures) (the-sheet-number .result) (the-sheet-number .ensures) (c .before .before .before .if3 .left))
+    let the-number = c .before .before .before .before .number in
+    omega (arith, c .widths-end .ensures, own-inside (c .before .before .before .before .before .before .before .before .before .before .args .sheet .now) (the-read .result) (the-read .ensures) (the-number .result) (the-number .ensures) (c .before .before .before .if3 .left))
 
 union-of-requires : tie.Need-union-of-requires
 union-of-requires c κs =
     let the-read = c .before .before .before .before .before .before .before .before .before .before .before .before .before .before .read in
-    let the-sheet-number = c .before .before .before .before .before .before .before .before .before .before .before .before .before .before .before .before .sheet-number in
-    own-threads (c .before .before .before .before .before .before .before .before .before .before .before .before .before .before .before .before .before .before .before .before .before .before .args .sheet .now) (the-read .result) (the-read .ensures) (the-sheet-number .result) (the-sheet-number .ensures) (c .before .before .before .before .before .before .before .before .before .before .before .before .before .before .before .if3 .left)
+    let the-number = c .before .before .before .before .before .before .before .before .before .before .before .before .before .before .before .before .number in
+    own-threads (c .before .before .before .before .before .before .before .before .before .before .before .before .before .before .before .before .before .before .before .before .before .before .args .sheet .now) (the-read .result) (the-read .ensures) (the-number .result) (the-number .ensures) (c .before .before .before .before .before .before .before .before .before .before .before .before .before .before .before .if3 .left)
 
 fill-firsts-requires : tie.Need-fill-firsts-requires
 fill-firsts-requires c κs =
     let the-read = c .before .before .before .before .before .before .before .before .before .before .before .before .before .before .before .before .before .before .read in
-    let the-sheet-number = c .before .before .before .before .before .before .before .before .before .before .before .before .before .before .before .before .before .before .before .before .sheet-number in
-    own-threads (c .before .before .before .before .before .before .before .before .before .before .before .before .before .before .before .before .before .before .before .before .before .before .before .before .before .before .args .sheet .now) (the-read .result) (the-read .ensures) (the-sheet-number .result) (the-sheet-number .ensures) (c .before .before .before .before .before .before .before .before .before .before .before .before .before .before .before .before .before .before .before .if3 .left)
-
-cycle-filled-requires : tie.Need-cycle-filled-requires
-unfolding shapeOf
-cycle-filled-requires c κs =
-    let the-read = c .before .before .before .before .before .before .before .before .before .before .before .before .before .before .before .before .before .before .before .before .before .before .before .before .before .before .read in
-    let the-sheet-number = c .before .before .before .before .before .before .before .before .before .before .before .before .before .before .before .before .before .before .before .before .before .before .before .before .before .before .before .before .sheet-number in
-    rw (c .before .before .before .before .before .before .shape-of .ensures)
-    (own-threads (c .before .before .before .before .before .before .before .before .before .before .before .before .before .before .before .before .before .before .before .before .before .before .before .before .before .before .before .before .before .before .before .before .before .before .args .sheet .now) (the-read .result) (the-read .ensures) (the-sheet-number .result) (the-sheet-number .ensures) (c .before .before .before .before .before .before .before .before .before .before .before .before .before .before .before .before .before .before .before .before .before .before .before .before .before .before .before .if3 .left))
+    let the-number = c .before .before .before .before .before .before .before .before .before .before .before .before .before .before .before .before .before .before .before .before .number in
+    own-threads (c .before .before .before .before .before .before .before .before .before .before .before .before .before .before .before .before .before .before .before .before .before .before .before .before .before .before .args .sheet .now) (the-read .result) (the-read .ensures) (the-number .result) (the-number .ensures) (c .before .before .before .before .before .before .before .before .before .before .before .before .before .before .before .before .before .before .before .if3 .left)
 
 returns-4 : tie.Need-returns-4
 returns-4 c =
@@ -66,12 +56,12 @@ returns-4 c =
     let the-joined = c .before .before .before .before .before .before .before .before .before .before .before .before .before .before .joined in
     let the-shape-of = c .before .before .before .before .before .before .before .shape-of in
     let the-writers = c .before .before .before .before .before .before .before .before .before .before .before .before .before .before .before .before .before .writers in
-    let the-sheet-number = c .before .before .before .before .before .before .before .before .before .before .before .before .before .before .before .before .before .before .before .before .before .before .before .before .before .before .before .before .before .sheet-number in
+    let the-number = c .before .before .before .before .before .before .before .before .before .before .before .before .before .before .before .before .before .before .before .before .before .before .before .before .before .before .before .before .before .number in
     let a = c .before .before .before .before .before .before .before .before .before .before .before .before .before .before .before .before .before .before .before .before .before .before .before .before .before .before .before .before .before .before .before .before .before .before .before .args in
-    cycle-whole (a .sheet .now) (the-read .result .layout) (the-widths-end .result) (the-widths-end .ensures) _ (the-compile .result) _ _ (the-joined .result) _ _
-    (the-shape-of .result) (the-compile .ensures .1) (the-compile .ensures .0) (the-writers .ensures .0) (the-writers .ensures .1) (the-joined .ensures) (c .before .before .before .before .before .before .before .before .before .before .before .before .union-of .ensures)
-    (c .before .before .before .before .before .before .before .before .fill-firsts .ensures) (the-shape-of .ensures) (a .nodes .now) (a .rows .now) (a .before) (a .inputs) _ (c .before .before .before .before .before .before .before .before .before .before .before .before .before .before .before .before .before .before .before .before .before .before .before .before .before .before .before .before .before .before .before .if1 .left) (c .before .before .before .before .before .before .before .before .before .before .before .before .before .before .before .before .before .before .before .before .before .before .before .before .before .before .before .before .before .before .if2 .left) (the-read .result)
-    (the-read .ensures) refl (the-sheet-number .result) (the-sheet-number .ensures) (c .before .before .before .before .before .before .before .before .before .before .before .before .before .before .before .before .before .before .before .before .before .before .before .before .before .before .before .before .if3 .left) (c .cycle-filled .ensures)
+    let w =
+    whole (a .sheet .now) (the-read .result .layout) (the-widths-end .result) (the-widths-end .ensures) _ (the-compile .result) _ _ (the-joined .result) _ _ (the-shape-of .result) (the-compile .ensures .1) (the-compile .ensures .0) (the-writers .ensures .0) (the-writers .ensures .1) (the-joined .ensures) (c .before .before .before .before .before .before .before .before .before .before .before .before .union-of .ensures) (c .before .before .before .before .before .before .before .before .fill-firsts .ensures) (the-shape-of .ensures) (the-read .result) (the-read .ensures) refl (the-number .result) (the-number .ensures) (c .before .before .before .before .before .before .before .before .before .before .before .before .before .before .before .before .before .before .before .before .before .before .before .before .before .before .before .before .if3 .left) in
+    cycle-accepted (a .sheet .now) (a .nodes .now) (a .rows .now) (a .before) (a .inputs) _ (c .before .before .before .before .before .before .before .before .before .before .before .before .before .before .before .before .before .before .before .before .before .before .before .before .before .before .before .before .before .before .before .if1 .left) (c .before .before .before .before .before .before .before .before .before .before .before .before .before .before .before .before .before .before .before .before .before .before .before .before .before .before .before .before .before .before .if2 .left) (w .contents) (w .extractable)
+    (c .cycle-filled .ensures (w .contents) (w .context))
 
 pub cycle-spec : {M : Type 1} → statement M
 cycle-spec =
@@ -95,5 +85,5 @@ cycle-spec =
     union-of-requires
     fill-firsts-requires
     (λ c κs. search needs)
-    cycle-filled-requires
+    (λ c κs. search needs)
     returns-4)

@@ -1,7 +1,6 @@
 -- `cycles::calls::cycle_filled` meets its contract: each way through the code is a law of proofs/Judging. Assumes nothing.
 use borrow.Author.Needs.{needs}
 use borrow.Author.Tests.{not-true, not-false}
-use mathlib.Core.Path.{refl}
 use Prim.Native.Nat.{ℕ}
 use lib.ListN.{replicate, length-replicate}
 use Rattle.masks.specs.Masks.{bits}

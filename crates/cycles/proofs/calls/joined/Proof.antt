@@ -1,9 +1,7 @@
 -- `cycles::calls::joined` meets its contract. The loop: the threads so far joined. Assumes nothing.
 use borrow.Author.Needs.{needs}
-use Prim.Native.Nat.{ℕ, _-_, _≤_}
-use mathlib.Core.Path.{_≡_, refl}
+use Prim.Native.Nat.{_-_, _≤_}
 use native.Mathlib.Omega.{arith}
-use lib.ListN.{length}
 use Rattle.cycles.proofs.Masks.{Joined, joined-none, joined-more, joined-all}
 use Rattle.cycles.proofs.calls.joined.Statement.{statement}
 use Rattle.cycles.proofs.calls.joined.Tie as tie

@@ -1,5 +1,4 @@
 -- `cycles::calls::refused` meets its contract. Assumes nothing.
-use borrow.Author.Needs.{needs}
 use mathlib.Core.Path.{refl}
 use Rattle.nextstate.specs.CycleRun.{refused}
 use Rattle.cycles.proofs.calls.refused.Statement.{statement}

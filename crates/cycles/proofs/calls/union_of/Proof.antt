@@ -1,6 +1,6 @@
 -- `cycles::calls::union_of` meets its contract. The loop: the threads so far united. Assumes nothing.
 use borrow.Author.Needs.{needs}
-use Prim.Native.Nat.{ℕ, _-_, _≤_}
+use Prim.Native.Nat.{_-_, _≤_}
 use mathlib.Core.Path.{_≡_}
 use native.Mathlib.Omega.{arith}
 use Rattle.cycles.proofs.Masks.{United, united-none, united-more}

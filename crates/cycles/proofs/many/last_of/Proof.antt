@@ -1,6 +1,6 @@
 -- `cycles::many::last_of` meets its contract. Assumes nothing.
 use borrow.Author.Needs.{needs}
-use mathlib.Core.Path.{_∙_, sym}
+use mathlib.Core.Path.{_∙_}
 use Rattle.cycles.proofs.ManyCycles.{last-none, last-some}
 use Rattle.cycles.proofs.many.last_of.Statement.{statement}
 use Rattle.cycles.proofs.many.last_of.Tie as tie

@@ -1,11 +1,11 @@
 -- `cycles::many::put_items` meets its contract. The loop: the items so far put. Assumes nothing.
 use borrow.Author.Needs.{needs}
-use Prim.Native.Nat.{ℕ, _+_, _-_, _≤_}
+use Prim.Native.Nat.{_-_, _≤_}
 use mathlib.Core.Path.{_≡_, ap, _∙_}
 use native.Mathlib.Omega.{arith}
-use Rattle.cycles.specs.Running.{planes, putAll}
+use Rattle.clocking.specs.Running.{planes, putAll}
 use Rattle.cycles.specs.Rounds.{itemAt}
-use Rattle.cycles.proofs.Turns.{all-put-none, all-put-more}
+use Rattle.clocking.proofs.Turns.{all-put-none, all-put-more}
 use Rattle.cycles.proofs.many.put_items.Statement.{statement}
 use Rattle.cycles.proofs.many.put_items.Tie as tie
 

@@ -3,11 +3,11 @@
 use borrow.Author.Needs.{needs}
 use native.Mathlib.Omega.{arith}
 use borrow.Author.Tests.{not-true, not-false}
-use mathlib.Core.Path.{_≡_, sym, ap, _∙_}
+use mathlib.Core.Path.{sym, ap, _∙_}
 use Prim.Native.Nat.{_-_, _≤_}
 use Rattle.values.specs.declared.Value.the-variants.{Known}
 use Rattle.masks.specs.Masks.{bits}
-use Rattle.cycles.specs.Running.{planes, putAt, stand}
+use Rattle.clocking.specs.Running.{planes, putAt, stand}
 use Rattle.cycles.specs.Many.{ended}
 use Rattle.cycles.proofs.Judging.{numbers-32, flags-32, eight-places}
 use Rattle.cycles.proofs.ManyCycles.{Going, going-first, going-end, going-off, going-row}
@@ -52,9 +52,6 @@ returns c =
     (l .r) (planes (l .worth) (l .blank)) (stand (l .held) (l .dim) (l .places)) (l .inv .2) (c .before .before .before .before .loop-test .taken)
     (sym (c .before .before .before .items-fit .ensures) ∙ not-true _ (c .before .before .if1 .taken)) _ (c .ended .ensures ∙ ap (ended (l .r) 25) (c .before .last-of .ensures))
 
-step-requires : tie.Need-step-requires Inv-loop μ-loop
-step-requires c κs = c .before .before .before .before .before .before .before .before .before .before .before .before .before .before .before .before .before .before .before .before .before .before .before .before .before .before .before .before .before .before .before .pre
-
 add-r : tie.Need-add-r Inv-loop μ-loop
 add-r c = omega (arith, c .before .before .before .before .before .before .before .before .before .before .before .loop-test .taken, c .before .before .before .before .before .before .before .before .before .before .before .before .loop .inv .1)
 
@@ -97,7 +94,7 @@ run-rows-spec =
     (λ c κs. search needs)
     returns
     (λ c κs. search needs)
-    step-requires
+    (λ c κs. search needs)
     add-r
     (λ c. omega arith)
     loop-again

@@ -1,5 +1,5 @@
 -- `netlist::counting::count_operands` meets its contract, by the kind of node. Assumes nothing.
-use Rattle.netlist.specs.Cells.{nodeOf}
+use Rattle.nodes.specs.Cells.{nodeOf}
 use Rattle.netlist.specs.Uses.{operandsOf, allCounted}
 use Rattle.netlist.proofs.Uses.{count-two, count-three}
 use borrow.Author.Needs.{needs}

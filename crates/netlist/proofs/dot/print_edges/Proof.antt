@@ -1,6 +1,6 @@
 -- `netlist::dot::print_edges` meets its contract, by the kind of node. Assumes nothing.
 use mathlib.Core.Path.{sym}
-use Rattle.netlist.specs.Cells.{nodeOf}
+use Rattle.nodes.specs.Cells.{nodeOf}
 use Rattle.netlist.specs.Dot.{edges}
 use Rattle.writing.proofs.Buffer.{both, puts-nil}
 use borrow.Author.Needs.{needs}

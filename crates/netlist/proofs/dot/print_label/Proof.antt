@@ -1,6 +1,6 @@
 -- `netlist::dot::print_label` meets its contract, by the kind of node. Assumes nothing.
 use Rattle.writing.specs.Ascii.{ascii}
-use Rattle.netlist.specs.Cells.{nodeOf}
+use Rattle.nodes.specs.Cells.{nodeOf}
 use Rattle.netlist.specs.Dot.{label}
 use Rattle.netlist.proofs.Infix.{name-by, constant-by, unknown-by}
 use borrow.Author.Needs.{needs}

@@ -6,7 +6,7 @@ use borrow.Fn.PlainCycle.{Measures, is, falls, and}
 use borrow.Author.Needs.{needs}
 use Rattle.writing.specs.Ascii.{ascii}
 use Rattle.writing.proofs.Buffer.{both}
-use Rattle.netlist.specs.Cells.{nodeOf}
+use Rattle.nodes.specs.Cells.{nodeOf}
 use Rattle.netlist.specs.Infix.{nodeName, written, ownText}
 use Rattle.netlist.proofs.Infix.{operand-late, operand-named, operand-inline, name-by, constant-by, unknown-by}
 use Rattle.netlist.proofs.printing.print_binary.Reads as print-binary
@@ -24,9 +24,9 @@ use Rattle.netlist.proofs.printing.+print_binary+print_branch+print_con
 use Rattle.netlist.proofs.printing.print_own.Reads as print-own
 use Rattle.netlist.proofs.printing.print_own.Kinds as print-own-kinds
 use Rattle.netlist.proofs.printing.+print_binary+print_branch+print_conditional+print_operand+print_own.Lts-print_own as print-own-lts
-use Rattle.netlist.proofs.nodes.cell_at.Reads as cell-at-reads
+use Rattle.netlist.proofs.words.cell_at.Reads as cell-at-reads
 use Rattle.netlist.proofs.is_named.Reads as is-named-reads
-use Rattle.netlist.proofs.nodes.narrow.Reads as narrow-reads
+use Rattle.netlist.proofs.words.narrow.Reads as narrow-reads
 use Rattle.writing.proofs.put_byte.Reads as put-byte-reads
 use Rattle.signs.proofs.put_constant.Reads as put-constant-reads
 use Rattle.writing.proofs.put_marked.Reads as put-marked-reads
@@ -34,7 +34,7 @@ use Rattle.naming.proofs.put_name.Reads as put-name-reads
 use Rattle.signs.proofs.put_sign.Reads as put-sign-reads
 use Rattle.signs.proofs.put_unknown.Reads as put-unknown-reads
 use Rattle.writing.proofs.put_word.Reads as put-word-reads
-use Rattle.netlist.proofs.nodes.wide.Reads as wide-reads
+use Rattle.netlist.proofs.words.wide.Reads as wide-reads
 use Rattle.netlist.proofs.printing.+print_binary+print_branch+print_conditional+print_operand+print_own.{statement}
 use Rattle.netlist.proofs.printing.+print_binary+print_branch+print_conditional+print_operand+print_own.Tie.{close}
 

@@ -1,0 +1,67 @@
+-- The check of number 24 on lent tables: what each pass over the nodes answers, and the rows, for tables of any contents.
+-- proofs/Rows says that for a sheet that was accepted they are nextstate's tablesFit.
+use Prim.Native.Nat.{ℕ, _+_, _<_}
+use mathlib.Core.Path.{_≡_}
+use mathlib.Core.Bool.{Bool, true, false, not, _&&_, _||_}
+use mathlib.Core.List.{List, []}
+use lib.ListN.{length, getD}
+use lib.Dec.{ltb, eqb}
+use Rattle.sheet.specs.Expression.{Expr}
+use Rattle.sheet.specs.Module.{Module}
+use Rattle.pseudocode.specs.Fetching.{fetchAt}
+use Rattle.state.specs.Saved.{listOf}
+use Rattle.events.specs.Cycle.{codeOf, instrAt, isWait, allBelow}
+use Rattle.masks.specs.Masks.{bits}
+use Rattle.changes.specs.Changes.{waiting}
+use Rattle.nextstate.specs.Nodes.{nodeAt}
+use Rattle.nextstate.specs.CycleRun.{nodesFit, widthsFrom, landings}
+use Rattle.nodes.specs.Cells.{sizeIn, marksIn}
+use Rattle.nodes.specs.Rows.{entryAt, waitsTo, sizeOf}
+
+-- ---- the nodes: with a table of widths of 4,096 bytes, the answer is nodesFit, and the table is filled where it holds
+
+abbrev pub Judged : List ℕ → List ℕ → List ℕ → List ℕ → Bool → Type 0
+Judged ws ns before after r =
+    (m : Module Expr) → m .scope .widths ≡ ws → length before ≡ 4096 →
+    (r ≡ nodesFit m (listOf 4096 (nodeAt ns)) [])
+    × (r ≡ true → after ≡ widthsFrom m (listOf 4096 (nodeAt ns)) [])
+
+-- ---- the nodes that stand for a wait of thread i, whose code has so many instructions
+
+unfoldable pub waitsAt : List ℕ → List ℕ → ℕ → ℕ → ℕ → Bool
+waitsAt s code i size p = ltb p size && waiting (fetchAt s code i p)
+
+-- With the waits of the module's thread, the table is filled with its landings.
+abbrev pub Landed : (ℕ → Bool) → List ℕ → ℕ → List Bool → List Bool → Type 0
+Landed waits ns i before after =
+    (m : Module Expr) → length before ≡ 4096 → ((p : ℕ) → waits p ≡ isWait (instrAt (codeOf m i) p)) →
+    after ≡ landings m i (listOf 4096 (nodeAt ns)) []
+
+-- ---- rows
+
+-- The entry of register r, whose node must be one of the 4,096 and have the register's width.
+module _ (ws us rs : List ℕ) (inputs row : ℕ) where
+  unfoldable pub registerFitsAt : ℕ → Bool
+  registerFitsAt r = ltb (entryAt rs row r) 4096 && eqb (sizeIn us (entryAt rs row r)) (getD ws (inputs + r) 0)
+
+  -- The entries of the registers that are written, and of the place.
+  unfoldable pub rowFitsAt : ℕ → List Bool → List Bool → Bool
+  rowFitsAt registers written marks =
+      allBelow registers (λ r. not (getD written r false) || registerFitsAt r) && marksIn marks (entryAt rs row 32)
+
+-- The rows of thread i's waits, the first of them number `first`.
+unfoldable pub threadFitsAt : List ℕ → List ℕ → List ℕ → List ℕ → List ℕ → ℕ → ℕ → List Bool → List Bool → ℕ → ℕ → ℕ → Bool
+threadFitsAt s code ws us rs inputs registers written marks i first n =
+    allBelow n
+    (λ p. not (waiting (fetchAt s code i p)) || rowFitsAt ws us rs inputs (first + waitsTo s code i p) registers written marks)
+
+-- The rows of all threads' waits: with the waits of the module's threads, each thread's landings are marked and its rows judged.
+-- `written` has each thread's mask of the registers it writes.
+abbrev pub RowsJudged : List ℕ → List ℕ → List ℕ → List ℕ → List ℕ → List ℕ → List ℕ → ℕ → ℕ → List ℕ → List ℕ → ℕ → List Bool → Bool → Type 0
+RowsJudged s code sizes ws us ns rs inputs registers firsts written n before r =
+    (m : Module Expr) → length before ≡ 4096 →
+    ((i p : ℕ) → i < n → waitsAt s code i (sizeOf sizes i) p ≡ isWait (instrAt (codeOf m i) p)) →
+    r
+    ≡ allBelow n
+    (λ i. threadFitsAt s code ws us rs inputs registers (bits (getD written i 0)) (landings m i (listOf 4096 (nodeAt ns)) []) i
+    (getD firsts i 0) (sizeOf sizes i))

@@ -1,0 +1,9 @@
+pub mod Planes
+pub mod Turns
+pub mod Settling
+pub mod Working
+pub mod Taking
+pub mod Handing
+pub mod Keeping
+pub mod Reaching
+pub mod Clocking
