@@ -1,5 +1,5 @@
 // The rows of an inputs file, a line a cycle, read as the run goes on.
-use crate::report;
+use crate::report::wrong_at;
 
 // How far the file is read: its descriptor, the part of the buffer that waits, the line it begins with, and whether the file is at its
 // end.
@@ -11,14 +11,25 @@ pub struct Feed {
     pub ended: bool,
 }
 
-// A row of inputs, the clock's slot in front: found, or none where the file is at its end or a line is wrong.
+pub const FOUND: u8 = 0;
+
+const BLANK: u8 = 1;
+
+const WRONG: u8 = 2;
+
+const END: u8 = 3;
+
+// A row of inputs, the clock's slot in front: found, or none where a line is blank or wrong or the file is at its end.
 pub struct Row {
-    pub found: bool,
-    pub wrong: bool,
-    pub blank: bool,
+    pub kind: u8,
     pub feed: Feed,
     pub value: [u32; 16],
     pub unknown: [bool; 16],
+}
+
+// One more; a count stays below 2^32.
+pub fn counted(n: usize) -> usize {
+    if n < 4294967295 { n + 1 } else { n }
 }
 
 pub fn over(fd: i32) -> Feed {
@@ -31,8 +42,13 @@ pub fn over(fd: i32) -> Feed {
     }
 }
 
+// The status of a run that ends with such a row.
+pub fn status_of(kind: u8) -> u8 {
+    if kind == WRONG { 2 } else { 0 }
+}
+
 // The first line end from a place on, or the end of what waits.
-fn line_end(buffer: &[u8], from: usize, to: usize) -> usize {
+pub fn line_end(buffer: &[u8], from: usize, to: usize) -> usize {
     let mut i = from;
     while i < buffer.len() {
         if i >= to {
@@ -49,34 +65,19 @@ fn line_end(buffer: &[u8], from: usize, to: usize) -> usize {
 // What waits moves to the front of the buffer. Gives its length.
 fn move_down(buffer: &mut [u8], from: usize, to: usize) -> usize {
     let mut n = 0;
-    while n < buffer.len() {
-        let left = buffer.len() - n;
-        if from >= left {
+    let mut i = from;
+    while i < buffer.len() {
+        if i >= to {
             return n;
         }
-        let i = from + n;
-        if i >= to {
+        if n >= buffer.len() {
             return n;
         }
         buffer[n] = buffer[i];
         n += 1;
+        i += 1;
     }
     n
-}
-
-// More of the file behind what waits.
-fn refilled(feed: Feed, buffer: &mut [u8]) -> Feed {
-    let n = move_down(buffer, feed.from, feed.to);
-    let size = buffer.len();
-    if n >= size {
-        return at(feed, size, true);
-    }
-    let got = io::read_full(feed.fd, &mut buffer[n..]);
-    let room = size - n;
-    if got < room {
-        return at(feed, n + got, true);
-    }
-    at(feed, size, false)
 }
 
 // So much waits, at the front of the buffer.
@@ -90,12 +91,32 @@ fn at(feed: Feed, to: usize, ended: bool) -> Feed {
     }
 }
 
+// More of the file behind what waits.
+fn refilled(feed: Feed, buffer: &mut [u8]) -> Feed {
+    let n = move_down(buffer, feed.from, feed.to);
+    let size = buffer.len();
+    if n >= size {
+        return at(feed, size, true);
+    }
+    let got = io::read_full(feed.fd, &mut buffer[n..]);
+    if got < size - n {
+        return at(feed, n + got, true);
+    }
+    at(feed, size, false)
+}
+
+// With a whole line that waits, or the file at its end.
+fn filled(feed: Feed, buffer: &mut [u8]) -> Feed {
+    if feed.ended || line_end(buffer, feed.from, feed.to) < feed.to {
+        return feed;
+    }
+    refilled(feed, buffer)
+}
+
 // A row that is none.
-fn no_row(feed: Feed, wrong: bool, blank: bool) -> Row {
+fn no_row(feed: Feed, kind: u8) -> Row {
     Row {
-        found: false,
-        wrong,
-        blank,
+        kind,
         feed,
         value: [0u32; 16],
         unknown: [false; 16],
@@ -105,24 +126,24 @@ fn no_row(feed: Feed, wrong: bool, blank: bool) -> Row {
 // What is wrong with a line.
 fn complain(index: usize, line: usize, column: usize, error: u8) {
     match error {
-        2 => report::wrong_at(
+        2 => wrong_at(
             index,
             line,
             column,
-            b"no number: decimal, 0x and hexadecimal, or x is allowed",
+            b"no number: decimal, 0x and hexadecimal, or x is allowed\n",
         ),
-        3 => report::wrong_at(index, line, column, b"too wide for its input"),
-        4 => report::wrong_at(
+        3 => wrong_at(index, line, column, b"too wide for its input\n"),
+        4 => wrong_at(
             index,
             line,
             column,
-            b"too few values: one for each input but the clock is allowed",
+            b"too few values: one for each input but the clock is allowed\n",
         ),
-        _ => report::wrong_at(
+        _ => wrong_at(
             index,
             line,
             column,
-            b"too many values: one for each input but the clock is allowed, - where there is none",
+            b"too many values: one for each input but the clock is allowed, - where there is none\n",
         ),
     }
 }
@@ -131,76 +152,44 @@ fn complain(index: usize, line: usize, column: usize, error: u8) {
 fn row_of(index: usize, line: &[u8], widths: &[u8], inputs: u8, feed: Feed) -> Row {
     let p = stimulus::parse(line, widths, inputs);
     if p.error == 1 {
-        return no_row(feed, false, true);
+        return no_row(feed, BLANK);
     }
     if p.error != 0 {
         complain(index, feed.line, p.column, p.error);
-        return no_row(feed, true, false);
+        return no_row(feed, WRONG);
     }
     let value = p.value;
     let unknown = p.unknown;
     Row {
-        found: true,
-        wrong: false,
-        blank: false,
+        kind: FOUND,
         feed,
         value,
         unknown,
     }
 }
 
-// The next line, where a whole one waits or the file is at its end.
-fn next_line(index: usize, feed: Feed, buffer: &mut [u8], widths: &[u8], inputs: u8) -> Row {
-    let seen = line_end(buffer, feed.from, feed.to);
-    if seen >= feed.to {
-        if !feed.ended {
-            let f = refilled(feed, buffer);
-            return line_at(index, f, buffer, widths, inputs);
-        }
-    }
-    line_at(index, feed, buffer, widths, inputs)
-}
-
 // The line that waits first.
 fn line_at(index: usize, f: Feed, buffer: &[u8], widths: &[u8], inputs: u8) -> Row {
     let from = f.from;
-    if from >= f.to {
-        return no_row(f, false, false);
-    }
     let end = line_end(buffer, from, f.to);
-    let g = past(f, end);
-    if end > buffer.len() {
-        return no_row(g, false, false);
+    if from >= f.to || from > end || end > buffer.len() {
+        return no_row(f, END);
     }
-    if from > end {
-        return no_row(g, false, false);
-    }
+    let mut g = f;
+    g.from = counted(end);
+    g.line = counted(f.line);
     row_of(index, &buffer[from..end], widths, inputs, g)
-}
-
-// Behind the line that ends at a place.
-fn past(feed: Feed, end: usize) -> Feed {
-    Feed {
-        fd: feed.fd,
-        from: if end < 65536 { end + 1 } else { end },
-        to: feed.to,
-        line: if feed.line < 4294967295 {
-            feed.line + 1
-        } else {
-            feed.line
-        },
-        ended: feed.ended,
-    }
 }
 
 // The next row: blank lines are passed over. A proved loop has to end, and nothing says that a file does: so it counts its turns
 // down, from a number that no file uses up.
 pub fn next_row(index: usize, feed: Feed, buffer: &mut [u8], widths: &[u8], inputs: u8) -> Row {
-    let mut row = next_line(index, feed, buffer, widths, inputs);
+    let mut row = no_row(feed, BLANK);
     let mut turns = u64::MAX;
-    while turns > 0 && row.blank {
+    while turns > 0 && row.kind == BLANK {
         let f = row.feed;
-        row = next_line(index, f, buffer, widths, inputs);
+        let g = filled(f, buffer);
+        row = line_at(index, g, buffer, widths, inputs);
         turns -= 1;
     }
     row

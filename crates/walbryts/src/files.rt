@@ -7,39 +7,16 @@ pub struct Got {
     pub size: usize,
 }
 
-// Writes what stands from a place on, at most 4,096 bytes and up to `to`. Gives the place after it.
-fn write_some(fd: i32, text: &[u8; 65536], from: usize, to: usize) -> usize {
-    if to > 65536 {
-        return to;
+// Writes the first bytes of a text.
+fn write_first(fd: i32, text: &[u8], n: usize) {
+    if n <= text.len() {
+        io::write_all(fd, &text[..n]);
     }
-    if from > to {
-        return to;
-    }
-    let mut chunk = [0u8; 4096];
-    let mut n = 0;
-    while n < 4096 {
-        let i = from + n;
-        if i >= to {
-            io::write_all(fd, &chunk[..n]);
-            return to;
-        }
-        chunk[n] = text[i];
-        n += 1;
-    }
-    io::write_all(fd, &chunk);
-    from + 4096
 }
 
 // Writes a text.
 pub fn flush(fd: i32, text: &[u8; 65536], pos: usize) {
-    let mut turns: usize = 16;
-    let mut from = 0;
-    while turns > 0 {
-        if from < pos {
-            from = write_some(fd, text, from, pos);
-        }
-        turns -= 1;
-    }
+    write_first(fd, text, pos);
 }
 
 // Opens the file that a word names; where that fails, says why and gives -1.

@@ -9,11 +9,13 @@ mod machine;
 mod nets;
 mod report;
 mod running;
+mod say;
 mod showing;
 mod words;
 
 use libc::STDERR_FILENO;
 use libc::STDOUT_FILENO;
+use sheet::Layout;
 use words::Options;
 
 fn usage() {
@@ -51,8 +53,7 @@ where the clock is the only input; # comments.
 }
 
 // What a command does with a sheet that is read.
-fn command(o: Options, sheet: &[u8]) -> u8 {
-    let layout = sheet::read(sheet).layout;
+fn command(o: Options, sheet: &[u8], layout: Layout, widths: &[u8]) -> u8 {
     let mut names = [0u8; 2560];
     if !labels::fill(o.names, layout, &mut names) {
         return 2;
@@ -61,9 +62,9 @@ fn command(o: Options, sheet: &[u8]) -> u8 {
     match c {
         1 => showing::list(sheet),
         2 => showing::check(sheet),
-        3 => running::run(o, sheet, &names),
+        3 => running::run(o, sheet, layout, widths, &names),
         4 => nets::extract(o.sheet, sheet, &names, o.dot),
-        5 => comparing::compare(o, sheet, &names),
+        5 => comparing::compare(o, sheet, layout, widths, &names),
         _ => showing::print_verilog(o.sheet, sheet),
     }
 }
@@ -71,30 +72,28 @@ fn command(o: Options, sheet: &[u8]) -> u8 {
 // A sheet's bytes, from the file's: refused, or handed to the command.
 fn with_bytes(o: Options, sheet: &[u8], view: &[u8], hex: bool) -> u8 {
     let r = sheet::read(sheet);
-    if r.number != 0 {
+    if r.number != 0 || sheet.len() < 4 {
         report::refuse(o.sheet, sheet, view, hex, r.number, r.place);
         return 1;
     }
-    command(o, sheet)
+    let layout = r.layout;
+    command(o, sheet, layout, &sheet[4..])
 }
 
-// A file's bytes: a sheet, or hexadecimal text.
-fn with_file(o: Options, view: &[u8]) -> u8 {
-    if !hextext::is_text(view) {
-        return with_bytes(o, view, view, false);
-    }
+// Hexadecimal text.
+fn with_text(o: Options, view: &[u8]) -> u8 {
     if view.len() >= 65536 {
-        report::wrong_with(o.sheet, b"hexadecimal text of 65,536 bytes or longer");
+        report::wrong_with(
+            o.sheet,
+            b": hexadecimal text of 65,536 bytes or longer\n",
+            0,
+        );
         return 2;
     }
     let mut bytes = [0u8; 8193];
     let d = hextext::decode(view, &mut bytes);
-    if d.error == 1 {
-        report::wrong_at(o.sheet, d.line, d.column, b"no hexadecimal digit");
-        return 2;
-    }
     if d.error != 0 {
-        report::wrong_at(o.sheet, d.line, d.column, b"a digit without its second");
+        misread(o.sheet, d.line, d.column, d.error);
         return 2;
     }
     let length = d.length;
@@ -102,6 +101,23 @@ fn with_file(o: Options, view: &[u8]) -> u8 {
         return 2;
     }
     with_bytes(o, &bytes[..length], view, true)
+}
+
+// What is wrong with hexadecimal text.
+fn misread(index: usize, line: usize, column: usize, error: u8) {
+    if error == 1 {
+        report::wrong_at(index, line, column, b"no hexadecimal digit\n");
+        return;
+    }
+    report::wrong_at(index, line, column, b"a digit without its second\n");
+}
+
+// A file's bytes: a sheet, or hexadecimal text.
+fn with_file(o: Options, view: &[u8]) -> u8 {
+    if hextext::is_text(view) {
+        return with_text(o, view);
+    }
+    with_bytes(o, view, view, false)
 }
 
 // The command line's status: 0 done, 1 refused or different, 2 words or files that are wrong.

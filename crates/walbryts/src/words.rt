@@ -1,6 +1,4 @@
 // The command line: a command, a sheet, for some commands a file of inputs, and options anywhere.
-use check::same;
-
 pub const LIST: u8 = 1;
 
 pub const CHECK: u8 = 2;
@@ -60,62 +58,50 @@ fn nothing() -> Options {
     }
 }
 
-// A command by its word, 0 for any other word.
-fn command_of(word: &[u8]) -> u8 {
-    if same(word, b"list") {
-        return LIST;
+// Does the word stand in the list at a place, with a blank behind it?
+fn stands(list: &[u8], at: usize, word: &[u8]) -> bool {
+    let mut j = at;
+    let mut i = 0;
+    while i < word.len() {
+        if j >= list.len() {
+            return false;
+        }
+        if list[j] != word[i] {
+            return false;
+        }
+        j += 1;
+        i += 1;
     }
-    if same(word, b"check") {
-        return CHECK;
-    }
-    if same(word, b"run") {
-        return RUN;
-    }
-    if same(word, b"extract") {
-        return EXTRACT;
-    }
-    if same(word, b"compare") {
-        return COMPARE;
-    }
-    if same(word, b"verilog") {
-        return VERILOG;
+    j < list.len() && list[j] == b' '
+}
+
+// A word's number in a list of words with a blank before and behind each; 0 where it is none of them.
+fn number_in(list: &[u8], word: &[u8]) -> u8 {
+    let mut number: u8 = 0;
+    let mut i = 0;
+    while i < list.len() {
+        if list[i] == b' ' {
+            number = number % 32 + 1;
+            if stands(list, i + 1, word) {
+                return number;
+            }
+        }
+        i += 1;
     }
     0
 }
 
-// An option by its word: 1 to 3 take the next word, 4 to 9 stand alone; 0 for any other word.
+// A command by its word, 0 for any other word.
+fn command_of(word: &[u8]) -> u8 {
+    number_in(b" list check run extract compare verilog ", word)
+}
+
+// An option by its word: 1 to 3 take the next word, the others stand alone; 0 for any other word.
 fn option_of(word: &[u8]) -> u8 {
-    if same(word, b"--vcd") {
-        return 1;
-    }
-    if same(word, b"--names") {
-        return 2;
-    }
-    if same(word, b"--seed") {
-        return 3;
-    }
-    if same(word, b"--by-expressions") {
-        return 4;
-    }
-    if same(word, b"--wires") {
-        return 5;
-    }
-    if same(word, b"--last") {
-        return 6;
-    }
-    if same(word, b"--dot") {
-        return 7;
-    }
-    if same(word, b"--progress") {
-        return 8;
-    }
-    if same(word, b"--status") {
-        return 9;
-    }
-    if same(word, b"--help") {
-        return 10;
-    }
-    0
+    number_in(
+        b" --vcd --names --seed --by-expressions --wires --last --dot --progress --status --help ",
+        word,
+    )
 }
 
 fn no_number() -> Number {
@@ -268,6 +254,11 @@ pub fn asked() -> Options {
     o
 }
 
+// Is one of the options given that go with a run alone?
+fn shows(o: Options) -> bool {
+    o.vcd != 0 || o.by_expressions || o.wires || o.last || o.progress || o.drawn
+}
+
 // Do the options go with the command?
 pub fn right(o: Options) -> bool {
     if o.wrong != 0 || o.wants != 0 || o.sheet == 0 {
@@ -275,18 +266,14 @@ pub fn right(o: Options) -> bool {
     }
     let runs = o.command == RUN;
     let fed = runs || o.command == COMPARE;
-    if fed != (o.inputs != 0) {
+    if fed != (o.inputs != 0) || (!runs && shows(o)) {
         return false;
     }
     if o.drawn && o.by_expressions {
         return false;
     }
-    let shows = o.vcd != 0 || o.by_expressions || o.wires || o.last || o.progress || o.drawn;
-    if shows && !runs {
-        return false;
+    if o.command == EXTRACT {
+        return true;
     }
-    if o.dot && o.command != EXTRACT {
-        return false;
-    }
-    o.names == 0 || runs || o.command == EXTRACT
+    !o.dot && (o.names == 0 || runs)
 }

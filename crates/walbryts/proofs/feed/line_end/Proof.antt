@@ -1,12 +1,9 @@
 -- `walbryts::feed::line_end` is safe and ends. Assumes nothing.
 use Prim.Native.Nat.{_-_}
-use native.Mathlib.Omega.{arith}
 use lib.ListN.{length}
 use borrow.Author.Needs.{needs}
 use Rattle.walbryts.proofs.feed.line_end.Statement.{statement}
 use Rattle.walbryts.proofs.feed.line_end.Tie as tie
-use Rattle.walbryts.proofs.feed.line_end.Reads as reads
-use Rattle.walbryts.proofs.feed.line_end.Lts as lts
 
 abbrev Inv-loop : tie.InvT-loop
 Inv-loop buffer from to i₀ i = Unit {0}
@@ -14,41 +11,17 @@ Inv-loop buffer from to i₀ i = Unit {0}
 abbrev μ-loop : tie.MeasureT-loop
 μ-loop buffer from to i₀ i = length buffer - i
 
-loop-holds : tie.Need-loop-holds Inv-loop μ-loop
-loop-holds c = tt
-
-returns : tie.Need-returns Inv-loop μ-loop
-returns c = search needs
-
-shared-slice-read-if2 : tie.Need-shared-slice-read-if2 Inv-loop μ-loop
-shared-slice-read-if2 c = search needs
-
-returns-2 : tie.Need-returns-2 Inv-loop μ-loop
-returns-2 c = search needs
-
-add-i : tie.Need-add-i Inv-loop μ-loop
-add-i c = search needs
-
-loop-less : tie.Need-loop-less Inv-loop μ-loop
-loop-less c = search needs
-
-loop-again : tie.Need-loop-again Inv-loop μ-loop
-loop-again c = tt
-
-returns-3 : tie.Need-returns-3 Inv-loop μ-loop
-returns-3 c = search needs
-
 pub line-end-spec : {M : Type 1} → statement M
 line-end-spec =
     tie.close
     (tie.spec
     Inv-loop
     μ-loop
-    loop-holds
-    returns
-    shared-slice-read-if2
-    returns-2
-    add-i
-    loop-less
-    loop-again
-    returns-3)
+    (λ c. tt)
+    (λ c. search needs)
+    (λ c. search needs)
+    (λ c. search needs)
+    (λ c. search needs)
+    (λ c. search needs)
+    (λ c. tt)
+    (λ c. search needs))

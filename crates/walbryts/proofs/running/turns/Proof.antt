@@ -1,0 +1,25 @@
+-- `walbryts::running::turns` is safe and ends. Assumes nothing.
+use borrow.Author.Needs.{needs}
+use Rattle.walbryts.proofs.running.turns.Statement.{statement}
+use Rattle.walbryts.proofs.running.turns.Tie as tie
+
+abbrev Inv-loop : tie.InvT-loop
+Inv-loop p sheet nodes rows widths names text₀ buffer₀ c₀ left₀ text buffer c left = Unit {0}
+
+abbrev μ-loop : tie.MeasureT-loop
+μ-loop p sheet nodes rows widths names text₀ buffer₀ c₀ left₀ text buffer c left = left
+
+pub turns-spec : {M : Type 1} → statement M
+turns-spec =
+    tie.close
+    (tie.spec
+    Inv-loop
+    μ-loop
+    (λ c. tt)
+    (λ c κs. search needs)
+    (λ c κs. search needs)
+    (λ c. search needs)
+    (λ c. search needs)
+    (λ c. tt)
+    (λ c. search needs)
+    (λ c. search needs))
