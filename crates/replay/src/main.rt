@@ -2,9 +2,11 @@
 // matters is in the library; a script of any bytes is run as far as it goes.
 use events::Chosen;
 use events::Inputs;
+use events::Ran;
 use events::Verdict;
 use libc::STDIN_FILENO;
 use libc::STDOUT_FILENO;
+use nextstate::Clocked;
 use nextstate::Registers;
 use state::State;
 ghost use Prim.Native.Nat.{_<_};
@@ -35,6 +37,13 @@ struct Handed {
     registers: Registers,
 }
 
+// How many words of the two tables are lent, where the record held it.
+struct Lent {
+    found: bool,
+    nodes: usize,
+    rows: usize,
+}
+
 // ---- writing
 
 fn say(text: &[u8]) {
@@ -57,27 +66,52 @@ fn digit(n: u8) -> u8 {
     if n < 10 { b'0' + n } else { b'a' + n % 16 - 10 }
 }
 
-// The bytes from an index on in hexadecimal, at most 256 of them.
-fn say_some(bytes: &[u8], from: usize) {
-    let mut text = [0u8; 512];
-    let mut n = 0;
-    let mut i = from;
-    while i < bytes.len() && n < 511 {
-        let b = bytes[i];
-        text[n] = digit(b / 16);
-        text[n + 1] = digit(b % 16);
-        n += 2;
-        i += 1;
+// A byte as two digits, at most up to the end of the text. Gives the place behind them.
+fn put_hex(b: u8, text: &mut [u8; 1024], n: usize) -> usize {
+    if n > 1022 {
+        return n;
     }
-    say(&text[..n]);
+    text[n] = digit(b / 16);
+    text[n + 1] = digit(b % 16);
+    n + 2
 }
 
-// All bytes in hexadecimal.
-fn say_hex(bytes: &[u8]) {
-    let mut left = bytes.len();
-    while left > 0 {
-        say_some(bytes, bytes.len() - left);
-        left = if left < 256 { 0 } else { left - 256 };
+// The first bytes of a text.
+fn say_first(text: &[u8], n: usize) {
+    if n <= text.len() {
+        say(&text[..n]);
+    }
+}
+
+fn say_text(text: &[u8; 1024], n: usize) {
+    say_first(text, n);
+}
+
+// The bytes from an index on in hexadecimal, at most 512 of them.
+fn say_some(bytes: &[u8], from: usize) {
+    let mut text = [0u8; 1024];
+    let mut n = 0;
+    let mut i = from;
+    while i < bytes.len() {
+        if n > 1022 {
+            say_text(&text, n);
+            return;
+        }
+        n = put_hex(bytes[i], &mut text, n);
+        i += 1;
+    }
+    say_text(&text, n);
+}
+
+// The bytes from an index on in hexadecimal.
+fn say_hex(bytes: &[u8], from: usize) {
+    let mut i = from;
+    while i < bytes.len() {
+        say_some(bytes, i);
+        if bytes.len() - i <= 512 {
+            return;
+        }
+        i += 512;
     }
 }
 
@@ -86,62 +120,67 @@ fn say_some_words(words: &[u16], from: usize) {
     let mut text = [0u8; 1024];
     let mut n = 0;
     let mut i = from;
-    while i < words.len() && n < 1021 {
-        let high = (words[i] / 256 % 256) as u8;
-        let low = (words[i] % 256) as u8;
-        text[n] = digit(high / 16);
-        text[n + 1] = digit(high % 16);
-        text[n + 2] = digit(low / 16);
-        text[n + 3] = digit(low % 16);
-        n += 4;
+    while i < words.len() {
+        if n > 1020 {
+            say_text(&text, n);
+            return;
+        }
+        let w = words[i];
+        n = put_hex((w / 256 % 256) as u8, &mut text, n);
+        n = put_hex((w % 256) as u8, &mut text, n);
         i += 1;
     }
-    say(&text[..n]);
+    say_text(&text, n);
 }
 
 // All words in hexadecimal.
 fn say_words(words: &[u16]) {
-    let mut left = words.len();
-    while left > 0 {
-        say_some_words(words, words.len() - left);
-        left = if left < 256 { 0 } else { left - 256 };
+    let mut i = 0;
+    while i < words.len() {
+        say_some_words(words, i);
+        if words.len() - i <= 256 {
+            return;
+        }
+        i += 256;
     }
 }
 
-// Registers or wires in hexadecimal, five bytes each.
-fn say_values(value: &[u32; 32], unknown: &[bool; 32]) {
-    let mut bytes = [0u8; 160];
+// A value in hexadecimal, five bytes.
+fn put_value(n: u32, unknown: bool, text: &mut [u8; 1024], pos: usize) -> usize {
+    let a = put_hex(unknown as u8, text, pos);
+    let b = put_hex((n % 256) as u8, text, a);
+    let c = put_hex((n / 256 % 256) as u8, text, b);
+    let d = put_hex((n / 65536 % 256) as u8, text, c);
+    put_hex((n / 16777216 % 256) as u8, text, d)
+}
+
+// Registers or wires in hexadecimal.
+fn say_values(value: [u32; 32], unknown: [bool; 32]) {
+    let mut text = [0u8; 1024];
+    let mut n = 0;
     let mut r = 0;
     while r < 32 {
-        let n = value[r];
-        bytes[5 * r] = unknown[r] as u8;
-        bytes[5 * r + 1] = (n % 256) as u8;
-        bytes[5 * r + 2] = (n / 256 % 256) as u8;
-        bytes[5 * r + 3] = (n / 65536 % 256) as u8;
-        bytes[5 * r + 4] = (n / 16777216 % 256) as u8;
+        n = put_value(value[r], unknown[r], &mut text, n);
         r += 1;
     }
-    say_hex(&bytes);
+    say_text(&text, n);
 }
 
 // A saved state in hexadecimal, without its form byte.
 fn say_state(bytes: &[u8; 641]) {
-    let mut text = [0u8; 1280];
-    let mut i = 0;
-    while i < 640 {
-        let b = bytes[i + 1];
-        text[2 * i] = digit(b / 16);
-        text[2 * i + 1] = digit(b % 16);
-        i += 1;
-    }
-    say(&text);
+    say_hex(bytes, 1);
 }
 
 // The last line of a script that can't be read on.
-fn bad(st: State) -> Next {
+fn broken() -> bool {
     say(b"bad script\n");
+    false
+}
+
+// The same, with the state as it was.
+fn bad(st: State) -> Next {
     Next {
-        on: false,
+        on: broken(),
         state: st,
     }
 }
@@ -209,6 +248,15 @@ fn read_inputs(n: u8) -> Given {
     }
 }
 
+// A count and so many input values.
+fn read_given() -> Given {
+    let mut count = [0u8; 1];
+    let whole = take(&mut count);
+    let mut g = read_inputs(count[0]);
+    g.found = g.found && whole;
+    g
+}
+
 // 32 register values and 8 places.
 fn read_registers() -> Handed {
     let mut value = [0u32; 32];
@@ -234,34 +282,137 @@ fn read_registers() -> Handed {
     }
 }
 
-// ---- the records
+// How many words of each table.
+fn read_lent() -> Lent {
+    let mut counts = [0u8; 4];
+    let found = take(&mut counts);
+    Lent {
+        found,
+        nodes: word(counts[0], counts[1]),
+        rows: word(counts[2], counts[3]),
+    }
+}
+
+// ---- the records that leave the state alone: does the script go on?
 
 // `N`: reads the sheet.
-fn do_read(sheet: &[u8], st: State) -> Next {
+fn do_read(sheet: &[u8]) -> bool {
     let r = sheet::read(sheet);
     say(b"read ");
     say_number(r.number as u64);
     say(b" ");
     say_number(r.place as u64);
     say(b"\n");
-    Next {
-        on: true,
-        state: st,
-    }
+    true
 }
 
 // `Q`: the listing.
-fn do_list(sheet: &[u8], st: State) -> Next {
+fn do_list(sheet: &[u8]) -> bool {
     let mut text = [0u8; 65536];
     let length = listings::list(sheet, &mut text);
     say(b"list ");
-    say_hex(&text[..length]);
+    say_hex(&text[..length], 0);
     say(b"\n");
-    Next {
-        on: true,
-        state: st,
+    true
+}
+
+// `D`: the state.
+fn do_save(st: State) -> bool {
+    let mut bytes = [0u8; 641];
+    state::save(st, &mut bytes);
+    say(b"state ");
+    say_state(&bytes);
+    say(b"\n");
+    true
+}
+
+// `X`: extraction, lent the first words of both.
+fn do_extract(sheet: &[u8], nodes: &mut [u16], rows: &mut [u16]) -> bool {
+    let l = read_lent();
+    let a = l.nodes;
+    let b = l.rows;
+    if !l.found || a > nodes.len() || b > rows.len() {
+        return broken();
+    }
+    say_line(
+        b"extract ",
+        extraction::extract(sheet, &mut nodes[..a], &mut rows[..b]),
+    );
+    true
+}
+
+// `T`: all words.
+fn do_tables(nodes: &[u16], rows: &[u16]) -> bool {
+    say(b"nodes ");
+    say_words(nodes);
+    say(b" rows ");
+    say_words(rows);
+    say(b"\n");
+    true
+}
+
+// Stores a word where it is meant for this table and the index lies inside it.
+fn store(words: &mut [u16], meant: bool, i: usize, w: u16) {
+    if meant && i < words.len() {
+        words[i] = w;
     }
 }
+
+// `W`: stores one word.
+fn do_word(nodes: &mut [u16], rows: &mut [u16]) -> bool {
+    let mut bytes = [0u8; 5];
+    if !take(&mut bytes) || bytes[0] > 1 {
+        return broken();
+    }
+    let i = word(bytes[1], bytes[2]);
+    let w = word(bytes[3], bytes[4]) as u16;
+    store(nodes, bytes[0] == 0, i, w);
+    store(rows, bytes[0] == 1, i, w);
+    say(b"word\n");
+    true
+}
+
+// What a cycle run gave.
+fn say_cycled(c: Clocked) {
+    say(b"cycle ");
+    say_number(c.number as u64);
+    say(b" ");
+    let value = c.value;
+    let unknown = c.unknown;
+    say_values(value, unknown);
+    let places = c.places;
+    say_hex(&places, 0);
+    let wire = c.wire;
+    let unsure = c.unsure;
+    say_values(wire, unsure);
+    say(b"\n");
+}
+
+// A cycle run on lent words.
+fn run_cycle(sheet: &[u8], nodes: &[u16], rows: &[u16]) -> bool {
+    let h = read_registers();
+    let g = read_given();
+    if !h.found || !g.found {
+        return broken();
+    }
+    let before = h.registers;
+    let inputs = g.inputs;
+    say_cycled(cycles::cycle(sheet, nodes, rows, before, inputs));
+    true
+}
+
+// `K`: a cycle run on the first words of both.
+fn do_cycle(sheet: &[u8], nodes: &[u16], rows: &[u16]) -> bool {
+    let l = read_lent();
+    let a = l.nodes;
+    let b = l.rows;
+    if !l.found || a > nodes.len() || b > rows.len() {
+        return broken();
+    }
+    run_cycle(sheet, &nodes[..a], &rows[..b])
+}
+
+// ---- the records that change it
 
 // The line of a call that answers with a number, and the state that it gave back.
 fn told(text: &[u8], c: Chosen) -> Next {
@@ -307,7 +458,11 @@ fn do_run(sheet: &[u8], st: State) -> Next {
     if got < n {
         return bad(st);
     }
-    let r = simulator::run(sheet, st, &choices[..got]);
+    ran(simulator::run(sheet, st, &choices[..got]))
+}
+
+// The line of a run, and the state that it gave back.
+fn ran(r: Ran) -> Next {
     say(b"run ");
     say_number(r.accepted as u64);
     say_line(b" ", r.number);
@@ -356,11 +511,7 @@ fn do_plain(sheet: &[u8], st: State) -> Next {
 
 // `I`: an instant.
 fn do_instant(sheet: &[u8], st: State) -> Next {
-    let mut count = [0u8; 1];
-    if !take(&mut count) {
-        return bad(st);
-    }
-    let g = read_inputs(count[0]);
+    let g = read_given();
     if !g.found {
         return bad(st);
     }
@@ -387,115 +538,19 @@ fn do_load(st: State) -> Next {
     }
 }
 
-// `D`: the state.
-fn do_save(st: State) -> Next {
-    let mut bytes = [0u8; 641];
-    state::save(st, &mut bytes);
-    say(b"state ");
-    say_state(&bytes);
-    say(b"\n");
-    Next {
-        on: true,
-        state: st,
-    }
-}
+// ---- the script
 
-// ---- the records on the two tables
-
-// `X`: extraction, lent the first words of both.
-fn do_extract(sheet: &[u8], st: State, nodes: &mut [u16], rows: &mut [u16]) -> Next {
-    let mut counts = [0u8; 4];
-    if !take(&mut counts) {
-        return bad(st);
-    }
-    let a = word(counts[0], counts[1]);
-    let b = word(counts[2], counts[3]);
-    if a > nodes.len() || b > rows.len() {
-        return bad(st);
-    }
-    let n = extraction::extract(sheet, &mut nodes[..a], &mut rows[..b]);
-    say_line(b"extract ", n);
-    Next {
-        on: true,
-        state: st,
-    }
-}
-
-// `T`: all words.
-fn do_tables(st: State, nodes: &[u16], rows: &[u16]) -> Next {
-    say(b"nodes ");
-    say_words(nodes);
-    say(b" rows ");
-    say_words(rows);
-    say(b"\n");
-    Next {
-        on: true,
-        state: st,
-    }
-}
-
-// Stores a word where it is meant for this table and the index lies inside it.
-fn store(words: &mut [u16], meant: bool, i: usize, w: u16) {
-    if meant && i < words.len() {
-        words[i] = w;
-    }
-}
-
-// `W`: stores one word.
-fn do_word(st: State, nodes: &mut [u16], rows: &mut [u16]) -> Next {
-    let mut bytes = [0u8; 5];
-    if !take(&mut bytes) || bytes[0] > 1 {
-        return bad(st);
-    }
-    let i = word(bytes[1], bytes[2]);
-    let w = word(bytes[3], bytes[4]) as u16;
-    store(nodes, bytes[0] == 0, i, w);
-    store(rows, bytes[0] == 1, i, w);
-    say(b"word\n");
-    Next {
-        on: true,
-        state: st,
-    }
-}
-
-// `K`: a cycle run on the first words of both. The state is untouched.
-fn do_cycle(sheet: &[u8], st: State, nodes: &[u16], rows: &[u16]) -> Next {
-    let mut counts = [0u8; 4];
-    if !take(&mut counts) {
-        return bad(st);
-    }
-    let a = word(counts[0], counts[1]);
-    let b = word(counts[2], counts[3]);
-    if a > nodes.len() || b > rows.len() {
-        return bad(st);
-    }
-    let h = read_registers();
-    let mut count = [0u8; 1];
-    if !h.found || !take(&mut count) {
-        return bad(st);
-    }
-    let g = read_inputs(count[0]);
-    if !g.found {
-        return bad(st);
-    }
-    let before = h.registers;
-    let inputs = g.inputs;
-    let c = cycles::cycle(sheet, &nodes[..a], &rows[..b], before, inputs);
-    say(b"cycle ");
-    say_number(c.number as u64);
-    say(b" ");
-    let value = c.value;
-    let unknown = c.unknown;
-    say_values(&value, &unknown);
-    let places = c.places;
-    say_hex(&places);
-    let wire = c.wire;
-    let unsure = c.unsure;
-    say_values(&wire, &unsure);
-    say(b"\n");
-    Next {
-        on: true,
-        state: st,
+// A record that leaves the state alone.
+fn told_of(letter: u8, sheet: &[u8], st: State, nodes: &mut [u16], rows: &mut [u16]) -> bool {
+    match letter {
+        b'N' => do_read(sheet),
+        b'Q' => do_list(sheet),
+        b'D' => do_save(st),
+        b'X' => do_extract(sheet, nodes, rows),
+        b'T' => do_tables(nodes, rows),
+        b'W' => do_word(nodes, rows),
+        b'K' => do_cycle(sheet, nodes, rows),
+        _ => broken(),
     }
 }
 
@@ -509,20 +564,16 @@ fn record(sheet: &[u8], st: State, nodes: &mut [u16], rows: &mut [u16]) -> Next 
         };
     }
     match letter[0] {
-        b'N' => do_read(sheet, st),
-        b'Q' => do_list(sheet, st),
         b'S' => do_start(sheet, st),
         b'C' => do_choose(sheet, st),
         b'R' => do_run(sheet, st),
         b'P' => do_plain(sheet, st),
         b'I' => do_instant(sheet, st),
         b'L' => do_load(st),
-        b'D' => do_save(st),
-        b'X' => do_extract(sheet, st, nodes, rows),
-        b'T' => do_tables(st, nodes, rows),
-        b'W' => do_word(st, nodes, rows),
-        b'K' => do_cycle(sheet, st, nodes, rows),
-        _ => bad(st),
+        _ => Next {
+            on: told_of(letter[0], sheet, st, nodes, rows),
+            state: st,
+        },
     }
 }
 

@@ -1,16 +1,15 @@
--- `replay::say_hex` is safe and ends. The measure is the number of bytes that are left, at most all. Assumes nothing.
-use Prim.Native.Nat.{_≤_}
-use native.Mathlib.Omega.{arith}
-use borrow.Author.Needs.{needs}
+-- `replay::say_hex` is safe and ends. Assumes nothing.
+use Prim.Native.Nat.{_-_}
 use lib.ListN.{length}
+use borrow.Author.Needs.{needs}
 use Rattle.replay.proofs.say_hex.Statement.{statement}
 use Rattle.replay.proofs.say_hex.Tie as tie
 
 abbrev Inv-loop : tie.InvT-loop
-Inv-loop bytes left₀ left = left ≤ length bytes
+Inv-loop bytes from i₀ i = Unit {0}
 
 abbrev μ-loop : tie.MeasureT-loop
-μ-loop bytes left₀ left = left
+μ-loop bytes from i₀ i = length bytes - i
 
 pub say-hex-spec : {M : Type 1} → statement M
 say-hex-spec =
@@ -18,11 +17,11 @@ say-hex-spec =
     (tie.spec
     Inv-loop
     μ-loop
-    (λ c. omega arith)
-    (λ c. omega arith)
+    (λ c. tt)
     (λ c κs. search needs)
-    (λ c. omega arith)
-    (λ c. omega arith)
-    (λ c. omega arith)
-    (λ c. omega arith)
+    (λ c. search needs)
+    (λ c. search needs)
+    (λ c. search needs)
+    (λ c. search needs)
+    (λ c. tt)
     (λ c. search needs))

@@ -1,16 +1,15 @@
--- `replay::say_words` is safe and ends. The measure is the number of words that are left, at most all. Assumes nothing.
-use Prim.Native.Nat.{_≤_}
-use native.Mathlib.Omega.{arith}
-use borrow.Author.Needs.{needs}
+-- `replay::say_words` is safe and ends. Assumes nothing.
+use Prim.Native.Nat.{_-_}
 use lib.ListN.{length}
+use borrow.Author.Needs.{needs}
 use Rattle.replay.proofs.say_words.Statement.{statement}
 use Rattle.replay.proofs.say_words.Tie as tie
 
 abbrev Inv-loop : tie.InvT-loop
-Inv-loop words left₀ left = left ≤ length words
+Inv-loop words i₀ i = Unit {0}
 
 abbrev μ-loop : tie.MeasureT-loop
-μ-loop words left₀ left = left
+μ-loop words i₀ i = length words - i
 
 pub say-words-spec : {M : Type 1} → statement M
 say-words-spec =
@@ -18,11 +17,11 @@ say-words-spec =
     (tie.spec
     Inv-loop
     μ-loop
-    (λ c. omega arith)
-    (λ c. omega arith)
+    (λ c. tt)
     (λ c κs. search needs)
-    (λ c. omega arith)
-    (λ c. omega arith)
-    (λ c. omega arith)
-    (λ c. omega arith)
+    (λ c. search needs)
+    (λ c. search needs)
+    (λ c. search needs)
+    (λ c. search needs)
+    (λ c. tt)
     (λ c. search needs))
