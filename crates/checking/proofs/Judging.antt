@@ -16,14 +16,14 @@ use Rattle.events.specs.declared.Inputs.{Inputs}
 use Rattle.events.specs.Cycle.{codeOf, instrAt, isWait, allBelow}
 use Rattle.events.specs.Calls.{widthOf, inputOf}
 use Rattle.events.proofs.Cycle.{absurd-bool, all-same}
-use Rattle.tables.specs.Readers.{atMost}
-use Rattle.tables.proofs.Readers.{atMost-same}
-use Rattle.engine.specs.declared.Shape.{Shape}
 use Rattle.nextstate.specs.declared.Registers.{Registers}
 use Rattle.nextstate.specs.Nodes.{nodeAt}
 use Rattle.nextstate.specs.CycleRun.{nodesFit, tablesFit, tablesIn, registersFit, upperInputsFit}
-use Rattle.checking.specs.Checking.{Judged, waitsAt, RowsJudged}
+use Rattle.tables.specs.Readers.{atMost}
+use Rattle.tables.proofs.Readers.{atMost-same}
 use Rattle.nodes.specs.Rows.{sizeOf}
+use Rattle.engine.specs.declared.Shape.{Shape}
+use Rattle.checking.specs.Checking.{Judged, waitsAt, RowsJudged}
 use Rattle.checking.specs.Context.{Context, TablesJudged, RegistersJudged, inputsRight}
 use Rattle.checking.proofs.Rows.{rows-judged, place-same}
 

@@ -6,9 +6,9 @@ use mathlib.Core.List.{List, []}
 use Prim.Native.Nat.{ℕ, _+_, _≤_, _<_}
 use native.Mathlib.Numerals.{add-one}
 use native.Mathlib.Omega.{arith}
+use borrow.Author.Tests.{lt-ltb}
 use lib.ListN.{length, getD, set, take, length-set}
 use lib.Seq.{take-suc-set, take-length, getD-take}
-use borrow.Author.Tests.{lt-ltb}
 use Rattle.sheet.specs.Expression.{Expr}
 use Rattle.sheet.specs.Module.{Module}
 use Rattle.state.specs.Saved.{listOf}
@@ -17,9 +17,9 @@ use Rattle.events.proofs.Cycle.{absurd-bool}
 use Rattle.nextstate.specs.Nodes.{Node, nodeAt, nodeWidth}
 use Rattle.nextstate.specs.CycleRun.{nodeFits, nodesFit, widthsFrom, lands, landings}
 use Rattle.nodes.specs.Cells.{sizeIn, marksIn, fitsAt, widthAt, landsAt}
-use Rattle.checking.specs.Checking.{Judged, Landed}
 use Rattle.nodes.proofs.FirstNodes.{fit-next, fit-node, landings-next, length-landings, length-widths, widths-next, widthsTo}
 use Rattle.nodes.proofs.Cells.{fits-list, fits-same, width-same, lands-same}
+use Rattle.checking.specs.Checking.{Judged, Landed}
 
 -- ---- the first n widths in a table of 4,096
 

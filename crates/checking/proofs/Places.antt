@@ -12,12 +12,12 @@ use Rattle.sheet.specs.Module.{Module}
 use Rattle.pseudocode.specs.Translation.{Instr, go, threadCode}
 use Rattle.pseudocode.specs.Fetching.{fetchAt}
 use Rattle.events.specs.Cycle.{codeOf, instrAt, isWait, allBelow}
-use Rattle.changes.specs.Changes.{waiting}
 use Rattle.tables.specs.Holding.{Holding}
+use Rattle.changes.specs.Changes.{waiting}
 use Rattle.nodes.specs.Cells.{marksIn}
-use Rattle.checking.specs.Checking.{waitsAt, registerFitsAt, rowFitsAt}
 use Rattle.nodes.proofs.Rows.{fetch-past, fetched-waits, go-waits}
 use Rattle.nodes.specs.Rows.{entryAt}
+use Rattle.checking.specs.Checking.{waitsAt, registerFitsAt, rowFitsAt}
 
 -- ---- waitsAt, by the tests
 

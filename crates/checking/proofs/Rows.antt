@@ -19,19 +19,19 @@ use Rattle.soundness.specs.Soundness.{Sound}
 use Rattle.events.specs.Cycle.{codeOf, instrAt, isWait, allBelow}
 use Rattle.events.specs.Calls.{widthOf}
 use Rattle.events.proofs.Cycle.{all-same}
-use Rattle.tables.specs.Holding.{Holding}
-use Rattle.changes.specs.Changes.{waiting}
 use Rattle.nextstate.specs.Rules.{writes}
 use Rattle.nextstate.specs.Nodes.{nodeAt}
 use Rattle.nextstate.specs.Extraction.{Tables}
 use Rattle.nextstate.specs.Book.{rowOf, entry}
 use Rattle.nextstate.specs.CycleRun.{widthsFrom, landings, registerFits, rowFits, rowsFit, tablesIn}
+use Rattle.tables.specs.Holding.{Holding}
+use Rattle.changes.specs.Changes.{waiting}
 use Rattle.nodes.specs.Cells.{sizeIn, marksIn}
-use Rattle.checking.specs.Checking.{waitsAt, registerFitsAt, rowFitsAt, threadFitsAt, RowsJudged}
 use Rattle.nodes.specs.Rows.{entryAt, waitsTo, sizeOf, rowsTo}
 use Rattle.nodes.proofs.Cells.{below-and}
 use Rattle.nodes.proofs.FirstNodes.{length-landings}
 use Rattle.nodes.proofs.Rows.{waiting-same, size-same, row-number}
+use Rattle.checking.specs.Checking.{waitsAt, registerFitsAt, rowFitsAt, threadFitsAt, RowsJudged}
 use Rattle.checking.proofs.Places.{waits-same}
 
 module _ {s : List ℕ} {m : Module Expr} {starts sizes code readers : List ℕ} {watched : List Bool}

@@ -9,12 +9,12 @@ use Rattle.sheet.specs.Module.{Module}
 use Rattle.masks.specs.Masks.{bits}
 use Rattle.state.specs.Saved.{listOf}
 use Rattle.events.specs.Cycle.{codeOf, instrAt, isWait, allBelow}
-use Rattle.fitting.proofs.Loops.{all-none, all-more, all-fails}
 use Rattle.nextstate.specs.Nodes.{nodeAt}
 use Rattle.nextstate.specs.CycleRun.{landings}
-use Rattle.checking.specs.Checking.{waitsAt, Landed, threadFitsAt, RowsJudged}
+use Rattle.fitting.proofs.Loops.{all-none, all-more, all-fails}
 use Rattle.nodes.specs.Rows.{sizeOf}
 use Rattle.nodes.proofs.FirstNodes.{length-landings}
+use Rattle.checking.specs.Checking.{waitsAt, Landed, threadFitsAt, RowsJudged}
 
 -- ---- a test that counts only where another holds
 

@@ -1,20 +1,20 @@
 -- The check of number 24 on lent tables: what each pass over the nodes answers, and the rows, for tables of any contents.
 -- proofs/Rows says that for a sheet that was accepted they are nextstate's tablesFit.
-use Prim.Native.Nat.{ℕ, _+_, _<_}
 use mathlib.Core.Path.{_≡_}
 use mathlib.Core.Bool.{Bool, true, false, not, _&&_, _||_}
 use mathlib.Core.List.{List, []}
+use Prim.Native.Nat.{ℕ, _+_, _<_}
 use lib.ListN.{length, getD}
 use lib.Dec.{ltb, eqb}
 use Rattle.sheet.specs.Expression.{Expr}
 use Rattle.sheet.specs.Module.{Module}
 use Rattle.pseudocode.specs.Fetching.{fetchAt}
+use Rattle.masks.specs.Masks.{bits}
 use Rattle.state.specs.Saved.{listOf}
 use Rattle.events.specs.Cycle.{codeOf, instrAt, isWait, allBelow}
-use Rattle.masks.specs.Masks.{bits}
-use Rattle.changes.specs.Changes.{waiting}
 use Rattle.nextstate.specs.Nodes.{nodeAt}
 use Rattle.nextstate.specs.CycleRun.{nodesFit, widthsFrom, landings}
+use Rattle.changes.specs.Changes.{waiting}
 use Rattle.nodes.specs.Cells.{sizeIn, marksIn}
 use Rattle.nodes.specs.Rows.{entryAt, waitsTo, sizeOf}
 

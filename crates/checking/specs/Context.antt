@@ -1,8 +1,8 @@
 -- What the code has at hand of a sheet that was accepted, and what the checks answer by it.
-use Prim.Native.Nat.{ℕ, _+_, _-_, _<_}
 use mathlib.Core.Path.{_≡_}
 use mathlib.Core.Bool.{Bool, true, false, _&&_}
 use mathlib.Core.List.{List, []}
+use Prim.Native.Nat.{ℕ, _+_, _-_, _<_}
 use lib.ListN.{length, getD}
 use lib.Dec.{eqb}
 use Rattle.values.specs.Values.{fits}
@@ -14,14 +14,14 @@ use Rattle.soundness.specs.Soundness.{Sound}
 use Rattle.events.specs.declared.Inputs.{Inputs}
 use Rattle.events.specs.Cycle.{allBelow}
 use Rattle.events.specs.Calls.{inputOf}
-use Rattle.tables.specs.Holding.{Holding}
-use Rattle.engine.specs.declared.Shape.{Shape}
 use Rattle.nextstate.specs.declared.Registers.{Registers}
 use Rattle.nextstate.specs.Rules.{writes, someThread}
 use Rattle.nextstate.specs.Nodes.{nodeAt}
-use Rattle.threads.specs.Ruled.{Ruled}
 use Rattle.nextstate.specs.CycleRun.{widthsFrom, tablesFit, tablesIn, registersFit}
+use Rattle.threads.specs.Ruled.{Ruled}
+use Rattle.tables.specs.Holding.{Holding}
 use Rattle.nodes.specs.Rows.{rowsTo}
+use Rattle.engine.specs.declared.Shape.{Shape}
 
 -- ---- the module of a sheet, with widths, places of the wires' expressions, code, the threads' sizes and first rows, the masks of
 -- the registers that each thread writes, and of those that some thread does

@@ -25,13 +25,13 @@ use Rattle.events.specs.declared.Inputs.{Inputs}
 use Rattle.events.specs.Cycle.{codeOf, instrAt, isWait, wireVariable, allBelow}
 use Rattle.events.specs.Calls.{widthOf}
 use Rattle.events.proofs.Cycle.{absurd-bool, and-left, and-right, all-below, Below, at-end, before, below-suc}
-use Rattle.tables.specs.Holding.{Holding}
 use Rattle.nextstate.specs.declared.Registers.{Registers}
 use Rattle.nextstate.specs.Rules.{writes, someThread}
 use Rattle.nextstate.specs.Nodes.{nodeAt}
 use Rattle.nextstate.specs.Extraction.{Tables}
 use Rattle.nextstate.specs.Book.{Book, settle, settled, rowOf, entry, worth, taken, nextPlace, rise}
 use Rattle.nextstate.specs.CycleRun.{nodesFit, widthsFrom, landings, registerFits, rowFits, rowsFit, tablesIn, registersFit, handed, clocked, withRegister, storeRegisters, storePlaces, withWait, stored, wireValue, given}
+use Rattle.tables.specs.Holding.{Holding}
 use Rattle.nodes.specs.Cells.{sizeIn, nodesIn}
 use Rattle.nodes.specs.Rows.{rowsTo}
 use Rattle.clocking.specs.Running.{Reached, Planes, planes, valuesIn, putAll, settleAt, workBelow, Stand, Course, course, takeBelow, stepAt, handAt, keepRegisters, answerAt, clockAt}

@@ -4,8 +4,8 @@ use mathlib.Core.Bool.{Bool}
 use mathlib.Core.List.{List}
 use Prim.Native.Nat.{ℕ, _+_, _≤_, _<_}
 use native.Mathlib.Numerals.{add-one}
-use lib.ListN.{set}
 use borrow.Author.Tests.{lt-ltb, le-ltb}
+use lib.ListN.{set}
 use Rattle.values.specs.declared.Value.{Value}
 use Rattle.values.specs.Planes.{numberOf, isUnknown}
 use Rattle.evaluation.specs.Bytes.{evalAt}

@@ -19,8 +19,8 @@ use Rattle.evaluation.specs.Bytes.{evalAt}
 use Rattle.evaluation.specs.Evaluation.{eval}
 use Rattle.soundness.specs.Soundness.{Sound}
 use Rattle.events.specs.Cycle.{wireExpr, wireVariable}
-use Rattle.tables.specs.Holding.{Holding}
 use Rattle.nextstate.specs.Book.{put, settleBelow, settle}
+use Rattle.tables.specs.Holding.{Holding}
 use Rattle.clocking.specs.Running.{Planes, planes, valuesIn, putAt, putAll, startAt, settleAt}
 
 -- ---- planes of so many slots

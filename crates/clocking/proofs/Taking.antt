@@ -21,17 +21,17 @@ use Rattle.state.specs.Saved.{listOf}
 use Rattle.soundness.specs.Soundness.{Sound, SoundInstr, sound-wait, sound-set, sound-later, sound-go, sound-ifnot}
 use Rattle.events.specs.Cycle.{codeOf}
 use Rattle.events.proofs.Cycle.{absurd-bool, Below, at-end, before, below-suc}
-use Rattle.tables.specs.Holding.{Holding}
 use Rattle.nextstate.specs.declared.Registers.{Registers}
 use Rattle.nextstate.specs.Rules.{setsAt, defersAt, anyInstr, sets, defers, writes}
 use Rattle.nextstate.specs.Nodes.{nodeAt}
 use Rattle.nextstate.specs.Extraction.{Tables}
 use Rattle.nextstate.specs.Book.{Book, put, rowOf, entry, worth, taken}
 use Rattle.nextstate.specs.CycleRun.{widthsFrom, tablesIn, withWait, storePlaces}
+use Rattle.tables.specs.Holding.{Holding}
 use Rattle.nodes.specs.Rows.{entryAt, rowsTo}
+use Rattle.nodes.proofs.Rows.{row-number}
 use Rattle.clocking.specs.Running.{Planes, planes, valuesIn, putAt, takeRegister, takeRegisters, Stand, Course, course, rowAt, takeThread, takeBelow}
 use Rattle.clocking.proofs.Settling.{Long, put-long, values-put}
-use Rattle.nodes.proofs.Rows.{row-number}
 
 -- ---- what a thread writes is a register
 

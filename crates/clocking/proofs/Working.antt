@@ -28,9 +28,9 @@ use Rattle.nextstate.specs.Nodes.{Node, aVariable, aConstant, anUnknown, aUnary
 use Rattle.nextstate.specs.Book.{put, worth}
 use Rattle.nextstate.specs.CycleRun.{width?, nodeFits, nodesFit, widthsFrom, lands, landings, tablesIn}
 use Rattle.nodes.specs.Cells.{sizeIn, nodesIn, fitsAt, worthAt}
-use Rattle.clocking.specs.Running.{Planes, valuesIn, putAt, workBelow}
 use Rattle.nodes.proofs.Cells.{fits-list, fits-same, worth-same}
 use Rattle.nodes.proofs.FirstNodes.{widthsTo, widths-next, length-widths, fit-first, fit-node, landings-next, length-landings}
+use Rattle.clocking.specs.Running.{Planes, valuesIn, putAt, workBelow}
 use Rattle.clocking.proofs.Settling.{Long, put-long, values-put}
 
 -- ---- one node more at the end

@@ -1,8 +1,8 @@
 -- A clock cycle on planes of values, for tables of any contents. proofs/Settling, proofs/Working and proofs/Taking say that on a
 -- sheet that was accepted and tables that fit these are the cycle book's steps.
-use Prim.Native.Nat.{ℕ, zero, suc, _+_, _-_, _%_, _≤_, _<_}
 use mathlib.Core.Bool.{Bool, true, false}
 use mathlib.Core.List.{List}
+use Prim.Native.Nat.{ℕ, zero, suc, _+_, _-_, _%_, _≤_, _<_}
 use lib.ListN.{getD, set, replicate}
 use lib.Dec.{ltb}
 use Rattle.values.specs.declared.Value.{Value}

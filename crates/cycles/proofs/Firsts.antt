@@ -7,12 +7,12 @@ use native.Mathlib.Numerals.{add-one}
 use native.Mathlib.Omega.{arith}
 use lib.ListN.{length, getD, set, length-set}
 use lib.Dec.{ltb}
+use lib.Seq.{getD-set-same, getD-set-other}
 use Rattle.values.specs.Values.{pick}
+use Rattle.events.proofs.Cycle.{Below, at-end, before, below-suc}
 use Rattle.tables.specs.Readers.{atMost}
 use Rattle.tables.proofs.Readers.{atMost-most}
 use Rattle.nodes.specs.Rows.{waitsTo, sizeOf, rowsTo}
-use lib.Seq.{getD-set-same, getD-set-other}
-use Rattle.events.proofs.Cycle.{Below, at-end, before, below-suc}
 use Rattle.cycles.specs.Answers.{firstsTo}
 
 pub size-most : (sizes : List ℕ) (i : ℕ) → sizeOf sizes i ≤ 256

@@ -12,20 +12,20 @@ use Rattle.sheet.specs.Module.{Module}
 use Rattle.state.specs.Saved.{listOf}
 use Rattle.events.specs.declared.Inputs.{Inputs}
 use Rattle.events.proofs.Cycle.{and-left, and-right}
-use Rattle.tables.specs.Readers.{atMost}
-use Rattle.tables.proofs.Readers.{atMost-same}
-use Rattle.engine.specs.declared.Shape.{Shape}
 use Rattle.nextstate.specs.declared.Registers.{Registers}
 use Rattle.nextstate.specs.declared.Clocked.{Clocked}
 use Rattle.nextstate.proofs.Registers.{the-type, the-row}
 use Rattle.nextstate.proofs.Registers.Laws.{the-laws}
 use Rattle.nextstate.specs.Nodes.{nodeAt}
 use Rattle.nextstate.specs.CycleRun.{nodesFit, rowsFit, tablesFit, tablesIn, upperInputsFit, refused, clockedIn}
+use Rattle.tables.specs.Readers.{atMost}
+use Rattle.tables.proofs.Readers.{atMost-same}
+use Rattle.engine.specs.declared.Shape.{Shape}
 use Rattle.clocking.specs.Running.{course, clockAt}
-use Rattle.checking.specs.Context.{Context, TablesJudged, RegistersJudged, inputsRight}
-use Rattle.cycles.specs.Answers.{CycleAnswers}
 use Rattle.clocking.proofs.Clocking.{cycle-same}
+use Rattle.checking.specs.Context.{Context, TablesJudged, RegistersJudged, inputsRight}
 use Rattle.checking.proofs.Judging.{inputs-same}
+use Rattle.cycles.specs.Answers.{CycleAnswers}
 
 -- ---- registers passed by value: there are eight places, and 32 numbers and flags
 

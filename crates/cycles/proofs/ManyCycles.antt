@@ -20,19 +20,19 @@ use Rattle.events.specs.declared.Inputs.{Inputs}
 use Rattle.events.specs.Cycle.{allBelow}
 use Rattle.events.specs.Calls.{widthOf, inputOf}
 use Rattle.events.proofs.Cycle.{all-same}
-use Rattle.tables.specs.Readers.{atMost}
-use Rattle.tables.proofs.Readers.{atMost-same}
-use Rattle.engine.specs.declared.Shape.{Shape}
 use Rattle.nextstate.specs.declared.Registers.{Registers}
 use Rattle.nextstate.specs.declared.Clocked.{Clocked}
 use Rattle.nextstate.specs.CycleRun.{tablesIn, registersFit, upperInputsFit, refused, clockedIn}
-use Rattle.cycles.specs.declared.Cycled.{Cycled}
-use Rattle.checking.specs.Context.{Context, TablesJudged, RegistersJudged}
+use Rattle.tables.specs.Readers.{atMost}
+use Rattle.tables.proofs.Readers.{atMost-same}
+use Rattle.engine.specs.declared.Shape.{Shape}
 use Rattle.clocking.specs.Running.{Planes, putAt, putAll, Stand, course, Step, stepAt, answerAt, Reached}
-use Rattle.cycles.specs.Rounds.{itemAt, itemsFit, lastAt}
-use Rattle.cycles.specs.Many.{itemsFrom, inputsFrom, rowInputs, registersOf, ended, cyclesFrom, cyclesOf, cyclesIn, RowsAnswer, ManyAnswers}
 use Rattle.clocking.proofs.Settling.{Long}
 use Rattle.clocking.proofs.Handing.{blank, blank-long}
+use Rattle.checking.specs.Context.{Context, TablesJudged, RegistersJudged}
+use Rattle.cycles.specs.declared.Cycled.{Cycled}
+use Rattle.cycles.specs.Rounds.{itemAt, itemsFit, lastAt}
+use Rattle.cycles.specs.Many.{itemsFrom, inputsFrom, rowInputs, registersOf, ended, cyclesFrom, cyclesOf, cyclesIn, RowsAnswer, ManyAnswers}
 use Rattle.cycles.proofs.Rounds.{Held, held-first, row-more}
 
 -- ---- the items of a row

@@ -12,8 +12,8 @@ use Rattle.events.specs.declared.Inputs.{Inputs}
 use Rattle.nextstate.specs.declared.Registers.{Registers}
 use Rattle.nextstate.specs.declared.Clocked.{Clocked}
 use Rattle.nextstate.specs.Extraction.{rightLengths, expressions}
-use Rattle.extraction.specs.Extracting.{numberIn}
 use Rattle.nextstate.specs.CycleRun.{tablesIn, extractable, clockedIn, cycleRun, refused}
+use Rattle.extraction.specs.Extracting.{numberIn}
 use Rattle.cycles.specs.declared.Cycled.{Cycled}
 use Rattle.cycles.specs.Many.{ended, cyclesIn, cyclesOr, cyclesRun}
 use Rattle.cycles.proofs.Sheets.{Numbered, number-same, cycle-accepted}

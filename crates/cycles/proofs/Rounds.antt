@@ -7,8 +7,8 @@ use mathlib.Core.List.{List, []}
 use Prim.Native.Nat.{ℕ, _+_, _-_, _≤_, _<_}
 use native.Mathlib.Decide.{ℕ-discrete, decLt}
 use native.Mathlib.Omega.{arith}
-use lib.Pow.{pow-lt}
 use borrow.Author.Tests.{ne-eqb, lt-ltb, le-ltb, le-leb}
+use lib.Pow.{pow-lt}
 use lib.ListN.{length, getD}
 use lib.Dec.{eqb}
 use Rattle.values.specs.declared.Value.{Value}
@@ -26,9 +26,6 @@ use Rattle.events.specs.declared.Inputs.{Inputs}
 use Rattle.events.specs.Cycle.{variables, codeOf, instrAt, isWait, wireVariable, allBelow}
 use Rattle.events.specs.Calls.{widthOf, inputOf}
 use Rattle.events.proofs.Cycle.{and-left, and-right, all-below, below-all, none-below}
-use Rattle.tables.specs.Holding.{Holding}
-use Rattle.threads.specs.Ruled.{Ruled}
-use Rattle.settling.proofs.Settle.{settle-other, settle-below, settle-agree, settle-fits}
 use Rattle.nextstate.specs.declared.Registers.{Registers}
 use Rattle.nextstate.specs.declared.Clocked.{Clocked}
 use Rattle.nextstate.specs.Rules.{writes, someThread}
@@ -36,14 +33,17 @@ use Rattle.nextstate.specs.Nodes.{nodeAt}
 use Rattle.nextstate.specs.Extraction.{Tables}
 use Rattle.nextstate.specs.Book.{settle, settled, put}
 use Rattle.nextstate.specs.CycleRun.{nodesFit, widthsFrom, rowsFit, tablesFit, tablesIn, registersFit, upperInputsFit, handed, given, refused, clockedIn}
+use Rattle.threads.specs.Ruled.{Ruled}
+use Rattle.settling.proofs.Settle.{settle-other, settle-below, settle-agree, settle-fits}
+use Rattle.tables.specs.Holding.{Holding}
 use Rattle.nodes.specs.Rows.{rowsTo}
 use Rattle.clocking.specs.Running.{Planes, planes, valuesIn, putAt, putAll, settleAt, Stand, Course, course, keepRegisters, Step, stepAt, answerAt, Reached}
-use Rattle.cycles.specs.Many.{registersOf}
 use Rattle.clocking.proofs.Settling.{Long, put-long, values-put, all-long, settle-all}
 use Rattle.clocking.proofs.Taking.{writes-register}
 use Rattle.clocking.proofs.Handing.{AllPut, all-put, blank, blank-long, blank-values}
 use Rattle.clocking.proofs.Keeping.{keep-twice, AllKept, all-kept}
 use Rattle.clocking.proofs.Clocking.{stepped-same, nodes-long, last, end-other, end-fits, end-eight, end-waits}
+use Rattle.cycles.specs.Many.{registersOf}
 
 -- ---- what is handed, by the kinds of variable
 

@@ -21,27 +21,27 @@ use Rattle.soundness.proofs.Soundness.{sound}
 use Rattle.events.specs.declared.Inputs.{Inputs}
 use Rattle.events.specs.Cycle.{anyBelow}
 use Rattle.events.proofs.Cycle.{any-same}
-use Rattle.tables.specs.Readers.{atMost, readersBelow, watchedBelow}
-use Rattle.tables.specs.Holding.{Holding}
-use Rattle.tables.proofs.Readers.{atMost-same}
-use Rattle.tables.proofs.Holding.{holding-filled}
-use Rattle.engine.specs.declared.Shape.{Shape}
-use Rattle.refinement.specs.Refinement.{PlanOf}
-use Rattle.rules.specs.Writers.{plainBelow, laterBelow}
-use Rattle.rules.proofs.Writing.{plain-law, later-law}
-use Rattle.extraction.specs.Extracting.{numberIn}
-use Rattle.extraction.proofs.Extracting.{refused-some}
-use Rattle.simulator.specs.Filled.{shapeOf, widthsEnd, filled}
-use Rattle.simulator.proofs.Reading.{ReadAs, accepted, refused, read-as}
-use Rattle.simulator.proofs.Plan.{widths-inside, plan-of}
 use Rattle.nextstate.specs.declared.Registers.{Registers}
 use Rattle.nextstate.specs.declared.Clocked.{Clocked}
 use Rattle.nextstate.specs.Rules.{writes, someThread, rule}
 use Rattle.nextstate.proofs.Numbers.{extracted-rule}
-use Rattle.threads.proofs.Ruled.{ruled}
 use Rattle.nextstate.specs.Extraction.{Tables, extracted, expressions, rightLengths}
 use Rattle.nextstate.specs.CycleRun as run
 use Rattle.nextstate.specs.CycleRun.{tablesIn, extractable, clockedOr, clockedIn, cycleRun}
+use Rattle.threads.proofs.Ruled.{ruled}
+use Rattle.tables.specs.Readers.{atMost, readersBelow, watchedBelow}
+use Rattle.tables.specs.Holding.{Holding}
+use Rattle.tables.proofs.Readers.{atMost-same}
+use Rattle.tables.proofs.Holding.{holding-filled}
+use Rattle.rules.specs.Writers.{plainBelow, laterBelow}
+use Rattle.rules.proofs.Writing.{plain-law, later-law}
+use Rattle.extraction.specs.Extracting.{numberIn}
+use Rattle.extraction.proofs.Extracting.{refused-some}
+use Rattle.engine.specs.declared.Shape.{Shape}
+use Rattle.refinement.specs.Refinement.{PlanOf}
+use Rattle.simulator.specs.Filled.{shapeOf, widthsEnd, filled}
+use Rattle.simulator.proofs.Reading.{ReadAs, accepted, refused, read-as}
+use Rattle.simulator.proofs.Plan.{widths-inside, plan-of}
 use Rattle.checking.specs.Context.{Context}
 use Rattle.cycles.specs.Answers.{firstsTo}
 use Rattle.cycles.proofs.Firsts.{firsts-at}

@@ -1,17 +1,17 @@
 -- What the cycle run answers on a sheet whose tables are filled, and the first rows of its threads.
-use Prim.Native.Nat.{ℕ, zero, suc}
 use mathlib.Core.Path.{_≡_}
 use mathlib.Core.Bool.{Bool}
 use mathlib.Core.List.{List}
+use Prim.Native.Nat.{ℕ, zero, suc}
 use lib.ListN.{set}
 use Rattle.sheet.specs.Expression.{Expr}
 use Rattle.sheet.specs.Module.{Module}
 use Rattle.events.specs.declared.Inputs.{Inputs}
-use Rattle.engine.specs.declared.Shape.{Shape}
 use Rattle.nextstate.specs.declared.Registers.{Registers}
 use Rattle.nextstate.specs.declared.Clocked.{Clocked}
 use Rattle.nextstate.specs.CycleRun.{tablesIn, clockedIn}
 use Rattle.nodes.specs.Rows.{rowsTo}
+use Rattle.engine.specs.declared.Shape.{Shape}
 use Rattle.checking.specs.Context.{Context}
 
 abbrev pub CycleAnswers : List ℕ → List ℕ → List ℕ → List ℕ → List ℕ → List ℕ → List ℕ → List Bool → Shape → List ℕ → List ℕ → Registers → Inputs → Clocked → Type 0

@@ -1,9 +1,9 @@
 -- Many clock cycles in one call: rows of inputs, a cycle run for each row. It is defined by the single cycle runs, each handed the
 -- registers and places that the last one gave back, up to the first that is refused.
-use Prim.Native.Nat.{ℕ, zero, suc, _+_, _-_, _*_, _/_}
 use mathlib.Core.Path.{_≡_}
 use mathlib.Core.Bool.{Bool, true, false}
 use mathlib.Core.List.{List, [], _∷_, _++_}
+use Prim.Native.Nat.{ℕ, zero, suc, _+_, _-_, _*_, _/_}
 use lib.ListN.{length, getD}
 use lib.Dec.{eqb}
 use Rattle.values.specs.Values.{pick}
@@ -12,13 +12,13 @@ use Rattle.sheet.specs.Expression.{Expr}
 use Rattle.sheet.specs.Module.{Module}
 use Rattle.state.specs.Saved.{listOf}
 use Rattle.events.specs.declared.Inputs.{Inputs}
-use Rattle.engine.specs.declared.Shape.{Shape}
 use Rattle.nextstate.specs.declared.Registers.{Registers}
 use Rattle.nextstate.specs.declared.Clocked.{Clocked}
 use Rattle.nextstate.specs.Extraction.{Tables, rightLengths}
 use Rattle.nextstate.specs.CycleRun.{tablesFit, tablesIn, registersFit, refused, clockedIn, extractable, cycleRun}
-use Rattle.cycles.specs.declared.Cycled.{Cycled}
+use Rattle.engine.specs.declared.Shape.{Shape}
 use Rattle.checking.specs.Context.{Context, TablesJudged}
+use Rattle.cycles.specs.declared.Cycled.{Cycled}
 
 -- ---- rows of 16: item 0, the clock's, isn't looked at, item v + 1 is input item v of the cycle run
 

@@ -1,18 +1,18 @@
 -- Rows of inputs one after the other, on planes that stay from row to row. proofs/Rounds says that on a sheet that was accepted and
 -- tables that fit this is cycle run after cycle run.
-use Prim.Native.Nat.{ℕ, _+_, _-_}
 use mathlib.Core.Bool.{Bool, false}
 use mathlib.Core.List.{List}
+use Prim.Native.Nat.{ℕ, _+_, _-_}
 use lib.ListN.{getD}
 use lib.Dec.{eqb}
 use Rattle.values.specs.declared.Value.{Value}
 use Rattle.values.specs.declared.Value.the-variants.{Known, Unknown}
 use Rattle.values.specs.Values.{pick, fits}
 use Rattle.events.specs.Cycle.{allBelow}
-use Rattle.engine.specs.declared.Shape.{Shape}
 use Rattle.nextstate.specs.declared.Registers.{Registers}
 use Rattle.nextstate.specs.declared.Clocked.{Clocked}
 use Rattle.nextstate.specs.CycleRun.{refused}
+use Rattle.engine.specs.declared.Shape.{Shape}
 use Rattle.clocking.specs.Running.{Stand, answerAt}
 
 -- ---- a row, whose input 1 stands at place i

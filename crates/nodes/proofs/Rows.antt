@@ -4,6 +4,8 @@ use mathlib.Core.Bool.{Bool, false}
 use mathlib.Core.List.{List}
 use Prim.Native.Nat.{ℕ, zero, suc, _+_, _≤_, _<_}
 use native.Mathlib.Omega.{arith}
+use native.Mathlib.Nat.{le-refl}
+use native.Mathlib.Numerals.{add-one}
 use borrow.Author.Tests.{lt-ltb, le-ltb}
 use lib.ListN.{length, getD}
 use lib.Dec.{ltb}
@@ -15,17 +17,15 @@ use Rattle.pseudocode.specs.declared.Instruction.{Instruction}
 use Rattle.pseudocode.specs.declared.Instruction.the-variants.{Act}
 use Rattle.pseudocode.specs.declared.Action.the-variants.{Go}
 use Rattle.pseudocode.specs.Fetching.{fetchAt}
-use Rattle.events.specs.Cycle.{codeOf, instrAt, isWait}
-use Rattle.changes.specs.Changes.{waiting}
-use Rattle.tables.specs.Holding.{Fetched, a-wait, a-set, a-later, a-go, an-ifnot, Holding}
-use Rattle.nodes.specs.Rows.{waitsTo, sizeOf, rowsTo}
-use native.Mathlib.Nat.{le-refl}
 use Rattle.soundness.specs.Soundness.{Sound}
-use Rattle.tables.proofs.Readers.{atMost-same}
+use Rattle.events.specs.Cycle.{codeOf, instrAt, isWait}
 use Rattle.nextstate.specs.Rules.{one, waitsBefore, waitsBelow}
 use Rattle.nextstate.specs.Extraction.{Tables}
 use Rattle.nextstate.specs.Book.{rowOf}
-use native.Mathlib.Numerals.{add-one}
+use Rattle.tables.specs.Holding.{Fetched, a-wait, a-set, a-later, a-go, an-ifnot, Holding}
+use Rattle.tables.proofs.Readers.{atMost-same}
+use Rattle.changes.specs.Changes.{waiting}
+use Rattle.nodes.specs.Rows.{waitsTo, sizeOf, rowsTo}
 
 -- ---- waits
 

@@ -1,8 +1,8 @@
 -- One node of lent tables, as the code reads it, judges it and works it out. The widths and values of the nodes before it come
 -- from functions of any kind; proofs/Cells says that with those of a list they are nextstate's nodeFits, nodeWidth and nodeValue.
-use Prim.Native.Nat.{ℕ, _-_, _^_, _%_}
 use mathlib.Core.Bool.{Bool, false, _&&_}
 use mathlib.Core.List.{List}
+use Prim.Native.Nat.{ℕ, _-_, _^_, _%_}
 use lib.ListN.{getD}
 use lib.Dec.{ltb, leb, eqb}
 use Rattle.values.specs.declared.Value.{Value}

@@ -1,13 +1,13 @@
 -- The rows of lent tables: their entries, and the number of the row of each wait.
-use Prim.Native.Nat.{ℕ, zero, suc, _+_, _*_}
 use mathlib.Core.List.{List}
+use Prim.Native.Nat.{ℕ, zero, suc, _+_, _*_}
 use lib.ListN.{getD}
 use lib.Dec.{ltb}
 use Rattle.values.specs.Values.{pick}
 use Rattle.pseudocode.specs.Fetching.{fetchAt}
+use Rattle.nextstate.specs.Rules.{one}
 use Rattle.tables.specs.Readers.{atMost}
 use Rattle.changes.specs.Changes.{waiting}
-use Rattle.nextstate.specs.Rules.{one}
 
 -- "Rows, by thread and wait: 32 register nodes .., then the place."
 unfoldable pub entryAt : List ℕ → ℕ → ℕ → ℕ

@@ -257,6 +257,8 @@ pub fn entry_at(rows: &[u16], first: u16, k: u16, c: u8) -> u16
     word_at(rows, 33 * row + c as usize)
 }
 
+// ---- counts
+
 // How many inputs there are besides the clock.
 pub fn upper(inputs: u8) -> u8
     ensures { λ r. ⌜ r ≡ inputs - 1 ⌝ }
