@@ -358,16 +358,16 @@ fn store(words: &mut [u16], meant: bool, i: usize, w: u16) {
     }
 }
 
-// `W`: stores one word.
+// `W`: stores one word. The record has the form of a value: a flag, the low half an index, the high half a word.
 fn do_word(nodes: &mut [u16], rows: &mut [u16]) -> bool {
-    let mut bytes = [0u8; 5];
-    if !take(&mut bytes) || bytes[0] > 1 {
+    let v = read_input();
+    if !v.found {
         return broken();
     }
-    let i = word(bytes[1], bytes[2]);
-    let w = word(bytes[3], bytes[4]) as u16;
-    store(nodes, bytes[0] == 0, i, w);
-    store(rows, bytes[0] == 1, i, w);
+    let i = (v.value % 65536) as usize;
+    let w = (v.value / 65536 % 65536) as u16;
+    store(nodes, !v.unknown, i, w);
+    store(rows, v.unknown, i, w);
     say(b"word\n");
     true
 }

@@ -11,6 +11,7 @@ use crate::machine::Rest;
 use crate::report;
 use crate::running::plan_of;
 use crate::say::say;
+use crate::showing::extracted;
 use crate::words::Options;
 use libc::STDOUT_FILENO;
 use sheet::Layout;
@@ -272,7 +273,7 @@ fn conclude(s: Sides) -> u8 {
 pub fn compare(o: Options, sheet: &[u8], layout: Layout, widths: &[u8], names: &[u8; 2560]) -> u8 {
     let mut nodes = [0u16; 16384];
     let mut rows = [0u16; 1056];
-    if extraction::extract(sheet, &mut nodes, &mut rows) != 0 {
+    if !extracted(sheet, &mut nodes, &mut rows) {
         report::refuse_extraction(o.sheet, sheet);
         return 1;
     }

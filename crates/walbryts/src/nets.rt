@@ -2,6 +2,7 @@
 use crate::files::flush;
 use crate::report;
 use crate::say::say;
+use crate::showing::extracted;
 use crate::showing::find_waits;
 use libc::STDOUT_FILENO;
 use sheet::Layout;
@@ -135,7 +136,7 @@ fn show(sheet: &[u8], nodes: &[u16; 16384], rows: &[u16; 1056], names: &[u8; 256
 pub fn extract(index: usize, sheet: &[u8], names: &[u8; 2560], dot: bool) -> u8 {
     let mut nodes = [0u16; 16384];
     let mut rows = [0u16; 1056];
-    if extraction::extract(sheet, &mut nodes, &mut rows) != 0 {
+    if !extracted(sheet, &mut nodes, &mut rows) {
         report::refuse_extraction(index, sheet);
         return 1;
     }

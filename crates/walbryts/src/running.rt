@@ -10,6 +10,7 @@ use crate::machine::Plan;
 use crate::machine::Rest;
 use crate::report;
 use crate::say::say;
+use crate::showing::extracted;
 use crate::words::Options;
 use libc::STDERR_FILENO;
 use libc::STDOUT_FILENO;
@@ -177,7 +178,7 @@ fn run_on(o: Options, p: Plan, sheet: &[u8], widths: &[u8], names: &[u8; 2560], 
     display::begin_wave(p, widths, names, st);
     let mut nodes = [0u16; 16384];
     let mut rows = [0u16; 1056];
-    if o.by_expressions && extraction::extract(sheet, &mut nodes, &mut rows) != 0 {
+    if o.by_expressions && !extracted(sheet, &mut nodes, &mut rows) {
         report::refuse_extraction(o.sheet, sheet);
         return 1;
     }

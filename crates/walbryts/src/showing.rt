@@ -96,12 +96,17 @@ pub fn find_waits(sheet: &[u8], layout: Layout, told: bool, heads: &mut [usize; 
 
 // ---- `check`
 
+// The nodes and rows of a sheet. Does extraction accept it?
+pub fn extracted(sheet: &[u8], nodes: &mut [u16; 16384], rows: &mut [u16; 1056]) -> bool {
+    extraction::extract(sheet, nodes, rows) == 0
+}
+
 // Whether extraction accepts it, and how many nodes and rows there are.
 fn say_extraction(sheet: &[u8], waits: usize) {
     let mut nodes = [0u16; 16384];
     let mut rows = [0u16; 1056];
     io::write_all(STDOUT_FILENO, b"extraction: ");
-    if extraction::extract(sheet, &mut nodes, &mut rows) != 0 {
+    if !extracted(sheet, &mut nodes, &mut rows) {
         report::unextracted(STDOUT_FILENO, sheet);
         return;
     }
