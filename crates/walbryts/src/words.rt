@@ -58,7 +58,7 @@ fn nothing() -> Options {
     }
 }
 
-// Does the word stand in the list at a place, with a blank behind it?
+// Does the word stand in the list at a place, with a blank behind it and none inside?
 fn stands(list: &[u8], at: usize, word: &[u8]) -> bool {
     let mut j = at;
     let mut i = 0;
@@ -67,6 +67,9 @@ fn stands(list: &[u8], at: usize, word: &[u8]) -> bool {
             return false;
         }
         if list[j] != word[i] {
+            return false;
+        }
+        if word[i] == b' ' {
             return false;
         }
         j += 1;

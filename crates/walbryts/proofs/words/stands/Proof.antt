@@ -25,6 +25,8 @@ stands-spec =
     (λ c. search needs)
     (λ c. search needs)
     (λ c. search needs)
+    (λ c. search needs)
+    (λ c. search needs)
     (λ c. tt)
     (λ c. search needs)
     (λ c. search needs)
