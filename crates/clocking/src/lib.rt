@@ -61,7 +61,7 @@ fn start_at(starts: &[usize; 32], k: usize) -> usize
 }
 
 // Settles the wires, from 0 up.
-pub fn settle(
+fn settle(
     sheet: &[u8],
     widths: &[u8],
     starts: &[usize; 32],
@@ -88,7 +88,7 @@ pub fn settle(
 }
 
 // Works out the first `count` nodes, each once and in order.
-pub fn work_out<'a>(
+fn work_out<'a>(
     nodes: &[u16],
     sizes: &[u8; 4096],
     value: &'a [u32; 80],
@@ -257,7 +257,7 @@ fn take_thread<'a>(
 }
 
 // Registers and places take the values of their nodes.
-pub fn take<'a>(
+fn take<'a>(
     sheet: &[u8],
     code: &[u16; 4096],
     rows: &[u16],
@@ -327,7 +327,7 @@ fn keep_register<'a>(
 }
 
 // The registers that some thread writes take their variables' values.
-pub fn keep_registers<'a>(
+fn keep_registers<'a>(
     written: u32,
     inputs: u8,
     registers: u8,
@@ -361,7 +361,7 @@ fn put_kept(kept: &mut [u32; 32], unsure: &mut [bool; 32], i: usize, a: Value)
 }
 
 // Copies the values of `n` variables, from the variable `inputs + registers` on, into 32 slots.
-pub fn keep_wires<'a>(
+fn keep_wires<'a>(
     inputs: u8,
     registers: u8,
     n: u8,
