@@ -2,12 +2,13 @@
 use mathlib.Core.Path.{_≡_, refl, ap, _∙_}
 use Prim.Native.Nat.{ℕ, _+_, _-_, _≤_, _<_}
 use native.Mathlib.Omega.{arith}
-use mathlib.Core.Bool.{Bool, true, false, _||_, or-true, false≢true}
+use mathlib.Core.Bool.{Bool, true, false, _||_, or-true}
 use mathlib.Core.List.{List}
 use lib.ListN.{getD}
 use lib.Dec.{ltb, eqb}
 use borrow.Author.Tests.{lt-ltb, le-ltb, eq-eqb, ne-eqb}
 use Rattle.values.specs.Values.{pick}
+use Rattle.pseudocode.specs.declared.EdgeTerms.{EdgeTerms}
 use Rattle.pseudocode.specs.declared.Action.{Action}
 use Rattle.pseudocode.specs.declared.Instruction.{Instruction}
 use Rattle.pseudocode.specs.declared.Instruction.the-variants.{Wait, Act}
@@ -16,7 +17,6 @@ use Rattle.pseudocode.proofs.Fetching.{fetch-thread}
 use Rattle.masks.specs.Masks.{anyMark}
 use Rattle.events.specs.Calls.{spend}
 use Rattle.changes.specs.Scene.{Scene}
-use Rattle.changes.specs.Changes.{waiting}
 use Rattle.changes.proofs.Firing.{placed-past}
 use Rattle.engine.specs.Live.{Plan, Live, live}
 use Rattle.engine.specs.Acting.{act, settle, commit}
@@ -45,11 +45,6 @@ module _ (n : ℕ) (l : Live) where
 module _ (q : Plan) (count : ℕ) where
   -- ---- takeThread
 
-  instr-wait : (i p : ℕ) (a : Instruction) (l : Live) → waiting a ≡ true → taken 33 l ≡ takeInstr q count i p a l
-  unfolding takeInstr waiting
-  instr-wait i p (Wait t) l w = refl
-  instr-wait i p (Act a) l w = absurd (false≢true w)
-
   module _ (i : ℕ) (l : Live) where
     -- Outside the table stands `go 0`, and there is no such thread to be placed.
     pub thread-past : 8 ≤ i → taken (spend count) l ≡ takeThread q count i l
@@ -64,9 +59,10 @@ module _ (q : Plan) (count : ℕ) where
         (unless-same count l)
 
     module _ (p : ℕ) (e : getD (l .scene .places) i 0 ≡ p) where
-      pub thread-wait : waiting (fetchAt (q .tables .sheet) (q .tables .code) i p) ≡ true → taken 33 l ≡ takeThread q count i l
-      unfolding takeThread
-      thread-wait w = rw e (instr-wait i p _ l w)
+      pub thread-wait : (t : EdgeTerms) → fetchAt (q .tables .sheet) (q .tables .code) i p ≡ Wait t
+          → taken 33 l ≡ takeThread q count i l
+      unfolding takeThread takeInstr
+      thread-wait t f = rw (e, f)
 
       pub thread-full : (a : Action) → fetchAt (q .tables .sheet) (q .tables .code) i p ≡ Act a → count ≡ 4294967295
           → taken 36 l ≡ takeThread q count i l

@@ -4,6 +4,7 @@
 use changes::Made;
 use changes::Marks;
 use pseudocode::Action;
+use pseudocode::Instruction;
 use sheet::byte_at;
 use values::Value;
 ghost use mathlib.Core.Path.{_≡_};
@@ -14,13 +15,11 @@ ghost use lib.ListN.{getD};
 ghost use Rattle.values.specs.Values.{pick, holds};
 ghost use Rattle.values.specs.Planes.{valueAt};
 ghost use Rattle.evaluation.specs.Bytes.{evalAt};
-ghost use Rattle.pseudocode.specs.declared.Instruction.the-variants.{Act};
-ghost use Rattle.pseudocode.specs.Fetching.{decode, fetchAt};
 ghost use Rattle.masks.specs.Masks.{bits};
 ghost use Rattle.events.specs.Calls.{spend};
 ghost use Rattle.events.specs.Cycle.{anyBelow};
 ghost use Rattle.changes.specs.Scene.{Scene, tables, scene};
-ghost use Rattle.changes.specs.Changes.{waiting, after, placed, changing, store};
+ghost use Rattle.changes.specs.Changes.{after, placed, changing, store};
 ghost use Rattle.engine.specs.Live.{live, planOf, standing};
 ghost use Rattle.engine.specs.Acting.{defer, act, settle, putRegister, putPending, commit, putInputs, feed};
 ghost use Rattle.engine.specs.Acting.{taken, takeThread, takeWire, takeCommit, take};
@@ -67,13 +66,6 @@ fn narrow(n: usize) -> u8
 {
     let b = n % 256;
     b as u8
-}
-
-// A word as a place.
-fn wide_word(w: u16) -> usize
-    ensures { λ r. ⌜ r ≡ w ⌝ }
-{
-    w as usize
 }
 
 // 36 where the count is full, else 0.
@@ -629,36 +621,6 @@ pub fn feed<'a>(
     )
 }
 
-// The action that two words of the code table stand for; there is none where they stand for a wait.
-fn action_of(w: u16, x: u16) -> Action
-    ensures { λ r. ⌜ ((sheet : List ℕ) → (w % 8 ≡ 0 → ⊥) → decode sheet w x ≡ Act r) ⌝ }
-{
-    let kind = w % 8;
-    let at = wide_word(w / 8);
-    let goal = wide_word(x);
-    let target = (x % 256) as u8;
-    match kind {
-        1 => Action::Set { target, at },
-        2 => Action::Later { target, at },
-        3 => Action::Go(goal),
-        _ => Action::IfNot { goal, at },
-    }
-}
-
-// The action at a place of a thread, where no wait stands there.
-fn action_at(code: &[u16; 4096], i: usize, p: u8) -> Action
-    ensures { λ r. ⌜
-        ((sheet : List ℕ) → waiting (fetchAt sheet (now (code .entry)) i p) ≡ false
-        → fetchAt sheet (now (code .entry)) i p ≡ Act r)
-        ⌝ }
-{
-    if 8 <= i {
-        return Action::Go(0);
-    }
-    let k = 512 * i + 2 * wide(p);
-    action_of(code[k], code[k + 1])
-}
-
 // A choice of thread `i`: refused where it finds the thread at a wait, else the instruction is taken apart and run.
 fn take_thread(
     sheet: &[u8],
@@ -695,10 +657,10 @@ fn take_thread(
         };
     }
     let p = places[i];
-    if changes::waits(sheet, code, i, p) {
+    let instruction = pseudocode::fetch(sheet, code, i, wide(p));
+    let Instruction::Act(action) = instruction else {
         return Taken { number: 33, marks };
-    }
-    let action = action_at(code, i, p);
+    };
     if count == 4294967295 {
         return Taken { number: 36, marks };
     }

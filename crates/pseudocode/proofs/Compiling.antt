@@ -1,5 +1,5 @@
--- The law of the code table: for a sheet that is accepted, what is fetched at each place of each thread is the instruction
--- at that place of the thread's translation, and the sizes are those of the threads.
+-- The law of the code table, specs/Translated: for a sheet that is accepted, what is fetched at each place of each thread is the
+-- instruction at that place of the thread's translation, and the sizes are those of the threads (`compile-law`).
 use mathlib.Core.Path.{_≡_, refl, ap, _∙_}
 use Prim.Native.Nat.{ℕ, zero, suc, _+_, _-_, _≤_, _<_}
 use native.Mathlib.Omega.{arith}
@@ -13,7 +13,7 @@ use Rattle.values.specs.Values.{pick}
 use Rattle.sheet.specs.Reading.{ok, within}
 use Rattle.sheet.specs.Expression.{located}
 use Rattle.sheet.specs.Statement.{Stmt, empty, size, Scope, Body, readStmt}
-use Rattle.sheet.specs.Module.{Listed, Head, readWidths, readHead, readWires, readThreads, Sheet, readSheet}
+use Rattle.sheet.specs.Module.{Listed, Head, readWidths, readHead, readWires, readThreads, readSheet}
 use Rattle.sheet.proofs.Reading.{bind-ok, check-ok, ok-injective, within-ok}
 use Rattle.sheet.proofs.Statements.{derive-stmt}
 use Rattle.pseudocode.specs.declared.Filled.{Filled}
@@ -22,23 +22,11 @@ use Rattle.pseudocode.specs.Instruction.{instructionOf}
 use Rattle.pseudocode.specs.Filling.{cell, filling, filled, fillForever, fillAt}
 use Rattle.pseudocode.specs.Compiling.{Compiled, compiled, compileThread, compileFrom, threadCount, compileAt}
 use Rattle.pseudocode.specs.Fetching.{fetchAt}
+use Rattle.pseudocode.specs.Translated.{CompileLaw}
+pub use Rattle.pseudocode.specs.Translated.{Compiles}
 use Rattle.pseudocode.proofs.Translation.{threadCode-size}
 use Rattle.pseudocode.proofs.Filling.{Frame, frame-none, frame-then}
 use Rattle.pseudocode.proofs.Holding.{Holds, holds-before, holds-at, forever-fills, fills}
-
--- ---- the statement
-
--- A table and sizes are those of these threads: each thread's size, 0 past the last, and at each place its instruction.
-pub record Compiles (s : List ℕ) (threads : List (Stmt ℕ)) (c : Compiled) : Type 0 where
-  pub size-of : (t : ℕ) → t < length threads → getD (c .sizes) t 0 ≡ size (getD threads t empty) + 1
-  pub no-size : (t : ℕ) → length threads ≤ t → getD (c .sizes) t 0 ≡ 0
-  pub fetched : (t p : ℕ) → t < length threads → p < size (getD threads t empty) + 1
-      → fetchAt s (c .code) t p ≡ instructionOf (getD (threadCode (getD threads t empty)) p (go 0))
-
--- Of every sheet that is accepted, whatever the table held before.
-abbrev pub CompileLaw : Type 0
-CompileLaw = (s code : List ℕ) (r : Sheet ℕ) → readSheet (located s) s ≡ ok r → length code ≡ 4096
-    → Compiles s (r .contents .threads) (compileAt s (length (r .contents .threads)) (r .body) code)
 
 -- ---- the ways through the code's loop
 

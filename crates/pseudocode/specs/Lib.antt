@@ -4,3 +4,4 @@ pub mod Skipping
 pub mod Filling
 pub mod Compiling
 pub mod Fetching
+pub mod Translated
