@@ -38,7 +38,7 @@ encodeTerms [] = []
 encodeTerms (t ∷ ts) = edgeNumber (t .edge) ∷ t .variable ∷ encodeTerms ts
 
 -- "Statement bits: 0 target byte; 1 expression; 2 and 3 statements; 4 a wait, being a count (1 to 8) and so many
--- pairs; 5 (later) and 6 (loop) have no field."
+-- pairs of edge (0 any change, 1 posedge, 2 negedge) and variable; 5 (later) and 6 (loop) have no field."
 unfoldable pub encodeStmt : Stmt Expr → List ℕ
 encodeStmt empty = 0x00 ∷ []
 encodeStmt (assign t e) = 0x03 ∷ t ∷ encodeExpr e
@@ -62,8 +62,9 @@ unfoldable pub encodeThreads : List (Stmt Expr) → List ℕ
 encodeThreads [] = []
 encodeThreads (b ∷ bs) = encodeStmt b ++ encodeThreads bs
 
--- "Four bytes: inputs, registers, wires, threads. Then one width byte for each variable: inputs, registers, wires
--- [..]. Then an expression for each wire, a statement for each thread, and nothing more."
+-- "Four bytes: inputs (1 to 16), registers (1 to 32), wires (0 to 32), threads (1 to 8). Then one width byte for each
+-- variable (1 to 32): inputs, registers, wires, numbered from 0 in that order. [..] Then an expression for each wire, a
+-- statement for each thread, and nothing more."
 unfoldable pub encode : Module Expr → List ℕ
 encode m =
     m .scope .inputs ∷ m .scope .registers ∷ length (m .wires) ∷ length (m .threads) ∷

@@ -1,1 +1,1 @@
-// Document 01's starred samples: the table stands in proofs/Table.antt.
+// Document 01's starred samples: the table stands in specs/Table.antt.

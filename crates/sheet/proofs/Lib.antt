@@ -8,5 +8,6 @@ pub mod Nodes
 pub mod Forms
 pub mod Sections
 pub mod Samples
+pub mod Order
 pub mod Walks
 pub mod Stages

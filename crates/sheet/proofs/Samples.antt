@@ -55,16 +55,16 @@ a-wire = refl
 -- ---- the numbers, with their places
 
 -- A sheet of one input and the statement s, over a register of width 8.
-one : List ℕ → List ℕ
+unfoldable pub one : List ℕ → List ℕ
 one s = 0x01 ∷ 0x01 ∷ 0x00 ∷ 0x01 ∷ 0x01 ∷ 0x08 ∷ s
 
--- if on n times ~ over v1, with an empty body
-nots : ℕ → List ℕ
-nots zero = 0x02 ∷ 0x01 ∷ 0x00 ∷ []
-nots (suc n) = 0x11 ∷ 0x01 ∷ nots n
+-- n times ~, then s
+unfoldable pub nots : ℕ → List ℕ → List ℕ
+nots zero s = s
+nots (suc n) s = 0x11 ∷ 0x01 ∷ nots n s
 
 -- n times forever, then s
-forevers : ℕ → List ℕ → List ℕ
+unfoldable pub forevers : ℕ → List ℕ → List ℕ
 forevers n s = replicate n 0x44 ++ s
 
 numbers :
@@ -79,7 +79,7 @@ numbers :
     × (read (one (0x04 ∷ [])) ≡ no 5 6)
     × (read (one (0x10 ∷ 0x09 ∷ [])) ≡ no 6 7)
     × (read (one (0x06 ∷ 0x0C ∷ 0x04 ∷ 0x10 ∷ 0x00 ∷ 0x00 ∷ 0x00 ∷ 0x00 ∷ [])) ≡ no 6 9)
-    × (read (one (0x06 ∷ nots 16)) ≡ no 7 39)
+    × (read (one (0x06 ∷ nots 16 (0x02 ∷ 0x01 ∷ 0x00 ∷ []))) ≡ no 7 39)
     × (read (one (forevers 64 (0x00 ∷ []))) ≡ no 7 70)
     × (read (wireSheet 1 0x0C) ≡ no 8 8)
     × (read (one (0x10 ∷ 0x01 ∷ 0x01 ∷ 0x01 ∷ [])) ≡ no 8 6)
@@ -102,7 +102,9 @@ only : Stmt Expr → Module Expr
 only t = record { scope = record { inputs = 1; registers = 1; widths = 1 ∷ 8 ∷ [] }; wires = []; threads = t ∷ [] }
 
 -- "Depth at most 16", and "at most 64; the outermost is 1".
-deepest : (read (one (0x06 ∷ nots 15)) ≡ ok (only (ifThen (not-16 15) empty))) × (read (one (forevers 63 (0x00 ∷ []))) ≡ ok (only (forever-64 63)))
+deepest :
+    (read (one (0x06 ∷ nots 15 (0x02 ∷ 0x01 ∷ 0x00 ∷ []))) ≡ ok (only (ifThen (not-16 15) empty)))
+    × (read (one (forevers 63 (0x00 ∷ []))) ≡ ok (only (forever-64 63)))
 unfolding one nots forevers not-16 forever-64 only read readSheet readHead readWidths readWires readThreads readStmt form formOf size tree readExpr node kindOf variableAt unaryWidth within byteAt
 deepest = (refl, refl)
 
@@ -111,7 +113,7 @@ eightPairs : List ℕ
 eightPairs = one (0x10 ∷ 0x08 ∷ replicate 16 0)
 
 -- Five rows of forevers in sequence: 51 + 51 + 51 + 51 + n instructions, and the thread's own jump.
-long : ℕ → List ℕ
+unfoldable pub long : ℕ → List ℕ
 long n =
     0x0C ∷ 0x0C ∷ (forevers 51 (0x00 ∷ []) ++ (forevers 51 (0x00 ∷ [])
     ++ (0x0C ∷ 0x0C ∷ (forevers 51 (0x00 ∷ []) ++ (forevers 51 (0x00 ∷ []) ++ forevers n (0x00 ∷ []))))))

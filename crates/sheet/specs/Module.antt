@@ -58,7 +58,7 @@ readHead s = do
 module _ {E : Type 0} (expr : List ℕ → ℕ → Res (Parsed E)) (c : Scope) (s : List ℕ) where
   -- ---- "Then an expression for each wire": n of them, the first that of variable v
 
-  -- "A wire has its expression's width."
+  -- "A target or wire has its expression's width."
   unfoldable pub readWires : ℕ → ℕ → ℕ → Res (Listed E)
   readWires zero v p = ok (record { items = []; next = p })
   readWires (suc n) v p = do

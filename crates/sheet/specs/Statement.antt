@@ -57,7 +57,7 @@ pub record Scope : Type 0 where
   pub registers : ℕ
   pub widths : List ℕ
 
--- "A target byte names a register."
+-- Number 9 is "target byte names no register".
 unfoldable pub isRegister : Scope → ℕ → Bool
 isRegister c v = leb (c .inputs) v && ltb v (c .inputs + c .registers)
 
@@ -110,7 +110,7 @@ formOf m p =
     (no 5 p)))))))))
 
 module _ {E : Type 0} (expr : List ℕ → ℕ → Res (Parsed E)) (c : Scope) (s : List ℕ) where
-  -- "A target has its expression's width"; number 9 is judged before the expression is read.
+  -- "A target or wire has its expression's width"; number 9 is judged before the expression is read.
   unfoldable pub assignment : (ℕ → E → Stmt E) → ℕ → Res (Body E)
   assignment make p = do
     t ← byteAt s (p + 1)

@@ -96,7 +96,7 @@ fn read_threads(
 }
 
 // The answer of a refused sheet.
-pub fn refused(number: u8, place: usize) -> SheetRead
+fn refused(number: u8, place: usize) -> SheetRead
     ensures { λ r. ⌜ r ≡ sheetAnswer (no number place) ⌝ }
 {
     let starts = [0usize; 32];
@@ -116,7 +116,7 @@ pub fn refused(number: u8, place: usize) -> SheetRead
 }
 
 // The wires' expressions from a place on, behind the head of this sheet.
-pub fn wires_after(sheet: &[u8], at: usize, head: HeadRead) -> WiresRead
+pub(crate) fn wires_after(sheet: &[u8], at: usize, head: HeadRead) -> WiresRead
     requires { ⌜ head ≡ headRead (now sheet) ⌝ }
     ensures { λ r. ⌜ r ≡ wiresAnswer (wiresFrom (now (sheet .entry)) at) ⌝ }
 {
@@ -139,7 +139,7 @@ pub fn wires_after(sheet: &[u8], at: usize, head: HeadRead) -> WiresRead
 }
 
 // Where the wires' expressions end.
-pub fn row_end(row: WiresRead) -> usize
+pub(crate) fn row_end(row: WiresRead) -> usize
     ensures { λ r. ⌜ r ≡ rowEnd row ⌝ }
 {
     let read = row.read;
@@ -153,7 +153,7 @@ pub fn row_end(row: WiresRead) -> usize
 }
 
 // The threads' statements from a place on, behind the head and the wires of this sheet.
-pub fn threads_after(sheet: &[u8], at: usize, head: HeadRead, row: WiresRead) -> PlaceRead
+pub(crate) fn threads_after(sheet: &[u8], at: usize, head: HeadRead, row: WiresRead) -> PlaceRead
     requires { ⌜ (head ≡ headRead (now sheet)) × (row ≡ wiresAnswer (wiresRead (now sheet))) ⌝ }
     ensures { λ r. ⌜ r ≡ placeAnswer (threadsFrom (now (sheet .entry)) at) ⌝ }
 {
@@ -177,7 +177,7 @@ pub fn threads_after(sheet: &[u8], at: usize, head: HeadRead, row: WiresRead) ->
 }
 
 // The answer, once everything was read: the threads end where the sheet does.
-pub fn finished(
+pub(crate) fn finished(
     head: HeadRead,
     row: WiresRead,
     body: usize,

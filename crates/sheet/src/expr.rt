@@ -180,7 +180,7 @@ fn read_conditional(sheet: &[u8], widths: &[u8], at: usize, depth: u8) -> ExprRe
 }
 
 // The expression at a place, with so many levels left.
-pub fn read_expr(sheet: &[u8], widths: &[u8], at: usize, depth: u8) -> ExprRead
+pub(crate) fn read_expr(sheet: &[u8], widths: &[u8], at: usize, depth: u8) -> ExprRead
     ensures { λ r. ⌜ r ≡ exprAnswer (readExpr depth (now (widths .entry)) (now (sheet .entry)) at) ⌝ }
 {
     let end = sheet.len();
@@ -212,7 +212,7 @@ pub fn read_expr(sheet: &[u8], widths: &[u8], at: usize, depth: u8) -> ExprRead
 }
 
 // An expression of the sheet that stands in no other: 16 levels.
-pub fn located(sheet: &[u8], widths: &[u8], at: usize) -> ExprRead
+pub(crate) fn located(sheet: &[u8], widths: &[u8], at: usize) -> ExprRead
     ensures { λ r. ⌜ r ≡ exprAnswer (located (now (sheet .entry)) (now (widths .entry)) at) ⌝ }
 {
     read_expr(sheet, widths, at, 16)

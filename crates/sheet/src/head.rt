@@ -25,7 +25,7 @@ fn read_widths(sheet: &[u8], first: usize, end: usize) -> WidthsRead
 }
 
 // The counts and the clock's width from a place on, in a sheet that isn't too long.
-pub fn read_counts(sheet: &[u8], at: usize) -> HeadRead
+pub(crate) fn read_counts(sheet: &[u8], at: usize) -> HeadRead
     ensures { λ r. ⌜ r ≡ countsFrom (now (sheet .entry)) at ⌝ }
 {
     if 8192 < sheet.len() {
@@ -70,7 +70,7 @@ pub fn read_counts(sheet: &[u8], at: usize) -> HeadRead
 }
 
 // The other widths, from a place up to where the counts say that the head ends.
-pub fn widths_after(sheet: &[u8], at: usize, counts: HeadRead) -> HeadRead
+pub(crate) fn widths_after(sheet: &[u8], at: usize, counts: HeadRead) -> HeadRead
     ensures { λ r. ⌜ r ≡ widthsFrom (now (sheet .entry)) at counts ⌝ }
 {
     match read_widths(sheet, at, head_end(counts)) {
@@ -80,7 +80,7 @@ pub fn widths_after(sheet: &[u8], at: usize, counts: HeadRead) -> HeadRead
 }
 
 // Where a head with these counts ends; a refused one has no widths.
-pub fn head_end(head: HeadRead) -> usize
+pub(crate) fn head_end(head: HeadRead) -> usize
     ensures { λ r. ⌜ r ≡ headEnd head ⌝ }
 {
     match head {

@@ -19,7 +19,7 @@ ghost use Rattle.sheet.specs.Answers.{stmtAnswer};
 ghost use Rattle.sheet.specs.Parts.{scopeOf, termsAnswer, formAnswer};
 
 // Does the number name a register?
-pub fn is_register(inputs: u8, registers: u8, v: u8) -> bool
+pub(crate) fn is_register(inputs: u8, registers: u8, v: u8) -> bool
     ensures { λ r. ⌜ r ≡ isRegister (scopeOf inputs registers []) v ⌝ }
 {
     if v < inputs {
@@ -282,7 +282,7 @@ fn read_forever(
 }
 
 // The statement at a place, with so many levels left.
-pub fn read_stmt(
+pub(crate) fn read_stmt(
     sheet: &[u8],
     widths: &[u8],
     inputs: u8,

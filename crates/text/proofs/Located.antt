@@ -24,7 +24,7 @@ use Rattle.text.proofs.Printing.{text-reads}
 
 pub data Placed (ws s : List ℕ) : Instr ℕ → Instr Expr → Type 0 where
   waits : {ts : List EdgeTerm} → length ts ≤ 8 → Placed ws s (wait! ts) (wait! ts)
-  sets : {t p : ℕ} {q : Parsed Expr} → Reads ws s 16 p q → Placed ws s (set! t p) (set! t (q .item))
+  assigns : {t p : ℕ} {q : Parsed Expr} → Reads ws s 16 p q → Placed ws s (set! t p) (set! t (q .item))
   laters : {t p : ℕ} {q : Parsed Expr} → Reads ws s 16 p q → Placed ws s (later! t p) (later! t (q .item))
   goes : {g : ℕ} → Placed ws s (go g) (go g)
   ifnots : {g p : ℕ} {q : Parsed Expr} → Reads ws s 16 p q → Placed ws s (ifnot p g) (ifnot (q .item) g)
@@ -53,7 +53,7 @@ module _ {ws s : List ℕ} where
   pub instr-of : {i : Instr ℕ} {j : Instr Expr} → Placed ws s i j → instrOf (instructionOf i) ≡ i
   unfolding instrOf actionInstr instructionOf
   instr-of (waits {ts = ts} h) = ap wait! (terms-of ts h)
-  instr-of (sets r) = refl
+  instr-of (assigns r) = refl
   instr-of (laters r) = refl
   instr-of goes = refl
   instr-of (ifnots r) = refl
@@ -61,7 +61,7 @@ module _ {ws s : List ℕ} where
   pub instr-placed : {i : Instr ℕ} {j : Instr Expr} → Placed ws s i j → showInstr (textAt s) i ≡ showInstr showExpr j
   unfolding showInstr
   instr-placed (waits h) = refl
-  instr-placed (sets r) = rw (text-reads r)
+  instr-placed (assigns r) = rw (text-reads r)
   instr-placed (laters r) = rw (text-reads r)
   instr-placed goes = refl
   instr-placed (ifnots r) = rw (text-reads r)
@@ -104,7 +104,7 @@ module _ (c : Scope) (s : List ℕ) where
       → PlacedAll (c .widths) s (translate (b .stmt) n) (translate (mapStmt treeAt (b .stmt)) n)
   unfolding translate mapStmt
   stmt-placed (an-empty l m) n = none
-  stmt-placed (an-assign l m t r e w) n = let x = place-reads s (c .widths) _ e in rw (x .2) (more (sets (x .1)) none)
+  stmt-placed (an-assign l m t r e w) n = let x = place-reads s (c .widths) _ e in rw (x .2) (more (assigns (x .1)) none)
   stmt-placed (a-later l m t r e w) n = let x = place-reads s (c .widths) _ e in rw (x .2) (more (laters (x .1)) none)
   stmt-placed (a-sequence {a = a} l m x y) n =
       rw (size-map treeAt (a .stmt)) (placed-append (stmt-placed x n) (stmt-placed y (n + size (a .stmt))))

@@ -21,7 +21,7 @@ use Rattle.text.specs.declared.Printed.{Printed}
 use Rattle.writing.specs.Ascii.{byte}
 use Rattle.writing.specs.Numbers.{decimal}
 use Rattle.writing.specs.Buffer.{Text, filled, puts}
-use Rattle.text.specs.Listing.{_then_, showExpr, showTerm, showTerms}
+use Rattle.text.specs.Listing.{_␣_, showExpr, showTerm, showTerms}
 use Rattle.text.specs.Printing.{Shown, shown, Prints, operandsOf, behind, operandsAt, nodeAt, shownAt, textAt, allTerms, termList}
 use Rattle.writing.proofs.Buffer.{both, puts-nil, puts-append}
 
@@ -68,32 +68,32 @@ module _ (operand : ℕ → Shown) where
   operands-none n p e = rw e
 
   pub operands-more : (n p : ℕ) → (n ≡ 0 → ⊥)
-      → operandsAt operand n p ≡ behind ([] then operand p .text) (operandsAt operand (n - 1) (operand p .next))
+      → operandsAt operand n p ≡ behind ([] ␣ operand p .text) (operandsAt operand (n - 1) (operand p .next))
   unfolding operandsAt
   operands-more zero p h = absurd (h refl)
   operands-more (suc n) p h = rw sub-one
 
   -- One operand and those after it, by what is shown.
   operands-suc : (k p : ℕ) {a : Shown} → operand p ≡ a
-      → operandsAt operand (suc k) p ≡ behind ([] then a .text) (operandsAt operand k (a .next))
+      → operandsAt operand (suc k) p ≡ behind ([] ␣ a .text) (operandsAt operand k (a .next))
   unfolding operandsAt
-  operands-suc k p e = ap (λ x. behind ([] then x .text) (operandsAt operand k (x .next))) e
+  operands-suc k p e = ap (λ x. behind ([] ␣ x .text) (operandsAt operand k (x .next))) e
 
   pub operands-one : (p : ℕ) {n : ℕ} {t : List ℕ} → operand p ≡ shown n t
-      → operandsAt operand 1 p ≡ shown n ([] then t)
+      → operandsAt operand 1 p ≡ shown n ([] ␣ t)
   unfolding operandsAt behind
-  operands-one p {n} {t} e = operands-suc 0 p e ∙ ap (λ x. shown n ([] then x)) (append-nil t)
+  operands-one p {n} {t} e = operands-suc 0 p e ∙ ap (λ x. shown n ([] ␣ x)) (append-nil t)
 
   pub operands-two : (p : ℕ) {n m : ℕ} {t u : List ℕ} → operand p ≡ shown n t → operand n ≡ shown m u
-      → operandsAt operand 2 p ≡ shown m ([] then t then u)
+      → operandsAt operand 2 p ≡ shown m ([] ␣ t ␣ u)
   unfolding behind
-  operands-two p {n} {t = t} e f = operands-suc 1 p e ∙ ap (λ x. behind ([] then t) x) (operands-one n f)
+  operands-two p {n} {t = t} e f = operands-suc 1 p e ∙ ap (λ x. behind ([] ␣ t) x) (operands-one n f)
 
   pub operands-three : (p : ℕ) {n m k : ℕ} {t u v : List ℕ} → operand p ≡ shown n t → operand n ≡ shown m u
       → operand m ≡ shown k v
-      → operandsAt operand 3 p ≡ shown k ([] then t then u then v)
+      → operandsAt operand 3 p ≡ shown k ([] ␣ t ␣ u ␣ v)
   unfolding behind
-  operands-three p {n} {t = t} e f g = operands-suc 2 p e ∙ ap (λ x. behind ([] then t) x) (operands-two n f g)
+  operands-three p {n} {t = t} e f g = operands-suc 2 p e ∙ ap (λ x. behind ([] ␣ t) x) (operands-two n f g)
 
   -- ---- nodeAt
 

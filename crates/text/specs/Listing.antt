@@ -12,10 +12,10 @@ use Rattle.pseudocode.specs.Translation.{Instr, wait!, set!, later!, go, ifnot,
 use Rattle.writing.specs.Ascii.{ascii, byte}
 use Rattle.writing.specs.Numbers.{decimal}
 
-infixr 60 _then_
+infixr 60 _␣_
 -- A field, a space and the fields after it.
-abbrev pub _then_ : List ℕ → List ℕ → List ℕ
-_then_ a b = a ++ (byte " " ∷ b)
+abbrev pub _␣_ : List ℕ → List ℕ → List ℕ
+_␣_ a b = a ++ (byte " " ∷ b)
 
 -- ---- expressions: "Expressions stand operator first: `o6 v1 c8:5`, and `u8` for an 8-bit x."
 
@@ -23,15 +23,15 @@ unfoldable pub showExpr : Expr → List ℕ
 showExpr (variable v) = byte "v" ∷ decimal v
 showExpr (constant w v) = byte "c" ∷ (decimal w ++ (byte ":" ∷ decimal v))
 showExpr (unknown w) = byte "u" ∷ decimal w
-showExpr (unary o w a) = byte "o" ∷ decimal o then showExpr a
-showExpr (binary o w a b) = byte "o" ∷ decimal o then showExpr a then showExpr b
-showExpr (conditional c a b) = byte "o" ∷ decimal 10 then showExpr c then showExpr a then showExpr b
+showExpr (unary o w a) = byte "o" ∷ decimal o ␣ showExpr a
+showExpr (binary o w a b) = byte "o" ∷ decimal o ␣ showExpr a ␣ showExpr b
+showExpr (conditional c a b) = byte "o" ∷ decimal 10 ␣ showExpr c ␣ showExpr a ␣ showExpr b
 
 -- ---- instructions
 
 -- "edge and variable pairs", each number behind a space
 unfoldable pub showTerm : EdgeTerm → List ℕ
-showTerm t = [] then decimal (edgeNumber (t .edge)) then decimal (t .variable)
+showTerm t = [] ␣ decimal (edgeNumber (t .edge)) ␣ decimal (t .variable)
 
 unfoldable pub showTerms : List EdgeTerm → List ℕ
 showTerms [] = []
@@ -39,7 +39,7 @@ showTerms (t ∷ ts) = showTerm t ++ showTerms ts
 
 -- "The first line counts the threads."
 unfoldable pub showHead : ℕ → List ℕ
-showHead n = ascii "threads" then decimal n ++ (byte "\n" ∷ [])
+showHead n = ascii "threads" ␣ decimal n ++ (byte "\n" ∷ [])
 
 -- E is what stands for an expression, its tree or its place in the sheet, and expr its text.
 module _ {E : Type 0} (expr : E → List ℕ) where
@@ -47,14 +47,14 @@ module _ {E : Type 0} (expr : E → List ℕ) where
   -- `ifnot` has goal, then expression."
   unfoldable pub showInstr : Instr E → List ℕ
   showInstr (wait! ts) = ascii "wait" ++ showTerms ts
-  showInstr (set! t e) = ascii "set" then decimal t then expr e
-  showInstr (later! t e) = ascii "later" then decimal t then expr e
-  showInstr (go g) = ascii "go" then decimal g
-  showInstr (ifnot e g) = ascii "ifnot" then decimal g then expr e
+  showInstr (set! t e) = ascii "set" ␣ decimal t ␣ expr e
+  showInstr (later! t e) = ascii "later" ␣ decimal t ␣ expr e
+  showInstr (go g) = ascii "go" ␣ decimal g
+  showInstr (ifnot e g) = ascii "ifnot" ␣ decimal g ␣ expr e
 
   -- "Fields: thread, place, word, then ..": one line.
   unfoldable pub showLine : ℕ → ℕ → Instr E → List ℕ
-  showLine thread place i = decimal thread then decimal place then showInstr i ++ (byte "\n" ∷ [])
+  showLine thread place i = decimal thread ␣ decimal place ␣ showInstr i ++ (byte "\n" ∷ [])
 
   -- A thread's instructions from a place on.
   unfoldable pub showCode : ℕ → ℕ → List (Instr E) → List ℕ
@@ -76,7 +76,7 @@ listing m = showModule showExpr m
 
 -- "A refusal prints `refused` and its number."
 unfoldable pub refusal : ℕ → List ℕ
-refusal n = ascii "refused" then decimal n ++ (byte "\n" ∷ [])
+refusal n = ascii "refused" ␣ decimal n ++ (byte "\n" ∷ [])
 
 unfoldable pub printed : Res (Module Expr) → List ℕ
 printed (ok m) = listing m

@@ -19,7 +19,7 @@ use Rattle.writing.specs.Ascii.{byte}
 use Rattle.writing.specs.Numbers.{decimal}
 use Rattle.writing.specs.Buffer.{Text, filled, puts}
 use Rattle.text.specs.declared.Printed.{Printed}
-use Rattle.text.specs.Listing.{_then_, showModule, refusal}
+use Rattle.text.specs.Listing.{_␣_, showModule, refusal}
 
 -- ---- expressions
 
@@ -47,7 +47,7 @@ behind t q = shown (q .next) (t ++ q .text)
 -- So many operands, each behind a space. `operand` shows the one at a place.
 unfoldable pub operandsAt : (ℕ → Shown) → ℕ → ℕ → Shown
 operandsAt operand zero p = shown p []
-operandsAt operand (suc n) p = behind ([] then operand p .text) (operandsAt operand n (operand p .next))
+operandsAt operand (suc n) p = behind ([] ␣ operand p .text) (operandsAt operand n (operand p .next))
 
 -- The node whose map stands at p, with the byte after it: variable, constant, unknown constant, operator.
 unfoldable pub nodeAt : (ℕ → Shown) → List ℕ → ℕ → ℕ → ℕ → Shown

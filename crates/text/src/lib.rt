@@ -15,7 +15,7 @@ ghost use lib.ListN.{getD, length};
 ghost use Rattle.pseudocode.specs.Instruction.{noTerm};
 ghost use Rattle.writing.specs.Numbers.{decimal};
 ghost use Rattle.writing.specs.Buffer.{filled, puts};
-ghost use Rattle.text.specs.Listing.{_then_, showTerm, showTerms, showInstr, showLine, showHead, refusal};
+ghost use Rattle.text.specs.Listing.{_␣_, showTerm, showTerms, showInstr, showLine, showHead, refusal};
 ghost use Rattle.text.specs.Printing.{Prints, operandsOf, operandsAt, shownAt, textAt};
 ghost use Rattle.text.specs.Printing.{allTerms, termList, actionInstr, instrOf};
 
@@ -125,7 +125,7 @@ fn print_expr(sheet: &[u8], at: usize, depth: u8, text: &mut [u8; 65536], pos: u
 // A number and the expression at a place, each behind a space.
 fn print_fields(sheet: &[u8], n: usize, at: usize, text: &mut [u8; 65536], pos: usize) -> usize
     ensures { λ r. ⌜ filled (now (text .exit)) r ≡
-        puts (filled (now (text .entry)) pos) ([] then decimal n then textAt (now (sheet .entry)) at) ⌝ }
+        puts (filled (now (text .entry)) pos) ([] ␣ decimal n ␣ textAt (now (sheet .entry)) at) ⌝ }
 {
     let p = put_marked(b' ', n, text, pos);
     let q = put_byte(b' ', text, p);

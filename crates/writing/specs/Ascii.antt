@@ -2,12 +2,12 @@
 use Prim.Native.Nat.{ℕ}
 use Prim.Native.Char.{Char, code}
 use Prim.Native.String.{String, [], _∷_}
-use mathlib.Core.List.{List, [] as none, _∷_ as _then_}
+use mathlib.Core.List.{List, [] as nil, _∷_ as cons}
 
 -- The bytes of a word.
 unfoldable pub ascii : String → List ℕ
-ascii [] = none
-ascii (c ∷ s) = code c then ascii s
+ascii [] = nil
+ascii (c ∷ s) = cons (code c) (ascii s)
 
 -- The byte of a character.
 abbrev pub byte : Char → ℕ

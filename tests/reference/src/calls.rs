@@ -4,7 +4,7 @@ use crate::compiler::{Compiler, Lane};
 use crate::machine::number;
 use crate::module::Module;
 use crate::sheet::Refusal;
-use crate::simulator::{Simulator, number_of};
+use crate::simulator::{PlainRun, Simulator, number_of};
 use crate::state::{MARKS, Slot, State};
 
 /// Each gives its number, 0 where nothing was refused; the state becomes the one that the
@@ -14,7 +14,7 @@ pub trait Calls {
     fn choose(&self, state: &mut State, choice: u8) -> u8;
     /// How many choices were accepted, and the number.
     fn run(&self, state: &mut State, choices: &[u8]) -> (usize, u8);
-    fn run_plain(&self, state: &mut State, limit: u16) -> (usize, u8);
+    fn run_plain(&self, state: &mut State, limit: u16) -> PlainRun;
     /// All inputs, the clock first.
     fn instant(&self, state: &mut State, inputs: &[Slot]) -> u8;
 
@@ -27,7 +27,7 @@ pub trait Calls {
             for clock in [0, 1] {
                 let all = [&[Slot::known(clock)], &row[..]].concat();
                 let number = match self.instant(state, &all) {
-                    0 => self.run_plain(state, u16::MAX).1,
+                    0 => self.run_plain(state, u16::MAX).number,
                     number => number,
                 };
                 if number != 0 {
@@ -97,9 +97,8 @@ impl Calls for Reference<'_> {
         (run.accepted, run.number)
     }
 
-    fn run_plain(&self, state: &mut State, limit: u16) -> (usize, u8) {
-        let run = self.simulator.run_plain(state, limit);
-        (run.accepted.into(), run.number)
+    fn run_plain(&self, state: &mut State, limit: u16) -> PlainRun {
+        self.simulator.run_plain(state, limit)
     }
 
     fn instant(&self, state: &mut State, inputs: &[Slot]) -> u8 {

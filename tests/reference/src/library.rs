@@ -158,13 +158,14 @@ pub fn instant(sheet: &[u8], state: &mut [u8; SAVED], inputs: &Inputs) -> u8 {
     unsafe { walbryts_instant(at, len, state, *count, value.as_ptr(), unknown.as_ptr()) }
 }
 
-/// The plain run on a saved state; how many choices were accepted, and the number.
-pub fn run_plain(sheet: &[u8], state: &mut [u8; SAVED], limit: u16) -> (u16, u8) {
+/// The plain run on a saved state; how many choices were accepted, the number, and the word:
+/// 0 quiet, 1 spent, 2 stopped.
+pub fn run_plain(sheet: &[u8], state: &mut [u8; SAVED], limit: u16) -> (u16, u8, u8) {
     let (mut accepted, mut word) = (0, 0);
     let (at, len, state) = (sheet.as_ptr(), sheet.len(), state.as_mut_ptr());
     // Safety: as above; the count and the word are locals'.
     let number = unsafe { walbryts_run_plain(at, len, state, limit, &mut accepted, &mut word) };
-    (accepted, number)
+    (accepted, number, word)
 }
 
 /// Rows of 16 inputs on a saved state; how many instants were done, and the number.

@@ -103,7 +103,7 @@ impl<C: Calls> Held<'_, C> {
         for (slot, &number) in registers.iter_mut().zip(&self.trace.start) {
             *slot = Slot::known(number);
         }
-        refused("run", self.calls.run_plain(&mut state, u16::MAX).1)?;
+        refused("run", self.calls.run_plain(&mut state, u16::MAX).number)?;
         Ok(state)
     }
 
@@ -132,7 +132,7 @@ impl<C: Calls> Held<'_, C> {
 
     fn rest(&self, state: &mut State, order: Option<&mut Random>) -> Outcome {
         let Some(random) = order else {
-            return refused("run", self.calls.run_plain(state, u16::MAX).1);
+            return refused("run", self.calls.run_plain(state, u16::MAX).number);
         };
         while !self.machine.quiet(state) {
             let items: Vec<u8> = self.machine.enabled(state).collect();

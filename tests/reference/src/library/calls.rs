@@ -3,7 +3,9 @@
 use super::{Inputs, Planes, SAVED, rows_of_16};
 use crate::calls::Calls;
 use crate::compiler::Lane;
+use crate::machine::number::FULL;
 use crate::saved::{load, save};
+use crate::simulator::{PlainRun, Verdict};
 use crate::state::{Slot, State};
 
 /// The proved library on a sheet.
@@ -34,9 +36,16 @@ impl Calls for Library<'_> {
         self.on_saved(state, |saved| super::run(self.sheet, saved, choices))
     }
 
-    fn run_plain(&self, state: &mut State, limit: u16) -> (usize, u8) {
+    fn run_plain(&self, state: &mut State, limit: u16) -> PlainRun {
         let run = self.on_saved(state, |saved| super::run_plain(self.sheet, saved, limit));
-        (run.0.into(), run.1)
+        let (accepted, number, word) = run;
+        let verdict = match (word, number) {
+            (0, _) => Verdict::Quiet,
+            (1, _) => Verdict::Spent,
+            (_, FULL) => Verdict::Full,
+            _ => Verdict::Refused,
+        };
+        PlainRun { accepted, number, verdict }
     }
 
     fn instant(&self, state: &mut State, inputs: &[Slot]) -> u8 {

@@ -4,6 +4,7 @@ use super::{List, Outcome};
 use crate::calls::Calls;
 use crate::machine::{COMMIT, Machine};
 use crate::random::Random;
+use crate::simulator::{PlainRun, Verdict};
 use crate::state::State;
 
 /// Which of the enabled items is taken.
@@ -86,13 +87,29 @@ impl<C: Calls> List<'_, C> {
         self.accept(found)
     }
 
+    /// "It says quiet exactly when the state reached is quiet, spent exactly when N choices ran and
+    /// it isn't." The count is never full in so short a list.
     fn plain_run(&mut self) -> Outcome {
         let limit = self.random.pick(&[0, 1, 2, 3, 10, u16::MAX]);
         self.last = format!("plain run of at most {limit}");
-        let (accepted, number) = self.calls.run_plain(&mut self.state, limit);
+        let PlainRun { accepted, number, verdict } =
+            self.calls.run_plain(&mut self.state, limit);
         if number != 0 {
             return Err(format!("stopped by {number}"));
         }
-        self.accept(accepted)
+        if accepted > limit {
+            return Err(format!("{accepted} accepted, of at most {limit}"));
+        }
+        let expected = match self.machine.quiet(&self.state) {
+            true => Verdict::Quiet,
+            false if accepted == limit => Verdict::Spent,
+            false => {
+                return Err(format!("says {verdict:?} after {accepted}, and it isn't quiet"));
+            }
+        };
+        if verdict != expected {
+            return Err(format!("says {verdict:?} after {accepted}, not {expected:?}"));
+        }
+        self.accept(accepted.into())
     }
 }

@@ -9,6 +9,7 @@ use reference::machine::{Machine, variables};
 use reference::module::{Module, Operator};
 use reference::samples::FLIP_FLOP;
 use reference::sheet::read;
+use reference::simulator::{PlainRun, Verdict};
 use reference::state::{Slot, State};
 
 #[derive(Clone, Copy, Debug, PartialEq, Eq)]
@@ -28,6 +29,16 @@ pub enum Fault {
     SameTable,
     /// The cycle run hands registers and places back.
     IdleCycleRun,
+    /// Refusing everything: each call with a number that it can give.
+    RefusingEverything,
+    /// The start, extraction and the cycle run are right, all else is refused.
+    RefusingToRun,
+    /// A plain run tells one choice more than it ran.
+    MadeUpCount,
+    /// A plain run stops before the last choice that it may run, and says spent.
+    EarlySpent,
+    /// A plain run says quiet wherever it ends.
+    EarlyQuiet,
 }
 
 pub struct Faulty<'a> {
@@ -39,6 +50,10 @@ pub struct Faulty<'a> {
 impl Faulty<'_> {
     fn machine(&self) -> &Machine<'_> {
         self.calls.simulator.machine().expect("read")
+    }
+
+    fn refuses(&self) -> bool {
+        matches!(self.fault, Fault::RefusingEverything | Fault::RefusingToRun)
     }
 
     /// Stores the pending values of the registers that the thread writes.
@@ -61,10 +76,16 @@ impl Faulty<'_> {
 
 impl Calls for Faulty<'_> {
     fn start(&self, state: &mut State) -> u8 {
-        self.calls.start(state)
+        match self.fault {
+            Fault::RefusingEverything => 2,
+            _ => self.calls.start(state),
+        }
     }
 
     fn choose(&self, state: &mut State, choice: u8) -> u8 {
+        if self.refuses() {
+            return 33;
+        }
         let before = state.clone();
         let number = self.calls.choose(state, choice);
         let thread = usize::from(choice);
@@ -88,18 +109,27 @@ impl Calls for Faulty<'_> {
         (choices.len(), 0)
     }
 
-    fn run_plain(&self, state: &mut State, limit: u16) -> (usize, u8) {
-        for accepted in 0..limit.into() {
-            if self.machine().quiet(state) {
-                return (accepted, 0);
-            }
+    fn run_plain(&self, state: &mut State, limit: u16) -> PlainRun {
+        if self.refuses() {
+            return PlainRun { accepted: 0, number: 36, verdict: Verdict::Full };
+        }
+        let last = limit - u16::from(self.fault == Fault::EarlySpent && limit > 0);
+        let mut accepted = 0;
+        while accepted < last && !self.machine().quiet(state) {
             let choice = self.machine().lowest(state);
             assert_eq!(self.choose(state, choice), 0);
+            accepted += 1;
         }
-        (limit.into(), 0)
+        let quiet = self.fault == Fault::EarlyQuiet || self.machine().quiet(state);
+        let verdict = if quiet { Verdict::Quiet } else { Verdict::Spent };
+        let told = accepted + u16::from(self.fault == Fault::MadeUpCount && accepted < limit);
+        PlainRun { accepted: told, number: 0, verdict }
     }
 
     fn instant(&self, state: &mut State, inputs: &[Slot]) -> u8 {
+        if self.refuses() {
+            return 32;
+        }
         let before = state.clone();
         let number = self.calls.instant(state, inputs);
         match self.fault {
@@ -115,6 +145,9 @@ impl Calls for Faulty<'_> {
     }
 
     fn extract(&self, nodes: &mut [u16], rows: &mut [u16]) -> u8 {
+        if self.fault == Fault::RefusingEverything {
+            return 21;
+        }
         let number = self.calls.extract(nodes, rows);
         match self.fault {
             Fault::ConditionalForBranch if number == 0 => {
@@ -136,6 +169,9 @@ impl Calls for Faulty<'_> {
     }
 
     fn cycle(&self, nodes: &[u16], rows: &[u16], lane: &mut Lane, inputs: &[Slot]) -> u8 {
+        if self.fault == Fault::RefusingEverything {
+            return 24;
+        }
         let before = lane.clone();
         let number = self.calls.cycle(nodes, rows, lane, inputs);
         if self.fault == Fault::IdleCycleRun {

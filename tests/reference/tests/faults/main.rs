@@ -14,7 +14,7 @@ use reference::sheet::read;
 use faulty::{Fault, Faulty};
 
 /// Each fault with the clause that it breaks.
-const FAULTS: [(Fault, &str); 7] = [
+const FAULTS: [(Fault, &str); 12] = [
     (Fault::ConditionalForBranch, "cycle run"),
     (Fault::WiresAfterRiseOnly, "quiet: v"),
     (Fault::CommitByThread, "quiet: v"),
@@ -22,6 +22,11 @@ const FAULTS: [(Fault, &str); 7] = [
     (Fault::NothingRun, "time and count"),
     (Fault::SameTable, "cycle run"),
     (Fault::IdleCycleRun, "cycle run"),
+    (Fault::RefusingEverything, "extraction is refused"),
+    (Fault::RefusingToRun, "not quiet, but choice"),
+    (Fault::MadeUpCount, "time and count"),
+    (Fault::EarlySpent, "says Spent"),
+    (Fault::EarlyQuiet, "says Quiet"),
 ];
 
 /// The clauses of demand 3 that random modules break.
@@ -56,6 +61,7 @@ fn extraction_finds_faults() {
         (Fault::ConditionalForBranch, true),
         (Fault::SameTable, true),
         (Fault::IdleCycleRun, true),
+        (Fault::RefusingEverything, true),
     ] {
         let mut random = Random::new(78);
         let mut holding = Holding::default();

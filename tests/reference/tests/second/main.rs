@@ -7,6 +7,7 @@ use reference::random::Random;
 use reference::samples;
 use reference::second::{check, differs_on_x};
 use reference::sheet::read;
+use reference::simulator::{PlainRun, Verdict};
 use reference::state::{Slot, State};
 use reference::trace::{Trace, parse};
 use reference::{stimulus, verilog};
@@ -99,8 +100,9 @@ impl Calls for Idle<'_> {
     fn run(&self, state: &mut State, choices: &[u8]) -> (usize, u8) {
         self.0.run(state, choices)
     }
-    fn run_plain(&self, state: &mut State, limit: u16) -> (usize, u8) {
-        if self.1 == "run_plain" { (0, 0) } else { self.0.run_plain(state, limit) }
+    fn run_plain(&self, state: &mut State, limit: u16) -> PlainRun {
+        let idle = PlainRun { accepted: 0, number: 0, verdict: Verdict::Quiet };
+        if self.1 == "run_plain" { idle } else { self.0.run_plain(state, limit) }
     }
     fn instant(&self, state: &mut State, inputs: &[Slot]) -> u8 {
         self.0.instant(state, inputs)

@@ -2,10 +2,11 @@
 
 use std::fs;
 use std::path::Path;
+use std::process::{Command, Output};
 
 use reference::encode::encode;
 use reference::random::Random;
-use reference::{generate, icarus, samples, sheet, stimulus, verilog};
+use reference::{generate, samples, sheet, stimulus, verilog};
 
 use crate::{Outcome, SEED, folder, stored};
 
@@ -13,6 +14,8 @@ const ROOT: &str = concat!(env!("CARGO_MANIFEST_DIR"), "/../..");
 /// The proved program's command, and how many random modules it prints.
 const PRINTER: &str = "./walbryts verilog";
 const PRINTED: usize = 600;
+/// How the command ends what it says of a text that it can't print.
+const TOO_LONG: &str = ": its Verilog is 65,536 bytes or longer\n";
 
 /// How many texts differ.
 pub fn hold() -> Outcome<usize> {
@@ -50,11 +53,20 @@ pub fn hold() -> Outcome<usize> {
     Ok(failed)
 }
 
-/// Of a text that is long, all is printed, or the command fails; a part of it would be wrong.
+/// Of a text that is long, all is printed, or the command says so: status 1, nothing on standard
+/// output, and why on standard error. A part of the text would be wrong, and a crash says nothing.
 fn long_text(folder: &Path, command: &str) -> Option<String> {
     let module = stimulus::deep_module();
-    let text = printed(folder, command, &encode(&module)).ok()?;
-    differ(&text, &verilog::text(&module))
+    let output = match output(folder, command, &encode(&module)) {
+        Ok(output) => output,
+        Err(error) => return Some(error),
+    };
+    let (out, error) = (text_of(&output.stdout), text_of(&output.stderr));
+    match (output.status.code(), out.is_empty()) {
+        (Some(0), _) => differ(&out, &verilog::text(&module)),
+        (Some(1), true) if error.ends_with(TOO_LONG) => None,
+        (status, _) => Some(format!("status {status:?}, {} bytes, {error}", out.len())),
+    }
 }
 
 /// The first line that differs.
@@ -76,8 +88,22 @@ pub fn print(file: &str) -> Outcome<usize> {
 
 /// What the command prints for the sheet.
 pub fn printed(folder: &Path, command: &str, sheet: &[u8]) -> Outcome<String> {
+    let output = output(folder, command, sheet)?;
+    match output.status.success() {
+        true => Ok(text_of(&output.stdout)),
+        false => Err(format!("{command}: {}", text_of(&output.stderr))),
+    }
+}
+
+fn output(folder: &Path, command: &str, sheet: &[u8]) -> Outcome<Output> {
     let file = folder.join("sheet");
     fs::write(&file, sheet).map_err(|e| format!("{}: {e}", file.display()))?;
     let line = format!("{command} \"$1\"");
-    icarus::run(Path::new(ROOT), "sh", &["-c", &line, "sh", &file.display().to_string()])
+    let shell =
+        Command::new("sh").current_dir(ROOT).args(["-c", &line, "sh"]).arg(&file).output();
+    shell.map_err(|e| format!("{command}: {e}"))
+}
+
+fn text_of(bytes: &[u8]) -> String {
+    String::from_utf8_lossy(bytes).into_owned()
 }
