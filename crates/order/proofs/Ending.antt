@@ -24,7 +24,7 @@ use Rattle.events.proofs.Fits.{Fits, shaped-started, fits-started}
 use Rattle.events.proofs.Runs.{plain-lowest, plain-commit, plain-refusal}
 use Rattle.nextstate.specs.Extraction.{Tables, extracted}
 use Rattle.nextstate.specs.Book.{Book, settled, fed, rise, opening, turned, book}
-use Rattle.threads.specs.Ruled.{Ruled}
+use Rattle.nextstate.specs.Ruled.{Ruled}
 use Rattle.threads.specs.Alone.{riseAlone}
 use Rattle.settling.proofs.Settle.{settle-below}
 use Rattle.walking.proofs.Rising.{rise-alone}

@@ -25,7 +25,7 @@ use Rattle.events.specs.Steps.{Acts, assigns, defers, jumps, goes-in, passes-by
 use Rattle.events.proofs.Cycle.{absurd-bool, and-left, and-right, some-below, none-below, changed-true, changed-false, current-place}
 use Rattle.events.proofs.Choices.{enabled-thread, enabled-wire}
 use Rattle.events.proofs.Runs.{length-choicesBy, plain-lowest, plain-commit}
-use Rattle.threads.specs.Ruled.{Ruled}
+use Rattle.nextstate.specs.Ruled.{Ruled}
 use Rattle.settling.specs.Settles.{WireStep}
 use Rattle.settling.specs.Plain.{stateAt, Stores, Changes, ChangeBetween, StoresOnce, StoresRising}
 use Rattle.settling.proofs.Marks.{place-kept, mark-same, wire-settles, wire-kept}
