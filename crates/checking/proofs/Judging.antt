@@ -5,7 +5,7 @@ use mathlib.Core.List.{List, []}
 use Prim.Native.Nat.{ℕ, _+_, _-_}
 use native.Mathlib.Omega.{arith}
 use borrow.Author.Tests.{eq-eqb, ne-eqb}
-use lib.ListN.{length, getD}
+use lib.ListN.{length, getD, replicate, length-replicate}
 use lib.Dec.{eqb}
 use Rattle.values.specs.Values.{fits}
 use Rattle.values.specs.Planes.{valueAt}
@@ -18,13 +18,13 @@ use Rattle.events.specs.Calls.{widthOf, inputOf}
 use Rattle.events.proofs.Cycle.{absurd-bool, all-same}
 use Rattle.nextstate.specs.declared.Registers.{Registers}
 use Rattle.nextstate.specs.Nodes.{nodeAt}
-use Rattle.nextstate.specs.CycleRun.{nodesFit, tablesFit, tablesIn, registersFit, upperInputsFit}
+use Rattle.nextstate.specs.CycleRun.{nodesFit, widthsFrom, tablesFit, tablesIn, registersFit, upperInputsFit}
 use Rattle.tables.specs.Readers.{atMost}
 use Rattle.tables.proofs.Readers.{atMost-same}
 use Rattle.nodes.specs.Rows.{sizeOf}
 use Rattle.engine.specs.declared.Shape.{Shape}
 use Rattle.checking.specs.Checking.{Judged, waitsAt, RowsJudged}
-use Rattle.checking.specs.Context.{Context, TablesJudged, RegistersJudged, inputsRight}
+use Rattle.checking.specs.Context.{Context, tablesRight, TablesJudged, registersRight, RegistersJudged, inputsRight}
 use Rattle.checking.proofs.Rows.{rows-judged, place-same}
 
 -- ---- 24
@@ -32,25 +32,37 @@ use Rattle.checking.proofs.Rows.{rows-judged, place-same}
 module _ (s ws code lengths firsts written : List ℕ) (shape : Shape) (ns rs before after : List ℕ) where
   pub tables-off :
       (r : Bool) → Judged ws ns before after r → r ≡ false → TablesJudged s ws code lengths firsts written shape ns rs before after false
-  unfolding tablesFit tablesIn
-  tables-off r j e m starts all c l =
-      let n : nodesFit m (listOf 4096 (nodeAt ns)) [] ≡ false = sym (j m (c .widths) l .0) ∙ e in
-      (rw n, λ z. absurd-bool z refl)
+  unfolding tablesFit tablesIn tablesRight
+  tables-off r j e =
+      record {
+        is = rw (j .is, e);
+        filled = rw (j .is);
+        of = λ m starts all c l.
+            let n : nodesFit m (listOf 4096 (nodeAt ns)) [] ≡ false = sym (j .of m (c .widths) l .0) ∙ e in
+            (rw n, λ z. absurd-bool z refl);
+      }
 
   pub tables-on :
-      (r t : Bool) (n : ℕ) (marks : List Bool) → Judged ws ns before after r → r ≡ true → n ≡ atMost 8 (shape .threads) → length marks ≡ 4096 →
-      RowsJudged s code lengths ws after ns rs (shape .inputs) (shape .registers) firsts written n marks t →
+      (r t : Bool) (n : ℕ) → Judged ws ns before after r → r ≡ true → n ≡ atMost 8 (shape .threads) →
+      RowsJudged s code lengths ws after ns rs (shape .inputs) (shape .registers) firsts written n (replicate 4096 false) t →
       TablesJudged s ws code lengths firsts written shape ns rs before after t
-  unfolding tablesFit tablesIn
-  tables-on r t k marks j e few long q m starts all c l =
-      let threads : k ≡ length (m .threads) = few ∙ ap (atMost 8) (c .threads) ∙ atMost-same 8 (length (m .threads)) (c .sound .threads-most) in
-      let x = j m (c .widths) l in
-      let n : nodesFit m (listOf 4096 (nodeAt ns)) [] ≡ true = sym (x .0) ∙ e in
-      let y = rw (c .inputs, c .registers, threads, ← c .widths) at q in (
-        rw n
-            (rows-judged (c .sound) (c .holding) firsts written (c .first) (c .writers) ns rs after (x .1 e) marks t long y),
-        λ z. x .1 e,
-      )
+  unfolding tablesFit tablesIn tablesRight
+  tables-on r t k j e few q = record { is = rw (j .is, e, ← few) (q .is); filled = rw (j .is); of = of }
+    where
+      of :
+          (m : Module Expr) (starts : List ℕ) (all : List Bool) → Context s m ws starts code lengths firsts written all shape →
+          length before ≡ 4096 →
+          (t ≡ tablesFit m (tablesIn ns rs)) × (t ≡ true → after ≡ widthsFrom m (listOf 4096 (nodeAt ns)) [])
+      of m starts all c l =
+          let threads : k ≡ length (m .threads) = few ∙ ap (atMost 8) (c .threads) ∙ atMost-same 8 (length (m .threads)) (c .sound .threads-most) in
+          let x = j .of m (c .widths) l in
+          let n : nodesFit m (listOf 4096 (nodeAt ns)) [] ≡ true = sym (x .0) ∙ e in
+          let y = rw (c .inputs, c .registers, threads, ← c .widths) at q in (
+            rw n
+                (rows-judged (c .sound) (c .holding) firsts written (c .first) (c .writers) ns rs after (x .1 e) (replicate 4096 false) t
+                (length-replicate {A = Bool} 4096 false) y),
+            λ z. x .1 e,
+          )
 
 -- ---- 31
 
@@ -66,20 +78,25 @@ module _ (s ws code lengths : List ℕ) (shape : Shape) (g : Registers) where
   values-same c = rw (c .registers, c .inputs, c .widths)
 
   pub registers-off : (r : Bool) → Fit r → r ≡ false → RegistersJudged s ws code lengths shape g false
-  unfolding registersFit
-  registers-off r f e m starts firsts written all c = rw (sym (values-same c) ∙ sym f ∙ e)
+  unfolding registersFit registersRight
+  registers-off r f e =
+      record { is = rw (sym f ∙ e); of = λ m starts firsts written all c. rw (sym (values-same c) ∙ sym f ∙ e) }
 
   pub registers-on :
       (r t : Bool) → Fit r → r ≡ true → t ≡ allBelow (shape .threads) (λ i. waitsAt s code i (sizeOf lengths i) (getD (g .places) i 0)) →
       RegistersJudged s ws code lengths shape g t
-  unfolding registersFit
-  registers-on r t f e q m starts firsts written all c =
-      rw (sym (values-same c) ∙ sym f ∙ e)
-      (q
-      ∙ ap (λ (n : ℕ). allBelow n (λ i. waitsAt s code i (sizeOf lengths i) (getD (g .places) i 0))) (c .threads)
-      ∙ all-same (λ i. waitsAt s code i (sizeOf lengths i) (getD (g .places) i 0))
-      (λ i. isWait (instrAt (codeOf m i) (getD (g .places) i 0))) (length (m .threads))
-      (λ i l. place-same (c .sound) (c .holding) i l (getD (g .places) i 0)))
+  unfolding registersFit registersRight
+  registers-on r t f e q =
+      record {
+        is = rw (sym f ∙ e) q;
+        of = λ m starts firsts written all c.
+            rw (sym (values-same c) ∙ sym f ∙ e)
+            (q
+            ∙ ap (λ (n : ℕ). allBelow n (λ i. waitsAt s code i (sizeOf lengths i) (getD (g .places) i 0))) (c .threads)
+            ∙ all-same (λ i. waitsAt s code i (sizeOf lengths i) (getD (g .places) i 0))
+            (λ i. isWait (instrAt (codeOf m i) (getD (g .places) i 0))) (length (m .threads))
+            (λ i l. place-same (c .sound) (c .holding) i l (getD (g .places) i 0)));
+      }
 
 -- ---- 25
 

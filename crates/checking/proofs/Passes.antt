@@ -3,7 +3,8 @@
 use mathlib.Core.Path.{_≡_, refl, sym, ap, _∙_}
 use mathlib.Core.Bool.{Bool, true, false}
 use mathlib.Core.List.{List, []}
-use Prim.Native.Nat.{ℕ, _+_, _≤_, _<_}
+use Prim.Native.Nat.{ℕ, zero, suc, _+_, _≤_, _<_}
+use native.Mathlib.Decide.{decLt}
 use native.Mathlib.Numerals.{add-one}
 use native.Mathlib.Omega.{arith}
 use borrow.Author.Tests.{lt-ltb}
@@ -19,7 +20,7 @@ use Rattle.nextstate.specs.CycleRun.{nodeFits, nodesFit, widthsFrom, lands, lan
 use Rattle.nodes.specs.Cells.{sizeIn, marksIn, fitsAt, widthAt, landsAt}
 use Rattle.nodes.proofs.FirstNodes.{fit-next, fit-node, landings-next, length-landings, length-widths, widths-next, widthsTo}
 use Rattle.nodes.proofs.Cells.{fits-list, fits-same, width-same, lands-same}
-use Rattle.checking.specs.Checking.{Judged, Landed}
+use Rattle.checking.specs.Checking.{Pass, passNode, passBelow, Judged, landBelow, Landed}
 
 -- ---- the first n widths in a table of 4,096
 
@@ -46,7 +47,42 @@ module _ (ws ns us : List ℕ) where
   unfolding listOf nodesFit widthsFrom
   passing-none m e l = record { long = l; fit = refl; filled = refl }
 
+  -- As the definition passes them: in order so far, or stopped.
+  abbrev pub passed : List ℕ → Pass
+  passed vs = record { fit = true; sizes = vs }
+
+  abbrev stopped : List ℕ → Pass
+  stopped vs = record { fit = false; sizes = vs }
+
+  pub pass-none : passBelow ws ns 0 us ≡ passed us
+  unfolding passBelow
+  pass-none = refl
+
+  stopped-more : (n : ℕ) (vs : List ℕ) → passBelow ws ns n us ≡ stopped vs → passBelow ws ns (suc n) us ≡ stopped vs
+  unfolding passBelow passNode
+  stopped-more n vs e = rw e refl
+
+  stopped-on : (n t : ℕ) (vs : List ℕ) → passBelow ws ns n us ≡ stopped vs → n ≤ t → passBelow ws ns t us ≡ stopped vs
+  stopped-on n zero vs e l = let z : n ≡ 0 = omega arith in rw (← z) e
+  stopped-on n (suc t) vs e l = by (decLt n (suc t)) (stopped-on n t vs e)
+    where
+      by : Dec (n < suc t) → (n ≤ t → passBelow ws ns t us ≡ stopped vs) → passBelow ws ns (suc t) us ≡ stopped vs
+      by (yes k) rest = stopped-more t vs (rest (omega arith))
+      by (no k) rest = let z : n ≡ suc t = omega arith in rw (← z) e
+
   module _ (n : ℕ) (vs : List ℕ) (b : n < 4096) (p : Passing n vs) (d : Node) (e : d ≡ nodeAt ns n) where
+    pub pass-more :
+        (r : Bool) (w : ℕ) → passBelow ws ns n us ≡ passed vs → r ≡ fitsAt (length ws) n (sizeIn vs) d → r ≡ true →
+        w ≡ widthAt ws (sizeIn vs) d → passBelow ws ns (n + 1) us ≡ passed (set vs n w)
+    unfolding passBelow passNode
+    pass-more r w o h t k = rw (add-one n, o, ← e, sym h ∙ t, ← k) refl
+
+    pass-off :
+        (r : Bool) → passBelow ws ns n us ≡ passed vs → r ≡ fitsAt (length ws) n (sizeIn vs) d → r ≡ false →
+        passBelow ws ns (n + 1) us ≡ stopped vs
+    unfolding passBelow passNode
+    pass-off r o h t = rw (add-one n, o, ← e, sym h ∙ t) refl
+
     -- What the turn's test says of node n.
     node-judged :
         (m : Module Expr) → m .scope .widths ≡ ws → Passed n vs m →
@@ -81,19 +117,24 @@ module _ (ws ns us : List ℕ) where
         })
 
     pub judged-off :
-        (r : Bool) (vs' : List ℕ) → r ≡ fitsAt (length ws) n (sizeIn vs) d → r ≡ false → Judged ws ns us vs' false
-    judged-off r vs' h t m x l = (by (nodesFit m (listOf 4096 (nodeAt ns)) []) refl, λ z. absurd-bool z refl)
+        (r : Bool) → passBelow ws ns n us ≡ passed vs → r ≡ fitsAt (length ws) n (sizeIn vs) d → r ≡ false → Judged ws ns us vs false
+    judged-off r o h t = record { is = stopped-on (n + 1) 4096 vs (pass-off r o h t) (omega arith); of = λ m x l. (by m x l (nodesFit m (listOf 4096 (nodeAt ns)) []) refl, λ z. absurd-bool z refl) }
       where
-        by : (u : Bool) → nodesFit m (listOf 4096 (nodeAt ns)) [] ≡ u → false ≡ u
-        by true g =
+        by : (m : Module Expr) → m .scope .widths ≡ ws → length us ≡ 4096 → (u : Bool) → nodesFit m (listOf 4096 (nodeAt ns)) [] ≡ u → false ≡ u
+        by m x l true g =
             absurd-bool (fit-node m (nodeAt ns) 4096 n b g) (sym (node-judged m x (p m x l)) ∙ sym h ∙ t)
-        by false g = refl
+        by m x l false g = refl
 
-  pub judged-on : (n : ℕ) (vs : List ℕ) → n ≡ 4096 → Passing n vs → Judged ws ns us vs true
-  judged-on n vs z p m x l =
-      let q = p m x l in
-      let h : length vs ≡ n = q .long ∙ sym z in
-      (sym (rw z at (q .fit)), λ u. sym (rw (← h) (take-length vs)) ∙ q .filled ∙ rw z)
+  pub judged-on : (n : ℕ) (vs : List ℕ) → n ≡ 4096 → Passing n vs → passBelow ws ns n us ≡ passed vs → Judged ws ns us vs true
+  judged-on n vs z p o = record { is = rw z at o; of = of }
+    where
+      of :
+          (m : Module Expr) → m .scope .widths ≡ ws → length us ≡ 4096 →
+          (true ≡ nodesFit m (listOf 4096 (nodeAt ns)) []) × (true ≡ true → vs ≡ widthsFrom m (listOf 4096 (nodeAt ns)) [])
+      of m x l =
+          let q = p m x l in
+          let h : length vs ≡ n = q .long ∙ sym z in
+          (sym (rw z at (q .fit)), λ u. sym (rw (← h) (take-length vs)) ∙ q .filled ∙ rw z)
 
 -- ---- the loop that marks the landings
 
@@ -127,8 +168,23 @@ module _ (waits : ℕ → Bool) (ns : List ℕ) (i : ℕ) (us : List Bool) where
         filled = take-suc-set vs n r (omega (arith, q .long)) ∙ rw (q .filled, g) (sym (landings-next m (nodeAt ns) i n));
       })
 
-  pub landed : (n : ℕ) (vs : List Bool) → n ≡ 4096 → Stepping n vs → Landed waits ns i us vs
-  landed n vs z p m l w =
-      let q = p m l w in
-      let h : length vs ≡ n = q .long ∙ sym z in
-      sym (rw (← h) (take-length vs)) ∙ q .filled ∙ rw z
+  pub land-none : us ≡ landBelow waits ns 0 us
+  unfolding landBelow
+  land-none = refl
+
+  pub land-more :
+      (n : ℕ) (vs : List Bool) (d : Node) (r : Bool) → vs ≡ landBelow waits ns n us → d ≡ nodeAt ns n →
+      r ≡ landsAt waits n (marksIn vs) d → set vs n r ≡ landBelow waits ns (n + 1) us
+  unfolding landBelow
+  land-more n vs d r o e h = rw (add-one n, ← o, ← e, ← h) refl
+
+  pub landed : (n : ℕ) (vs : List Bool) → n ≡ 4096 → Stepping n vs → vs ≡ landBelow waits ns n us → Landed waits ns i us vs
+  landed n vs z p o = record { is = rw z at o; of = of }
+    where
+      of :
+          (m : Module Expr) → length us ≡ 4096 → ((k : ℕ) → waits k ≡ isWait (instrAt (codeOf m i) k)) →
+          vs ≡ landings m i (listOf 4096 (nodeAt ns)) []
+      of m l w =
+          let q = p m l w in
+          let h : length vs ≡ n = q .long ∙ sym z in
+          sym (rw (← h) (take-length vs)) ∙ q .filled ∙ rw z

@@ -117,7 +117,7 @@ module _ {s : List ℕ} {m : Module Expr} {starts sizes code readers : List ℕ}
             r ≡ rowsFit m T
         unfolding rowsFit
         rows-judged before r long j =
-            j m long (λ i p l. place-same i l p)
+            j .of m long (λ i p l. place-same i l p)
             ∙ all-same
             (λ i. threadFitsAt s code (m .scope .widths) us rs (m .scope .inputs) (m .scope .registers) (bits (getD written i 0))
             (landings m i (listOf 4096 (nodeAt ns)) []) i (getD firsts i 0) (sizeOf sizes i))

@@ -3,9 +3,10 @@
 use mathlib.Core.Path.{_≡_}
 use mathlib.Core.Bool.{Bool, true, false, not, _&&_, _||_}
 use mathlib.Core.List.{List, []}
-use Prim.Native.Nat.{ℕ, _+_, _<_}
-use lib.ListN.{length, getD}
+use Prim.Native.Nat.{ℕ, zero, suc, _+_, _<_}
+use lib.ListN.{length, getD, set}
 use lib.Dec.{ltb, eqb}
+use Rattle.values.specs.Values.{pick}
 use Rattle.sheet.specs.Expression.{Expr}
 use Rattle.sheet.specs.Module.{Module}
 use Rattle.pseudocode.specs.Fetching.{fetchAt}
@@ -15,27 +16,53 @@ use Rattle.events.specs.Cycle.{codeOf, instrAt, isWait, allBelow}
 use Rattle.nextstate.specs.Nodes.{nodeAt}
 use Rattle.nextstate.specs.CycleRun.{nodesFit, widthsFrom, landings}
 use Rattle.changes.specs.Changes.{waiting}
-use Rattle.nodes.specs.Cells.{sizeIn, marksIn}
+use Rattle.nodes.specs.Cells.{sizeIn, fitsAt, widthAt, marksIn, landsAt}
 use Rattle.nodes.specs.Rows.{entryAt, waitsTo, sizeOf}
 
--- ---- the nodes: with a table of widths of 4,096 bytes, the answer is nodesFit, and the table is filled where it holds
+-- ---- the nodes: from the first on, each width filled in, up to the first that isn't in order
 
-abbrev pub Judged : List ℕ → List ℕ → List ℕ → List ℕ → Bool → Type 0
-Judged ws ns before after r =
-    (m : Module Expr) → m .scope .widths ≡ ws → length before ≡ 4096 →
-    (r ≡ nodesFit m (listOf 4096 (nodeAt ns)) [])
-    × (r ≡ true → after ≡ widthsFrom m (listOf 4096 (nodeAt ns)) [])
+pub record Pass : Type 0 where
+  pub fit : Bool
+  pub sizes : List ℕ
+
+module _ (ws ns : List ℕ) where
+  -- Node n, after the nodes below it.
+  unfoldable pub passNode : ℕ → Pass → Pass
+  passNode n p =
+      pick (p .fit && fitsAt (length ws) n (sizeIn (p .sizes)) (nodeAt ns n))
+      (record { fit = true; sizes = set (p .sizes) n (widthAt ws (sizeIn (p .sizes)) (nodeAt ns n)) })
+      (record { fit = false; sizes = p .sizes })
+
+  unfoldable pub passBelow : ℕ → List ℕ → Pass
+  passBelow zero us = record { fit = true; sizes = us }
+  passBelow (suc n) us = passNode n (passBelow n us)
+
+-- Then, with a table of 4,096 bytes, the answer is nodesFit, and the table is filled where it holds.
+pub record Judged (ws ns before after : List ℕ) (r : Bool) : Type 0 where
+  pub is : passBelow ws ns 4096 before ≡ record { fit = r; sizes = after }
+  pub of :
+      (m : Module Expr) → m .scope .widths ≡ ws → length before ≡ 4096 →
+      (r ≡ nodesFit m (listOf 4096 (nodeAt ns)) [])
+      × (r ≡ true → after ≡ widthsFrom m (listOf 4096 (nodeAt ns)) [])
 
 -- ---- the nodes that stand for a wait of thread i, whose code has so many instructions
 
 unfoldable pub waitsAt : List ℕ → List ℕ → ℕ → ℕ → ℕ → Bool
 waitsAt s code i size p = ltb p size && waiting (fetchAt s code i p)
 
+-- The nodes below n marked.
+unfoldable pub landBelow : (ℕ → Bool) → List ℕ → ℕ → List Bool → List Bool
+landBelow waits ns zero us = us
+landBelow waits ns (suc n) us =
+    let vs = landBelow waits ns n us in
+    set vs n (landsAt waits n (marksIn vs) (nodeAt ns n))
+
 -- With the waits of the module's thread, the table is filled with its landings.
-abbrev pub Landed : (ℕ → Bool) → List ℕ → ℕ → List Bool → List Bool → Type 0
-Landed waits ns i before after =
-    (m : Module Expr) → length before ≡ 4096 → ((p : ℕ) → waits p ≡ isWait (instrAt (codeOf m i) p)) →
-    after ≡ landings m i (listOf 4096 (nodeAt ns)) []
+pub record Landed (waits : ℕ → Bool) (ns : List ℕ) (i : ℕ) (before after : List Bool) : Type 0 where
+  pub is : after ≡ landBelow waits ns 4096 before
+  pub of :
+      (m : Module Expr) → length before ≡ 4096 → ((p : ℕ) → waits p ≡ isWait (instrAt (codeOf m i) p)) →
+      after ≡ landings m i (listOf 4096 (nodeAt ns)) []
 
 -- ---- rows
 
@@ -55,13 +82,26 @@ threadFitsAt s code ws us rs inputs registers written marks i first n =
     allBelow n
     (λ p. not (waiting (fetchAt s code i p)) || rowFitsAt ws us rs inputs (first + waitsTo s code i p) registers written marks)
 
--- The rows of all threads' waits: with the waits of the module's threads, each thread's landings are marked and its rows judged.
--- `written` has each thread's mask of the registers it writes.
-abbrev pub RowsJudged : List ℕ → List ℕ → List ℕ → List ℕ → List ℕ → List ℕ → List ℕ → ℕ → ℕ → List ℕ → List ℕ → ℕ → List Bool → Bool → Type 0
-RowsJudged s code sizes ws us ns rs inputs registers firsts written n before r =
-    (m : Module Expr) → length before ≡ 4096 →
-    ((i p : ℕ) → i < n → waitsAt s code i (sizeOf sizes i) p ≡ isWait (instrAt (codeOf m i) p)) →
-    r
-    ≡ allBelow n
-    (λ i. threadFitsAt s code ws us rs inputs registers (bits (getD written i 0)) (landings m i (listOf 4096 (nodeAt ns)) []) i
-    (getD firsts i 0) (sizeOf sizes i))
+-- The marks after the threads below n, each over the last one's.
+unfoldable pub marksTo : List ℕ → List ℕ → List ℕ → List ℕ → ℕ → List Bool → List Bool
+marksTo s code sizes ns zero us = us
+marksTo s code sizes ns (suc i) us = landBelow (waitsAt s code i (sizeOf sizes i)) ns 4096 (marksTo s code sizes ns i us)
+
+-- The rows of all threads' waits. `written` has each thread's mask of the registers it writes.
+module _ (s code sizes ws us ns rs : List ℕ) (inputs registers : ℕ) (firsts written : List ℕ) where
+  unfoldable pub rowsRight : ℕ → List Bool → Bool
+  rowsRight n before =
+      allBelow n
+      (λ i. threadFitsAt s code ws us rs inputs registers (bits (getD written i 0)) (marksTo s code sizes ns (suc i) before) i
+      (getD firsts i 0) (sizeOf sizes i))
+
+  -- With the waits of the module's threads, each thread's landings are marked and its rows judged.
+  pub record RowsJudged (n : ℕ) (before : List Bool) (r : Bool) : Type 0 where
+    pub is : r ≡ rowsRight n before
+    pub of :
+        (m : Module Expr) → length before ≡ 4096 →
+        ((i p : ℕ) → i < n → waitsAt s code i (sizeOf sizes i) p ≡ isWait (instrAt (codeOf m i) p)) →
+        r
+        ≡ allBelow n
+        (λ i. threadFitsAt s code ws us rs inputs registers (bits (getD written i 0)) (landings m i (listOf 4096 (nodeAt ns)) []) i
+        (getD firsts i 0) (sizeOf sizes i))

@@ -3,9 +3,10 @@ use mathlib.Core.Path.{_≡_}
 use mathlib.Core.Bool.{Bool, true, false, _&&_}
 use mathlib.Core.List.{List, []}
 use Prim.Native.Nat.{ℕ, _+_, _-_, _<_}
-use lib.ListN.{length, getD}
+use lib.ListN.{length, getD, replicate}
 use lib.Dec.{eqb}
 use Rattle.values.specs.Values.{fits}
+use Rattle.values.specs.Planes.{valueAt}
 use Rattle.sheet.specs.Expression.{Expr}
 use Rattle.sheet.specs.Module.{Module}
 use Rattle.masks.specs.Masks.{bits}
@@ -18,10 +19,12 @@ use Rattle.nextstate.specs.declared.Registers.{Registers}
 use Rattle.nextstate.specs.Rules.{writes, someThread}
 use Rattle.nextstate.specs.Nodes.{nodeAt}
 use Rattle.nextstate.specs.CycleRun.{widthsFrom, tablesFit, tablesIn, registersFit}
-use Rattle.threads.specs.Ruled.{Ruled}
+use Rattle.nextstate.specs.Ruled.{Ruled}
+use Rattle.tables.specs.Readers.{atMost}
 use Rattle.tables.specs.Holding.{Holding}
-use Rattle.nodes.specs.Rows.{rowsTo}
+use Rattle.nodes.specs.Rows.{sizeOf, rowsTo}
 use Rattle.engine.specs.declared.Shape.{Shape}
+use Rattle.checking.specs.Checking.{passBelow, waitsAt, rowsRight}
 
 -- ---- the module of a sheet, with widths, places of the wires' expressions, code, the threads' sizes and first rows, the masks of
 -- the registers that each thread writes, and of those that some thread does
@@ -43,18 +46,36 @@ pub record Context (s : List ℕ) (m : Module Expr) (ws starts code lengths firs
 
 -- ---- 24, and the nodes' widths filled in
 
-abbrev pub TablesJudged : List ℕ → List ℕ → List ℕ → List ℕ → List ℕ → List ℕ → Shape → List ℕ → List ℕ → List ℕ → List ℕ → Bool → Type 0
-TablesJudged s ws code lengths firsts written shape ns rs before after r =
-    (m : Module Expr) (starts : List ℕ) (all : List Bool) → Context s m ws starts code lengths firsts written all shape →
-    length before ≡ 4096 →
-    (r ≡ tablesFit m (tablesIn ns rs)) × (r ≡ true → after ≡ widthsFrom m (listOf 4096 (nodeAt ns)) [])
+module _ (s ws code lengths firsts written : List ℕ) (shape : Shape) (ns rs before : List ℕ) where
+  unfoldable pub tablesRight : Bool
+  tablesRight =
+      let p = passBelow ws ns 4096 before in
+      p .fit
+      && rowsRight s code lengths ws (p .sizes) ns rs (shape .inputs) (shape .registers) firsts written (atMost 8 (shape .threads))
+      (replicate 4096 false)
+
+  -- On the tables of a sheet that was accepted it is nextstate's.
+  pub record TablesJudged (after : List ℕ) (r : Bool) : Type 0 where
+    pub is : r ≡ tablesRight
+    pub filled : after ≡ passBelow ws ns 4096 before .sizes
+    pub of :
+        (m : Module Expr) (starts : List ℕ) (all : List Bool) → Context s m ws starts code lengths firsts written all shape →
+        length before ≡ 4096 →
+        (r ≡ tablesFit m (tablesIn ns rs)) × (r ≡ true → after ≡ widthsFrom m (listOf 4096 (nodeAt ns)) [])
 
 -- ---- 31
 
-abbrev pub RegistersJudged : List ℕ → List ℕ → List ℕ → List ℕ → Shape → Registers → Bool → Type 0
-RegistersJudged s ws code lengths shape g r =
-    (m : Module Expr) (starts firsts written : List ℕ) (all : List Bool) → Context s m ws starts code lengths firsts written all shape →
-    r ≡ registersFit m g
+module _ (s ws code lengths : List ℕ) (shape : Shape) (g : Registers) where
+  unfoldable pub registersRight : Bool
+  registersRight =
+      allBelow (shape .registers) (λ v. fits (getD ws (shape .inputs + v) 0) (valueAt (g .value) (g .unknown) v))
+      && allBelow (shape .threads) (λ i. waitsAt s code i (sizeOf lengths i) (getD (g .places) i 0))
+
+  pub record RegistersJudged (r : Bool) : Type 0 where
+    pub is : r ≡ registersRight
+    pub of :
+        (m : Module Expr) (starts firsts written : List ℕ) (all : List Bool) →
+        Context s m ws starts code lengths firsts written all shape → r ≡ registersFit m g
 
 -- ---- 25
 

@@ -3,7 +3,7 @@
 use mathlib.Core.Bool.{Bool, true, false}
 use mathlib.Core.List.{List}
 use Prim.Native.Nat.{ℕ, zero, suc, _+_, _-_, _%_, _≤_, _<_}
-use lib.ListN.{getD, set, replicate}
+use lib.ListN.{length, getD, set, replicate}
 use lib.Dec.{ltb}
 use Rattle.values.specs.declared.Value.{Value}
 use Rattle.values.specs.declared.Value.the-variants.{Known}
@@ -179,8 +179,22 @@ clockAt k ws starts ns us wires threads written g a =
     answerAt (k .sheet) ws starts (k .inputs) (k .registers) wires written g
     (stepAt k ws starts ns us wires threads 4096 d (record { planes = p; places = g .places }) .stand)
 
--- ---- the nodes that are worked out: so many that every entry of the rows is one of them, or none of the 4,096
+-- ---- how many nodes are worked out: those up to the highest entry of the rows that is one of the 4,096, and one at least
 
+-- Those up to entry e, and n.
+unfoldable pub furthest : ℕ → ℕ → ℕ
+furthest n e = pick (ltb e 4096) (pick (ltb e n) n (e + 1)) n
+
+-- By the first j entries.
+unfoldable pub reachBelow : List ℕ → ℕ → ℕ
+reachBelow rs zero = 1
+reachBelow rs (suc j) = furthest (reachBelow rs j) (getD rs j 0)
+
+-- By all of them.
+unfoldable pub reach : List ℕ → ℕ
+reach rs = reachBelow rs (length rs)
+
+-- So many that every entry is one of them, or none of the 4,096.
 pub record Reached (rs : List ℕ) (n : ℕ) : Type 0 where
   pub most : n ≤ 4096
   pub entry : (j : ℕ) → getD rs j 0 < 4096 → getD rs j 0 < n

@@ -18,7 +18,7 @@ ghost use Rattle.values.specs.Planes.{valueAt, numberOf};
 ghost use Rattle.masks.specs.Masks.{bits};
 ghost use Rattle.tables.specs.Readers.{atMost};
 ghost use Rattle.nodes.specs.Cells.{sizeIn, nodesIn};
-ghost use Rattle.clocking.specs.Running.{planes, putAt, putAll, startAt, settleAt, workBelow, takeRegister, takeRegisters, stand, course, takeThread, takeBelow, keepRegister, keepRegisters, stepAt, handAt, clockAt, answerAt, Reached};
+ghost use Rattle.clocking.specs.Running.{planes, putAt, putAll, startAt, settleAt, workBelow, takeRegister, takeRegisters, stand, course, takeThread, takeBelow, keepRegister, keepRegisters, stepAt, handAt, clockAt, answerAt, furthest, reach, Reached};
 
 // A byte as a place.
 pub fn place(b: u8) -> usize
@@ -608,7 +608,7 @@ pub fn answer(
 
 // How many nodes there are up to an entry, if it is one of the 4,096, and to `n`.
 fn further(n: u16, entry: u16) -> u16
-    ensures { λ r. ⌜ (n ≤ r) × (entry < 4096 → entry < r) × (n ≤ 4096 → r ≤ 4096) ⌝ }
+    ensures { λ r. ⌜ r ≡ furthest n entry ⌝ }
 {
     if 4096 <= entry {
         return n;
@@ -618,6 +618,7 @@ fn further(n: u16, entry: u16) -> u16
 
 // How many nodes the rows reach.
 pub fn reach(rows: &[u16]) -> u16
+    ensures { λ n. ⌜ n ≡ reach (now (rows .entry)) ⌝ }
     ensures { λ n. ⌜ Reached (now (rows .entry)) n ⌝ }
 {
     let mut n: u16 = 1;

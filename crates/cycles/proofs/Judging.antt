@@ -52,13 +52,13 @@ module _ (s ws starts code lengths firsts written : List ℕ) (all : List Bool) 
 
     pub answer-24 : (r : Clocked) → t ≡ false → r ≡ refused 24 g → Answer r
     unfolding clockedIn
-    answer-24 r e h m c = rw (sym (j m starts all c long .0) ∙ e) h
+    answer-24 r e h m c = rw (sym (j .of m starts all c long .0) ∙ e) h
 
     module _ (e : t ≡ true) (u : Bool) (k : RegistersJudged s ws code lengths shape g u) where
       pub answer-31 : (r : Clocked) → u ≡ false → r ≡ refused 31 g → Answer r
       unfolding clockedIn
       answer-31 r f h m c =
-          rw (sym (j m starts all c long .0) ∙ e, sym (k m starts firsts written all c) ∙ f) h
+          rw (sym (j .of m starts all c long .0) ∙ e, sym (k .of m starts firsts written all c) ∙ f) h
 
       module _ (f : u ≡ true) (v : Bool) (i : v ≡ inputsRight ws (shape .inputs) a) where
         input-fits : (m : Module Expr) → Context s m ws starts code lengths firsts written all shape → upperInputsFit m a ≡ v
@@ -67,7 +67,7 @@ module _ (s ws starts code lengths firsts written : List ℕ) (all : List Bool) 
         pub answer-25 : (r : Clocked) → v ≡ false → r ≡ refused 25 g → Answer r
         unfolding clockedIn
         answer-25 r o h m c =
-            rw (sym (j m starts all c long .0) ∙ e, sym (k m starts firsts written all c) ∙ f, input-fits m c ∙ o) h
+            rw (sym (j .of m starts all c long .0) ∙ e, sym (k .of m starts firsts written all c) ∙ f, input-fits m c ∙ o) h
 
         pub answer-clocked :
             (r : Clocked) → v ≡ true → length (g .places) ≡ 8 →
@@ -76,12 +76,12 @@ module _ (s ws starts code lengths firsts written : List ℕ) (all : List Bool) 
             Answer r
         unfolding clockedIn tablesFit tablesIn
         answer-clocked r o eight h m c =
-            let x = j m starts all c long in
+            let x = j .of m starts all c long in
             let fit = sym (x .0) ∙ e in
             let nodes = nodesFit m (listOf 4096 (nodeAt ns)) [] in
             let y = rw (c .inputs, c .registers, c .wires, c .threads, atMost-same 8 (length (m .threads)) (c .sound .threads-most), ← c .widths) at h in
-            rw (fit, sym (k m starts firsts written all c) ∙ f, input-fits m c ∙ o)
+            rw (fit, sym (k .of m starts firsts written all c) ∙ f, input-fits m c ∙ o)
             (y
             ∙ cycle-same (c .sound) (c .holding) firsts written (c .first) (c .writers) ns rs sizes (x .1 e)
             (and-left nodes (rowsFit m (tablesIn ns rs)) fit) (and-right nodes (rowsFit m (tablesIn ns rs)) fit) all (c .some) g
-            (sym (k m starts firsts written all c) ∙ f) eight a)
+            (sym (k .of m starts firsts written all c) ∙ f) eight a)

@@ -137,20 +137,20 @@ module _ (s ws starts code lengths firsts written : List ℕ) (all : List Bool) 
 
     pub many-24 : (r : Cycled) (d : Clocked) → t ≡ false → d ≡ refused 24 g → r ≡ ended 0 24 d → Answer r
     unfolding cyclesIn
-    many-24 r d e f h m c = rw (sym (j m starts all c long .0) ∙ e) (h ∙ ap (ended 0 24) f)
+    many-24 r d e f h m c = rw (sym (j .of m starts all c long .0) ∙ e) (h ∙ ap (ended 0 24) f)
 
     module _ (e : t ≡ true) (u : Bool) (k : RegistersJudged s ws code lengths shape g u) where
       pub many-31 : (r : Cycled) (d : Clocked) → u ≡ false → d ≡ refused 31 g → r ≡ ended 0 31 d → Answer r
       unfolding cyclesIn
       many-31 r d f o h m c =
-          rw (sym (j m starts all c long .0) ∙ e, sym (k m starts firsts written all c) ∙ f) (h ∙ ap (ended 0 31) o)
+          rw (sym (j .of m starts all c long .0) ∙ e, sym (k .of m starts firsts written all c) ∙ f) (h ∙ ap (ended 0 31) o)
 
       pub many-rows :
           (r : Cycled) → u ≡ true → RowsAnswer s ws starts code lengths firsts written all shape ns rs sizes g value unknown r → Answer r
       unfolding cyclesIn
       many-rows r f h m c =
-          rw (sym (j m starts all c long .0) ∙ e, sym (k m starts firsts written all c) ∙ f)
-          (h before long (rw e at j) m c (sym (k m starts firsts written all c) ∙ f) ∙ ap (cyclesOf (clockedIn m (tablesIn ns rs)) g value unknown) (c .inputs))
+          rw (sym (j .of m starts all c long .0) ∙ e, sym (k .of m starts firsts written all c) ∙ f)
+          (h before long (rw e at j) m c (sym (k .of m starts firsts written all c) ∙ f) ∙ ap (cyclesOf (clockedIn m (tablesIn ns rs)) g value unknown) (c .inputs))
 
 -- ---- what the last cycle gave
 
@@ -230,7 +230,7 @@ module _ (s ws starts code lengths firsts written : List ℕ) (all : List Bool) 
             let y = q before l j m c right in
             let o = registersOf (lastOf r b) in
             let refusal : refused 25 o ≡ call m o (inputs r) =
-            rw (sym (j m starts all c l .0), y .held .right, c .inputs, items-fit (c .sound) value unknown r, c .widths, ← c .inputs, t) in
+            rw (sym (j .of m starts all c l .0), y .held .right, c .inputs, items-fit (c .sound) value unknown r, c .widths, ← c .inputs, t) in
             let n : refused 25 o .number ≡ 0 → ⊥ = λ z. omega arith in
             e
             ∙ sym (cycles-off (call m) inputs many r (lastOf r b) h (refused 25 o) refusal n)
@@ -246,7 +246,7 @@ module _ (s ws starts code lengths firsts written : List ℕ) (all : List Bool) 
         unfolding lastAt
         going-on t count reached u e before l j m c right =
             let y = q before l j m c right in
-            let k = j m starts all c l in
+            let k = j .of m starts all c l in
             let x =
             row-more (c .sound) (c .ruled) (c .holding) firsts written (c .first) (c .writers) ns rs sizes (k .1 refl) (sym (k .0)) all (c .some) g
             (lastOf r b) (b .planes) (y .held) (itemAt value unknown (16 * r + 1)) (rowInputs (m .scope .inputs) value unknown r)

@@ -33,7 +33,7 @@ use Rattle.nextstate.specs.Nodes.{nodeAt}
 use Rattle.nextstate.specs.Extraction.{Tables}
 use Rattle.nextstate.specs.Book.{settle, settled, put}
 use Rattle.nextstate.specs.CycleRun.{nodesFit, widthsFrom, rowsFit, tablesFit, tablesIn, registersFit, upperInputsFit, handed, given, refused, clockedIn}
-use Rattle.threads.specs.Ruled.{Ruled}
+use Rattle.nextstate.specs.Ruled.{Ruled}
 use Rattle.settling.proofs.Settle.{settle-other, settle-below, settle-agree, settle-fits}
 use Rattle.tables.specs.Holding.{Holding}
 use Rattle.nodes.specs.Rows.{rowsTo}

@@ -28,7 +28,7 @@ use Rattle.nextstate.proofs.Numbers.{extracted-rule}
 use Rattle.nextstate.specs.Extraction.{Tables, extracted, expressions, rightLengths}
 use Rattle.nextstate.specs.CycleRun as run
 use Rattle.nextstate.specs.CycleRun.{tablesIn, extractable, clockedOr, clockedIn, cycleRun}
-use Rattle.threads.proofs.Ruled.{ruled}
+use Rattle.nextstate.proofs.Ruled.{ruled}
 use Rattle.tables.specs.Readers.{atMost, readersBelow, watchedBelow}
 use Rattle.tables.specs.Holding.{Holding}
 use Rattle.tables.proofs.Readers.{atMost-same}

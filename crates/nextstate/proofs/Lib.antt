@@ -1,3 +1,5 @@
 pub mod Samples
 pub mod Watchdog
 pub mod Numbers
+pub mod Ruled
+pub mod Laws

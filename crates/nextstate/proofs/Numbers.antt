@@ -1,5 +1,5 @@
 -- Every refusal of extraction has a number from 1 on, so 0 is free to say "accepted" (`accepted`): then the sheet was read, no rule is
--- broken, and the lent words hold the module's nodes and rows.
+-- broken, and the lent words hold the module's nodes and rows. `accepts-exactly` says when, both ways.
 use mathlib.Core.Path.{_≡_, refl}
 use mathlib.Core.Bool.{Bool, true, false}
 use mathlib.Core.List.{List}
@@ -19,6 +19,7 @@ use Rattle.events.specs.Cycle.{codeOf, instrAt, isWait}
 use Rattle.nextstate.specs.Rules.{writes, rule}
 use Rattle.nextstate.specs.Nodes.{Node, allWords, padded}
 use Rattle.nextstate.specs.Walk.{emit, express, Held, Walked, mergeOne, merge, visit, walk}
+use Rattle.nextstate.specs.Accepted.{Acceptable, AcceptsExactly}
 use Rattle.nextstate.specs.Extraction.{Tables, walkFrom, walksBelow, threadsBelow, extracted, expressions, filled, rightLengths, extract}
 
 -- ---- Numbered: accepted, or refused with a number from 1 on
@@ -160,3 +161,24 @@ accepted s ns rs h = long (rightLengths ns rs) refl
     long : (t : Bool) → rightLengths ns rs ≡ t → Accepted s ns rs
     long true l = sheet l (read s) refl
     long false l = let f : _≡_ {A = ℕ} 23 0 = rw l at h in absurd (omega arith)
+
+-- ---- when it accepts, both ways
+
+accepts : (s ns rs : List ℕ) → Acceptable s ns rs → extract s ns rs .number ≡ 0
+unfolding extract expressions extracted filled
+accepts s ns rs a = rw (a .lengths, a .reads, eq-eqb (rule (a .contents)) 0 (a .unbroken), a .walks) refl
+
+pub accepts-exactly : AcceptsExactly
+accepts-exactly s ns rs = (acceptable, accepts s ns rs)
+  where
+    acceptable : extract s ns rs .number ≡ 0 → Acceptable s ns rs
+    acceptable h =
+        let A = accepted s ns rs h in
+        record {
+          lengths = A .lengths;
+          contents = A .contents;
+          reads = A .reads;
+          unbroken = extracted-rule (A .contents) (A .extracts);
+          tables = A .tables;
+          walks = extracted-walks (A .contents) (A .extracts);
+        }

@@ -4,3 +4,6 @@ pub mod Walk
 pub mod Extraction
 pub mod Book
 pub mod CycleRun
+pub mod Ruled
+pub mod Accepted
+pub mod Laws

@@ -25,9 +25,9 @@ use Rattle.nextstate.specs.Rules.{writes}
 use Rattle.nextstate.specs.Extraction.{Tables, extracted}
 use Rattle.nextstate.specs.Book.{Book, settle, settled, fed, entry, worth, taken, nextPlace, rise, turned}
 use Rattle.nextstate.specs.CycleRun.{handed, clocked}
-use Rattle.threads.specs.Ruled.{Ruled}
+use Rattle.nextstate.specs.Ruled.{Ruled}
 use Rattle.threads.specs.Alone.{riseAlone}
-use Rattle.threads.proofs.Ruled.{writes-register}
+use Rattle.nextstate.proofs.Ruled.{writes-register}
 use Rattle.settling.proofs.Settle.{settle-below, clock-apart}
 use Rattle.phases.proofs.Agreement.{Agree, rise-agree, settled-agree}
 use Rattle.walking.proofs.Rising.{AllWait, row-has}

@@ -1,7 +1,7 @@
 -- Wherever a list of calls ends, in a module that extraction accepts (`at-the-end`): the first five of the claim's sentences.
 use mathlib.Core.Path.{_≡_, refl, sym, ap, subst, _∙_}
 use mathlib.Core.Logic.{_≢_}
-use mathlib.Core.Bool.{true}
+use mathlib.Core.Bool.{Bool, true, false}
 use mathlib.Core.List.{List}
 use Prim.Native.Nat.{ℕ, _<_}
 use native.Mathlib.Omega.{arith}
@@ -16,15 +16,15 @@ use Rattle.sheet.specs.Expression.{Expr}
 use Rattle.sheet.specs.Module.{Module, read}
 use Rattle.state.specs.declared.State.{State}
 use Rattle.soundness.specs.Soundness.{Sound}
-use Rattle.events.specs.Cycle.{variables, codeOf, instrAt, isWait}
+use Rattle.events.specs.Cycle.{variables, codeOf, instrAt, isWait, items, anyEnabled}
 use Rattle.events.specs.Calls.{started, startOf, start, plainChoice}
 use Rattle.events.specs.Steps.{Instant}
 use Rattle.events.proofs.Choices.{spend-zero}
 use Rattle.events.proofs.Fits.{Fits, shaped-started, fits-started}
-use Rattle.events.proofs.Runs.{plain-refusal}
+use Rattle.events.proofs.Runs.{plain-lowest, plain-commit, plain-refusal}
 use Rattle.nextstate.specs.Extraction.{Tables, extracted}
 use Rattle.nextstate.specs.Book.{Book, settled, fed, rise, opening, turned, book}
-use Rattle.threads.specs.Ruled.{Ruled}
+use Rattle.nextstate.specs.Ruled.{Ruled}
 use Rattle.threads.specs.Alone.{riseAlone}
 use Rattle.settling.proofs.Settle.{settle-below}
 use Rattle.walking.proofs.Rising.{rise-alone}
@@ -88,6 +88,15 @@ module _ (s : List ℕ) (m : Module Expr) (e : read s ≡ ok m) (w : Sound m) (u
   unfolding started
   no-count = ap (λ (st : State). st .count) from-start
 
+  -- The plain choice is a byte: an item, of which there are 40 at most, or the commit.
+  plain-byte : (st : State) → plainChoice m st < 256
+  unfolding items
+  plain-byte st = by (anyEnabled m st) refl
+    where
+      by : (t : Bool) → anyEnabled m st ≡ t → plainChoice m st < 256
+      by true h = omega (arith, plain-lowest m st h .0, w .threads-most, w .wires-most)
+      by false h = rw (plain-commit m st h) (omega arith)
+
   -- The phase at the list's end.
   reached : (calls : List Call) → Cycles (instants s calls (start s .state)) →
       Phase m (book m T (instants s calls (start s .state))) (final s calls (start s .state)) (since s calls (start s .state) 0)
@@ -109,7 +118,11 @@ module _ (s : List ℕ) (m : Module Expr) (e : read s ≡ ok m) (w : Sound m) (u
         time = tally .time ∙ rw no-time (omega arith);
         count = tally .count ∙ rw no-count (omega arith);
         bound = phase-bound m w u b st n p;
-        progress = λ q room. (plainChoice m st, ap (λ r. r .number) (choose-in s m e w st stands (plainChoice m st)) ∙ plain-refusal m st w q ∙ spend-zero (st .count) room);
+        progress = λ q room. (
+          plainChoice m st,
+          plain-byte st,
+          ap (λ r. r .number) (choose-in s m e w st stands (plainChoice m st)) ∙ plain-refusal m st w q ∙ spend-zero (st .count) room,
+        );
         values = λ q. phase-quiet m w u b st n q p .0;
         places = λ q. phase-quiet m w u b st n q p .1;
       }

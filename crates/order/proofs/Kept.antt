@@ -25,9 +25,9 @@ use Rattle.events.proofs.Fits.{fits-inputs, latest-fits}
 use Rattle.nextstate.specs.Rules.{sets, writes}
 use Rattle.nextstate.specs.Extraction.{Tables, extracted}
 use Rattle.nextstate.specs.Book.{Book, settled, fed, rise, opening, turned, turnedAll, book}
-use Rattle.threads.specs.Ruled.{Ruled}
+use Rattle.nextstate.specs.Ruled.{Ruled}
 use Rattle.threads.specs.Alone.{Local, endOf, valueAfter, takenAlone, placeAlone, riseAlone}
-use Rattle.threads.proofs.Ruled.{writes-register}
+use Rattle.nextstate.proofs.Ruled.{writes-register}
 use Rattle.threads.proofs.Alone.{end-waits, end-inside, LocalFits, end-fits}
 use Rattle.settling.proofs.Settle.{settle-fits}
 use Rattle.phases.proofs.Firing.{wait-inside}

@@ -7,3 +7,4 @@ pub mod Giving
 pub mod Order
 pub mod PlainRun
 pub mod Watchdog
+pub mod ShutOut

@@ -27,8 +27,8 @@ use Rattle.nextstate.specs.Extraction.{Tables, extracted, rightLengths}
 use Rattle.nextstate.specs.Book.{Book, settled, taken, rise, turned, turnedAll, opening, book}
 use Rattle.nextstate.specs.CycleRun.{registersFit, upperInputsFit, handed, clocked, given, clockedIn, extractable, clockedOr, cycleRun}
 use Rattle.nextstate.proofs.Numbers.{accepted, extracted-rule}
-use Rattle.threads.specs.Ruled.{Ruled}
-use Rattle.threads.proofs.Ruled.{ruled, unbroken}
+use Rattle.nextstate.specs.Ruled.{Ruled}
+use Rattle.nextstate.proofs.Ruled.{ruled, unbroken}
 use Rattle.settling.proofs.Settle.{settle-below}
 use Rattle.phases.proofs.Agreement.{Agree}
 use Rattle.walking.proofs.Rows.{rows-length}

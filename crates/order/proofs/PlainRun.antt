@@ -1,7 +1,7 @@
 -- The plain run stores each wire at most once between changes (`plain-run`), in a module that extraction accepts.
 use Rattle.soundness.proofs.Soundness.{sound}
 use Rattle.nextstate.proofs.Numbers.{accepted, extracted-rule}
-use Rattle.threads.proofs.Ruled.{ruled}
+use Rattle.nextstate.proofs.Ruled.{ruled}
 use Rattle.settling.proofs.Plain.{plain-stores}
 use Rattle.order.specs.PlainRun.{PlainRun}
 

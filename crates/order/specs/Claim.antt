@@ -39,8 +39,10 @@ module _ (s : List ℕ) (m : Module Expr) (T : Tables) where
     -- "the count has risen since the last accepted instant, or the start, by at most P + 2^W, P being all threads' instructions and
     -- W the wires"
     pub bound : since s calls (start s .state) 0 ≤ allInstructions m + 2 ^ length (m .wires)
-    -- "a state that isn't quiet has a choice that is accepted unless the count is full"
-    pub progress : quiet m (end calls) ≡ false → end calls .count ≢ 4294967295 → (c : ℕ) × (choose s (end calls) c .number ≡ 0)
+    -- "a state that isn't quiet has a choice that is accepted unless the count is full". A choice is a byte.
+    pub progress :
+        quiet m (end calls) ≡ false → end calls .count ≢ 4294967295 →
+        (c : ℕ) × (c < 256) × (choose s (end calls) c .number ≡ 0)
     -- "a quiet one has the book's inputs, registers, places (demand 3's waits) and wires"
     pub values : quiet m (end calls) ≡ true → (v : ℕ) → v < variables m → valueOf (end calls) v ≡ book m T (fed calls) .values v
     pub places : quiet m (end calls) ≡ true → (i : ℕ) → i < length (m .threads) → placeOf (end calls) i ≡ book m T (fed calls) .places i

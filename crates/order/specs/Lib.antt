@@ -1,3 +1,4 @@
 pub mod Calls
 pub mod Claim
 pub mod PlainRun
+pub mod Misread

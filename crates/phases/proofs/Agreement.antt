@@ -20,9 +20,9 @@ use Rattle.events.proofs.Cycle.{absurd-bool}
 use Rattle.nextstate.specs.Rules.{readsAt}
 use Rattle.nextstate.specs.Extraction.{Tables}
 use Rattle.nextstate.specs.Book.{Book, settled, fed, rise, turned}
-use Rattle.threads.specs.Ruled.{Ruled}
+use Rattle.nextstate.specs.Ruled.{Ruled}
 use Rattle.threads.specs.Alone.{Local, exec, turn, alone, begin, endOf, valueAfter, takenAlone, placeAlone, riseAlone}
-use Rattle.threads.proofs.Ruled.{any-instr, instr-any, sound-instr}
+use Rattle.nextstate.proofs.Ruled.{any-instr, instr-any, sound-instr}
 use Rattle.threads.proofs.View.{Agree as AgreeOn, exec-agree}
 use Rattle.settling.proofs.Settle.{settle-agree}
 use Rattle.phases.specs.Phases.{turnedAlone}

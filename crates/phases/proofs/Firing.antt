@@ -17,7 +17,7 @@ use Rattle.state.specs.State.{valueOf, placeOf}
 use Rattle.events.specs.Cycle.{instrAt, current, isWait}
 use Rattle.events.specs.Steps.{Fired, goes-on, stays}
 use Rattle.events.proofs.Cycle.{absurd-bool}
-use Rattle.threads.specs.Ruled.{Ruled}
+use Rattle.nextstate.specs.Ruled.{Ruled}
 use Rattle.threads.proofs.View.{fires-clock}
 
 -- A wait stands inside its code.

@@ -29,7 +29,7 @@ use Rattle.events.proofs.Fits.{value-started, pending-started, place-started}
 use Rattle.nextstate.specs.Rules.{wireReads}
 use Rattle.nextstate.specs.Extraction.{Tables}
 use Rattle.nextstate.specs.Book.{Book, settled, fed, opening}
-use Rattle.threads.specs.Ruled.{Ruled}
+use Rattle.nextstate.specs.Ruled.{Ruled}
 use Rattle.threads.specs.Resting.{here}
 use Rattle.threads.specs.Alone.{Local, alone, begin, endOf, placeAlone, riseAlone}
 use Rattle.threads.specs.View.{View}

@@ -22,9 +22,9 @@ use Rattle.events.specs.Steps.{latest}
 use Rattle.events.proofs.Cycle.{absurd-bool, or-left, or-right, Below, at-end, before, below-suc}
 use Rattle.nextstate.specs.Rules.{sets, defers, writes}
 use Rattle.nextstate.specs.Book.{Book, settle}
-use Rattle.threads.specs.Ruled.{Ruled}
+use Rattle.nextstate.specs.Ruled.{Ruled}
 use Rattle.threads.specs.Alone.{Local, alone, begin, endOf, valueAfter, takenAlone, placeAlone, riseAlone}
-use Rattle.threads.proofs.Ruled.{refuted, writes-thread, writes-register}
+use Rattle.nextstate.proofs.Ruled.{refuted, writes-thread, writes-register}
 use Rattle.threads.proofs.Resting.{way-bound}
 use Rattle.threads.proofs.Alone.{alone-keeps, alone-keeps-pending, end-is, begin-inside}
 use Rattle.settling.proofs.Settle.{settle-agree}

@@ -26,7 +26,7 @@ use Rattle.events.proofs.Cycle.{absurd-bool}
 use Rattle.events.proofs.Choices.{sound-current}
 use Rattle.events.proofs.Fits.{due-started}
 use Rattle.nextstate.specs.Book.{settle}
-use Rattle.threads.specs.Ruled.{Ruled}
+use Rattle.nextstate.specs.Ruled.{Ruled}
 use Rattle.threads.proofs.View.{no-fire}
 use Rattle.settling.specs.Settles.{Settles, WireStep}
 use Rattle.settling.specs.Potential.{potential}

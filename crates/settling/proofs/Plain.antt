@@ -25,9 +25,9 @@ use Rattle.events.specs.Steps.{Acts, assigns, defers, jumps, goes-in, passes-by
 use Rattle.events.proofs.Cycle.{absurd-bool, and-left, and-right, some-below, none-below, changed-true, changed-false, current-place}
 use Rattle.events.proofs.Choices.{enabled-thread, enabled-wire}
 use Rattle.events.proofs.Runs.{length-choicesBy, plain-lowest, plain-commit}
-use Rattle.threads.specs.Ruled.{Ruled}
+use Rattle.nextstate.specs.Ruled.{Ruled}
 use Rattle.settling.specs.Settles.{WireStep}
-use Rattle.settling.specs.Plain.{stateAt, choiceAt, Stores, Changes, ChangeBetween, StoresOnce, StoresRising}
+use Rattle.settling.specs.Plain.{stateAt, Stores, Changes, ChangeBetween, StoresOnce, StoresRising}
 use Rattle.settling.proofs.Marks.{place-kept, mark-same, wire-settles, wire-kept}
 use Rattle.settling.proofs.Course.{Course, course}
 
@@ -129,15 +129,14 @@ module _ (m : Module Expr) (w : Sound m) (st : State) (s : Shaped st) (n : ℕ) 
   -- Each choice that the run takes is a step from the state that it has reached to the next one.
   pub plain-course :
       (p : ℕ) → p < runBy m (plainChoice m) n st .accepted →
-      Step m (stateAt m st p) (stateAt m st (suc p)) (choiceAt m st n p)
-  unfolding stateAt choiceAt
-  plain-course p l = let c = course-at p l in rw (c .choice) (c .step)
+      Step m (stateAt m st p) (stateAt m st (suc p)) (plainChoice m (stateAt m st p))
+  unfolding stateAt
+  plain-course p l = course-at p l .step
 
   stored :
       (p k : ℕ) → Stores m st n p k →
       Past m k (stateAt m st p) × (enabled m (stateAt m st p) (length (m .threads) + k) ≡ true)
-  unfolding stateAt choiceAt
-  stored p k x = plain-wire m w (stateAt m st p) k (x .wire) (sym (course-at p (x .taken) .choice) ∙ x .choice)
+  stored p k x = plain-wire m w (stateAt m st p) k (x .wire) (x .choice)
 
   module _ (R : Ruled m) where
     past-stored : (p k : ℕ) → Stores m st n p k → Past m (suc k) (stateAt m st (suc p))

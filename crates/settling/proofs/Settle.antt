@@ -24,7 +24,7 @@ use Rattle.events.specs.Calls.{widthOf}
 use Rattle.events.proofs.Cycle.{absurd-bool}
 use Rattle.nextstate.specs.Rules.{wireReads}
 use Rattle.nextstate.specs.Book.{put, settleBelow, settle}
-use Rattle.threads.specs.Ruled.{Ruled}
+use Rattle.nextstate.specs.Ruled.{Ruled}
 use Rattle.settling.specs.Settles.{Consistent}
 
 -- ---- put

@@ -3,12 +3,12 @@
 use Prim.Native.Nat.{ℕ, suc, _+_, _<_}
 use mathlib.Core.Path.{_≡_}
 use mathlib.Core.Logic.{_≢_, _⊎_}
-use lib.ListN.{length, getD}
+use lib.ListN.{length}
 use Rattle.sheet.specs.Expression.{Expr}
 use Rattle.sheet.specs.Module.{Module}
 use Rattle.state.specs.declared.State.{State}
 use Rattle.state.specs.State.{valueOf}
-use Rattle.events.specs.Calls.{runBy, choicesBy, plainChoice}
+use Rattle.events.specs.Calls.{runBy, plainChoice}
 
 -- The plain run from a state on; its choices are counted from 0.
 module _ (m : Module Expr) (st : State) where
@@ -16,15 +16,11 @@ module _ (m : Module Expr) (st : State) where
   unfoldable pub stateAt : ℕ → State
   stateAt p = runBy m (plainChoice m) p st .state
 
-  -- Choice p of the run of at most n choices; 255 past its last one.
-  unfoldable pub choiceAt : ℕ → ℕ → ℕ
-  choiceAt n p = getD (choicesBy m (plainChoice m) n st) p 255
-
-  -- It is taken, and stores wire k.
+  -- Choice p of the run of at most n is taken, and stores wire k.
   pub record Stores (n p k : ℕ) : Type 0 where
     pub taken : p < runBy m (plainChoice m) n st .accepted
     pub wire : k < length (m .wires)
-    pub choice : choiceAt n p ≡ length (m .threads) + k
+    pub choice : plainChoice m (stateAt p) ≡ length (m .threads) + k
 
   -- Choice p changes an input or a register.
   pub record Changes (p : ℕ) : Type 0 where

@@ -24,10 +24,10 @@ use Rattle.events.specs.Calls.{widthOf, pendingFits}
 use Rattle.events.proofs.Cycle.{absurd-bool}
 use Rattle.nextstate.specs.Rules.{setsAt, defersAt, sets, defers}
 use Rattle.nextstate.specs.Book.{put}
-use Rattle.threads.specs.Ruled.{Ruled}
+use Rattle.nextstate.specs.Ruled.{Ruled}
 use Rattle.threads.specs.Resting.{Leads, Rests, rests, Way, here, step}
 use Rattle.threads.specs.Alone.{Local, putPending, exec, turn, alone, begin, endOf}
-use Rattle.threads.proofs.Ruled.{at-instr, sound-instr, target-set, target-later}
+use Rattle.nextstate.proofs.Ruled.{at-instr, sound-instr, target-set, target-later}
 use Rattle.threads.proofs.Resting.{thread-rests, way-inside, way-bound}
 
 -- ---- put, putPending: a value stored, read at another number

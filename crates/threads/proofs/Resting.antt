@@ -20,9 +20,9 @@ use Rattle.soundness.specs.Soundness.{Sound, SoundInstr, sound-wait, sound-set,
 use Rattle.events.specs.Cycle.{codeOf, instrAt}
 use Rattle.events.proofs.Cycle.{absurd-bool, and-left, and-right}
 use Rattle.nextstate.specs.Rules.{bodyOf, surelyWaits, loopsWait}
-use Rattle.threads.specs.Ruled.{Ruled}
+use Rattle.nextstate.specs.Ruled.{Ruled}
 use Rattle.threads.specs.Resting.{Leads, Rests, rests, Way, here, step}
-use Rattle.threads.proofs.Ruled.{or-either, sound-instr}
+use Rattle.nextstate.proofs.Ruled.{or-either, sound-instr}
 
 -- ---- ways
 

@@ -33,11 +33,11 @@ use Rattle.events.proofs.Cycle.{absurd-bool, and-left, and-right}
 use Rattle.nextstate.specs.Rules.{setsAt, defersAt, readsAt, sets, threadReads, wireReads, clockEdge, isPosedge}
 use Rattle.nextstate.specs.Rules as rules
 use Rattle.nextstate.specs.Book.{put}
-use Rattle.threads.specs.Ruled.{Ruled}
+use Rattle.nextstate.specs.Ruled.{Ruled}
 use Rattle.threads.specs.Resting.{Leads}
 use Rattle.threads.specs.Alone.{Local, putPending, exec, turn, alone}
 use Rattle.threads.specs.View.{Sees, SeesPending, View}
-use Rattle.threads.proofs.Ruled.{refuted, at-instr, instr-any, sets-register, target-set, target-later}
+use Rattle.nextstate.proofs.Ruled.{refuted, at-instr, instr-any, sets-register, target-set, target-later}
 use Rattle.threads.proofs.Resting.{way-snoc}
 use Rattle.threads.proofs.Alone.{exec-leads, exec-keeps, exec-keeps-pending}
 

@@ -1,4 +1,3 @@
-pub mod Ruled
 pub mod Resting
 pub mod Alone
 pub mod View

@@ -25,8 +25,8 @@ use Rattle.nextstate.specs.Extraction.{Tables, variableNodes, walkFrom, walksBe
 use Rattle.nextstate.specs.Book.{entry}
 use Rattle.nextstate.specs.CycleRun.{nodeFits, widthsFrom}
 use Rattle.nextstate.proofs.Numbers.{extracted-walks}
-use Rattle.threads.specs.Ruled.{Ruled}
-use Rattle.threads.proofs.Ruled.{sound-instr}
+use Rattle.nextstate.specs.Ruled.{Ruled}
+use Rattle.nextstate.proofs.Ruled.{sound-instr}
 use Rattle.threads.proofs.Resting.{way-bound}
 use Rattle.walking.proofs.Growing.{Grows, grows-refl, grows-trans, grows-by, length-ownRow, walk-grows}
 use Rattle.walking.proofs.Rows.{row-of}

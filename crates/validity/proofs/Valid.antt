@@ -19,7 +19,7 @@ use Rattle.nextstate.specs.Nodes.{aVariable, allWords, padded}
 use Rattle.nextstate.specs.Extraction.{Tables, extracted}
 use Rattle.nextstate.specs.Book.{entry, worth}
 use Rattle.nextstate.specs.CycleRun.{nodeFits, nodesFit, widthsFrom, registerFits, rowFits, rowsFit, tablesFit, tablesIn}
-use Rattle.threads.specs.Ruled.{Ruled}
+use Rattle.nextstate.specs.Ruled.{Ruled}
 use Rattle.walking.proofs.Growing.{Grows, grows-by}
 use Rattle.validity.proofs.Folds.{fit-append}
 use Rattle.validity.proofs.Made.{Made, has-grows}

@@ -25,7 +25,7 @@ use Rattle.nextstate.specs.Nodes.{Node, aConstant, aBranch, nodeWidth}
 use Rattle.nextstate.specs.Walk.{Emitted, Held, Walked, Merged, heldNode, landed, express, merge, visit, walk}
 use Rattle.nextstate.specs.CycleRun.{lands, landings, widthsFrom}
 use Rattle.threads.specs.Resting.{Leads, Way, here, step}
-use Rattle.threads.proofs.Ruled.{writes-register, sound-instr}
+use Rattle.nextstate.proofs.Ruled.{writes-register, sound-instr}
 use Rattle.threads.proofs.Resting.{leads-inside}
 use Rattle.walking.proofs.Growing.{Grows, grows-same, grows-trans, grows-length, grows-by, Branches, express-grows, MergesOne, written, unwritten, mergeOne-ok, merge-grows, merge-length, visit-branches, visit-wait, walk-grows}
 use Rattle.validity.proofs.Folds.{landings-grow, landings-new, widths-new}

@@ -20,9 +20,9 @@ use Rattle.nextstate.specs.Rules.{writes}
 use Rattle.nextstate.specs.Walk.{ownRows}
 use Rattle.nextstate.specs.Extraction.{Tables, extracted}
 use Rattle.nextstate.specs.Book.{Book, entry, worth, taken, nextPlace, rise}
-use Rattle.threads.specs.Ruled.{Ruled}
+use Rattle.nextstate.specs.Ruled.{Ruled}
 use Rattle.threads.specs.Alone.{begin, alone, endOf, valueAfter, takenAlone, placeAlone, riseAlone}
-use Rattle.threads.proofs.Ruled.{writes-register}
+use Rattle.nextstate.proofs.Ruled.{writes-register}
 use Rattle.threads.proofs.Alone.{ends}
 use Rattle.walking.proofs.Growing.{Grows, grows-by}
 use Rattle.walking.proofs.Worth.{Has, has-grows}

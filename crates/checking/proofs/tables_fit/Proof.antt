@@ -1,10 +1,8 @@
 -- `checking::tables_fit` meets its contract. Assumes nothing.
 use borrow.Author.Needs.{needs}
 use borrow.Author.Tests.{not-true, not-false}
-use mathlib.Core.Bool.{Bool, false}
 use native.Mathlib.Omega.{arith}
 use Rattle.tables.proofs.Readers.{atMost-most}
-use lib.ListN.{replicate, length-replicate}
 use Rattle.checking.proofs.Judging.{tables-off, tables-on}
 use Rattle.checking.proofs.tables_fit.Statement.{statement}
 use Rattle.checking.proofs.tables_fit.Tie as tie
@@ -26,8 +24,8 @@ returns-2 c =
     let the-count = c .before .before .before .thread-count in
     let a = c .before .before .before .before .before .before .before .before .before .before .before .args in
     tables-on (a .sheet .now) (a .widths .now) (a .code .now) (a .lengths .now) (a .firsts .now) (a .written .now) (a .shape) (a .nodes .now) (a .rows .now)
-    (a .sizes .now) _ (the-nodes-fit .result) (c .rows-fit .result) (the-count .result) (replicate 4096 false) (the-nodes-fit .ensures)
-    (not-false _ (c .before .before .before .before .if1 .left)) (the-count .ensures) (length-replicate {A = Bool} 4096 false) (c .rows-fit .ensures)
+    (a .sizes .now) _ (the-nodes-fit .result) (c .rows-fit .result) (the-count .result) (the-nodes-fit .ensures)
+    (not-false _ (c .before .before .before .before .if1 .left)) (the-count .ensures) (c .rows-fit .ensures)
 
 pub tables-fit-spec : {M : Type 1} → statement M
 tables-fit-spec =

@@ -22,7 +22,7 @@ loop-again c =
     (omega arith, reaching-more _ (l .j) (l .n) (c .further .result) (l .inv .1) (c .further .ensures))
 
 returns : tie.Need-returns Inv-loop μ-loop
-returns c = reached _ (c .before .loop .j) _ (c .loop-test .left) (c .before .loop .inv .1)
+returns c = reached _ (c .before .loop .j) _ (c .before .loop .inv .0) (c .loop-test .left) (c .before .loop .inv .1)
 
 pub reach-spec : {M : Type 1} → statement M
 reach-spec =

@@ -64,7 +64,7 @@ loop-again c =
       going-row (a .sheet .now) (a .widths .now) (a .starts .now) (a .code .now) (a .lengths .now) (a .firsts .now) (a .written .now) (bits (a .all))
           (a .shape) (a .nodes .now) (a .rows .now) (a .sizes .now) (a .t13) (a .value .now) (a .unknown .now)
           (l .r) (planes (l .worth) (l .blank)) (stand (l .held) (l .dim) (l .places)) (l .inv .2) (c .before .before .before .before .before .before .before .before .before .before .before .loop-test .taken)
-          (sym (c .before .before .before .before .before .before .before .before .before .before .items-fit .ensures) ∙ not-false _ (c .before .before .before .before .before .before .before .before .before .if1 .left)) _ (c .before .before .before .before .before .before .before .before .before .before .before .before .before .before .before .before .before .before .before .before .before .before .before .before .before .reach .ensures) _ (c .before .before .before .before .before .before .put-items .ensures) _
+          (sym (c .before .before .before .before .before .before .before .before .before .before .items-fit .ensures) ∙ not-false _ (c .before .before .before .before .before .before .before .before .before .if1 .left)) _ (c .before .before .before .before .before .before .before .before .before .before .before .before .before .before .before .before .before .before .before .before .before .before .before .before .before .reach .ensures .1) _ (c .before .before .before .before .before .before .put-items .ensures) _
           (c .step .ensures),
     )
 

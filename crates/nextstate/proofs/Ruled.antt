@@ -21,10 +21,10 @@ use Rattle.pseudocode.specs.Translation.{Instr, wait!, set!, later!, go, transl
 use Rattle.soundness.specs.Soundness.{Sound, SoundTarget, SoundInstr, sound-wait, sound-set, sound-later, sound-go, sound-ifnot}
 use Rattle.events.specs.Cycle.{codeOf, instrAt, isWait, wireExpr, wireVariable}
 use Rattle.events.proofs.Cycle.{absurd-bool, or-left, or-right, any-below, none-below, wireExpr-past}
 use Rattle.nextstate.specs.Rules.{setsAt, defersAt, readsAt, anyInstr, sets, defers, writes, threadReads, wireReads, someThread, someWire, someRegister}
 use Rattle.nextstate.specs.Rules.{twoWriters, bothWays, readElsewhere, plainlyShared, clockEdge, otherWaitAt, otherWait, startsWaiting, bodyOf, startsRunning}
 use Rattle.nextstate.specs.Rules.{loopsWait, runsAway, clockRead, readsUpward, manyWaits, rule}
-use Rattle.threads.specs.Ruled.{Ruled}
+use Rattle.nextstate.specs.Ruled.{Ruled}
 
 -- ---- Bool
 
