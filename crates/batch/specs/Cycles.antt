@@ -9,8 +9,7 @@ use Rattle.values.specs.Values.{pick}
 use Rattle.sheet.specs.Module.{read}
 use Rattle.state.specs.declared.State.{State}
 use Rattle.events.specs.declared.Inputs.{Inputs}
-use Rattle.events.specs.declared.Verdict.{Verdict}
-use Rattle.events.specs.declared.Verdict.the-variants.{Quiet, Spent, Stopped}
+use Rattle.events.specs.Verdict.{numberOfVerdict}
 use Rattle.events.specs.Calls.{judged, instant, runPlain}
 use Rattle.batch.specs.declared.Cycled.{Cycled}
 
@@ -35,12 +34,6 @@ rowInputs inputs ns xs p =
 abbrev pub cycled : ℕ → ℕ → Bool → State → Cycled
 cycled p n running st = record { phases = p; number = n; running = running; state = st }
 
--- Was a plain run stopped? Its number, else 0.
-unfoldable pub stopped : Verdict → ℕ
-stopped Quiet = 0
-stopped Spent = 0
-stopped (Stopped n) = n
-
 module _ (s : List ℕ) (inputs : ℕ → Inputs) where
   -- From instant number p on, n of them: the rest is what the later ones give.
   unfoldable pub phases : ℕ → ℕ → State → Cycled
@@ -48,8 +41,9 @@ module _ (s : List ℕ) (inputs : ℕ → Inputs) where
   phases (suc n) p st =
       let i = instant s st (inputs p) in
       let r = runPlain s (i .state) 65535 in
+      let k = numberOfVerdict (r .verdict) in
       pick (eqb (i .number) 0)
-      (pick (eqb (stopped (r .verdict)) 0) (phases n (p + 1) (r .state)) (cycled p (stopped (r .verdict)) true (r .state)))
+      (pick (eqb k 0) (phases n (p + 1) (r .state)) (cycled p k true (r .state)))
       (cycled p (i .number) false st)
 
 -- ---- run_cycles: as many rows as the numbers fill

@@ -30,6 +30,7 @@ use Rattle.events.specs.declared.Chosen.{Chosen}
 use Rattle.events.specs.declared.Ran.{Ran}
 use Rattle.events.specs.declared.Verdict.the-variants.{Quiet, Spent, Stopped}
 use Rattle.events.specs.declared.Rested.{Rested}
+use Rattle.events.specs.Verdict.{numberOfVerdict}
 use Rattle.events.specs.Cycle.{items, anyBelow, enabled, anyEnabled, anyPending, quiet}
 use Rattle.events.specs.Calls.{spend, refusal, chooseIn, onward, runIn, resting, runBy, choicesBy, lowest, plainChoice}
 use Rattle.events.specs.Steps.{Step}
@@ -427,3 +428,10 @@ module _ (m : Module Expr) (n : ℕ) (r : Rested) where
   verdict-stopped (at-rest v q a) = (λ e. let z : _≡_ {A = ℕ} 0 1 = cc in absurd (omega arith), λ e. absurd-bool q (e .1))
   verdict-stopped (spent v q a) = (λ e. let z : _≡_ {A = ℕ} 0 1 = cc in absurd (omega arith), λ e. absurd (omega (arith, e .0)))
   verdict-stopped (stopped v q a c) = (λ e. (a, q), λ e. v)
+
+  -- The number, 0 if none stopped it.
+  pub number-stopped : Ended m n r → (numberOfVerdict (r .verdict) ≡ 36) ↔ (r .verdict ≡ Stopped 36)
+  unfolding numberOfVerdict
+  number-stopped (at-rest v q a) = (λ e. absurd (omega (arith, rw v at e)), λ e. cc)
+  number-stopped (spent v q a) = (λ e. absurd (omega (arith, rw v at e)), λ e. cc)
+  number-stopped (stopped v q a c) = (λ e. v, λ e. rw v)

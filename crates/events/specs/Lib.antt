@@ -1,3 +1,5 @@
 pub mod Cycle
+pub mod Verdict
 pub mod Calls
 pub mod Steps
+pub mod Rows
