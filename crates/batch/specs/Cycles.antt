@@ -11,6 +11,7 @@ use Rattle.state.specs.declared.State.{State}
 use Rattle.events.specs.declared.Inputs.{Inputs}
 use Rattle.events.specs.Verdict.{numberOfVerdict}
 use Rattle.events.specs.Calls.{judged, instant, runPlain}
+use Rattle.events.specs.Rows.{wholeRows}
 use Rattle.batch.specs.declared.Cycled.{Cycled}
 
 -- ---- rows: the inputs of instant number p, two to a row of 16
@@ -46,11 +47,12 @@ module _ (s : List ℕ) (inputs : ℕ → Inputs) where
       (pick (eqb k 0) (phases n (p + 1) (r .state)) (cycled p k true (r .state)))
       (cycled p (i .number) false st)
 
--- ---- run_cycles: as many rows as the numbers fill
+-- ---- run_cycles: the rows, one after the other
 
--- A sheet or a state that is refused is refused as in the single calls, at once.
+-- "1 to 11, 31, 25": a sheet, a state or rows that aren't whole are refused at once.
 unfoldable pub runCycles : List ℕ → State → List ℕ → List Bool → Cycled
 runCycles s st ns xs =
     judged (read s) st
     (λ n. cycled 0 n false st)
-    (λ m. phases s (rowInputs (m .scope .inputs) ns xs) (2 * (length ns / 16)) 0 st)
+    (λ m.
+    pick (wholeRows ns xs) (phases s (rowInputs (m .scope .inputs) ns xs) (2 * (length ns / 16)) 0 st) (cycled 0 25 false st))
