@@ -1,6 +1,6 @@
 -- Paths of a thread alone: instructions one after the other, none of them a wait, with what they write. Two paths make one
 -- (path-then), and a path has a first part of any length (path-cut). Assumes nothing.
-use Prim.Native.Nat.{ℕ, zero, suc, _+_, _-_, _≤_}
+use Prim.Native.Nat.{ℕ, zero, suc, _+_, _≤_}
 use mathlib.Core.Path.{_≡_, refl, sym, ap, _∙_, subst}
 use mathlib.Core.Bool.{false}
 use mathlib.Core.List.{List, [], _∷_, _++_, append-nil, append-assoc}

@@ -1,6 +1,6 @@
 -- A statement that stands in a thread's code does what it means: from its first place (reach) and from behind any of its waits
 -- (reach-behind). Assumes nothing.
-use Prim.Native.Nat.{ℕ, zero, suc, _+_, _*_, _-_, _≤_, _<_}
+use Prim.Native.Nat.{ℕ, suc, _+_, _*_, _-_, _≤_, _<_}
 use mathlib.Core.Path.{_≡_, refl, sym, ap, _∙_, subst}
 use mathlib.Core.Bool.{Bool, true, false}
 use mathlib.Core.List.{List, [], _∷_, _++_}
@@ -21,9 +21,9 @@ use Rattle.pseudocode.proofs.Translation.{translate-size}
 use Rattle.events.specs.Cycle.{codeOf, instrAt, isWait}
 use Rattle.events.proofs.Cycle.{absurd-bool, and-left, and-right}
 use Rattle.nextstate.specs.Rules.{surelyWaits, loopsWait}
-use Rattle.threads.specs.Alone.{Local, exec, turn}
+use Rattle.threads.specs.Alone.{Local, exec}
 use Rattle.threads.proofs.Ruled.{or-either}
-use Rattle.meaning.specs.Meaning.{Write, stored, deferred, valuesAfter, Course, ends, stops, prefixed, followed, nothing, meaning}
+use Rattle.meaning.specs.Meaning.{Write, stored, deferred, valuesAfter, Course, ends, stops, prefixed, followed, nothing, meaning, SureStop}
 use Rattle.meaning.specs.Thread.{behind, pendingAfter}
 use Rattle.meaning.proofs.Paths.{moved, moved-place, wrote, Path, path-none, path-one, path-on, path-quiet, path-to}
 
@@ -72,6 +72,9 @@ sure-stops (forever a) h l f =
     followed-first (meaning a f) (forever a) nothing
     (sure-stops a (and-left (surelyWaits a) (loopsWait a) l) (and-right (surelyWaits a) (loopsWait a) l) f)
 sure-stops (wait ts) h l f = tt
+
+pub sure-stop : SureStop
+sure-stop s h l f ws e = subst (λ (X : Course). Stops X) e (sure-stops s h l f)
 
 -- ---- the instructions l stand in the code c from place n on (as in threads/proofs/Resting)
 

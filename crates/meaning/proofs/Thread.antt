@@ -1,49 +1,46 @@
 -- A thread run alone by choices does what it means (as-written, the claim of specs/Thread): a path of the thread is a run of choices
 -- that are all accepted while the count lasts (run-path), and from its start or behind any of its waits it has a path as its
 -- statement means (goes). Assumes nothing.
-use Prim.Native.Nat.{ℕ, zero, suc, _+_, _*_, _-_, _≤_, _<_}
+use Prim.Native.Nat.{ℕ, suc, _+_, _*_, _-_, _≤_, _<_}
 use mathlib.Core.Path.{_≡_, refl, sym, ap, _∙_, subst}
-use mathlib.Core.Logic.{_≢_}
-use mathlib.Core.Bool.{Bool, true, false}
-use mathlib.Core.List.{List, [], _∷_, _++_}
-use mathlib.Core.Option.{Option, none, some}
+use mathlib.Core.Bool.{Bool, true, false, not}
+use mathlib.Core.List.{List, _++_}
+use mathlib.Core.Option.{Option, some}
 use native.Mathlib.Numerals.{add-one}
 use native.Mathlib.Decide.{decLt}
 use native.Mathlib.Omega.{arith}
 use lib.ListN.{length, getD, replicate, List·getD-eq-default}
 use lib.Dec.{eqb}
-use borrow.Author.Tests.{eqb-true, eqb-false, lt-ltb}
+use borrow.Author.Tests.{eqb-true, eqb-false, lt-ltb, not-false}
 use Rattle.values.specs.declared.Value.{Value}
 use Rattle.values.specs.Values.{pick}
-use Rattle.sheet.specs.declared.EdgeTerm.{EdgeTerm}
 use Rattle.sheet.specs.Reading.{ok}
 use Rattle.sheet.specs.Expression.{Expr}
 use Rattle.sheet.specs.Statement.{Stmt, empty, forever, size}
 use Rattle.sheet.specs.Module.{Module, read}
 use Rattle.evaluation.specs.Evaluation.{eval}
-use Rattle.pseudocode.specs.Translation.{Instr, wait!, set!, later!, go, ifnot, threadCode, translate}
+use Rattle.pseudocode.specs.Translation.{wait!, go, threadCode}
 use Rattle.pseudocode.proofs.Translation.{threadCode-size}
 use Rattle.state.specs.declared.State.{State}
 use Rattle.state.specs.State.{Shaped, valueOf, pendingOf, placeOf}
 use Rattle.soundness.specs.Soundness.{Sound}
 use Rattle.soundness.proofs.Soundness.{sound}
-use Rattle.events.specs.declared.Chosen.{Chosen}
 use Rattle.events.specs.declared.Ran.{Ran}
-use Rattle.events.specs.Cycle.{codeOf, instrAt, current, isWait, items, enabled}
+use Rattle.events.specs.Cycle.{codeOf, instrAt, current, isWait, items}
 use Rattle.events.specs.Calls.{stateFits, judged, refusal, chooseIn, choose, runIn, runList}
-use Rattle.events.specs.Steps.{Acts, assigns, defers, jumps, goes-in, passes-by, settles, commits, Step}
-use Rattle.events.proofs.Cycle.{absurd-bool}
-use Rattle.events.proofs.Choices.{full, spend-zero, enabled-thread, thread-ready, refusal-ready, number-chooseIn, shaped-chooseIn}
+use Rattle.events.specs.Steps.{Acts, assigns, defers, jumps, goes-in, passes-by, settles, commits}
+use Rattle.events.proofs.Cycle.{absurd-bool, none-below}
+use Rattle.events.proofs.Choices.{spend-zero, enabled-thread, thread-ready, refusal-ready, number-chooseIn, shaped-chooseIn}
 use Rattle.events.proofs.Steps.{step-chooseIn}
 use Rattle.events.proofs.Fits.{Fits, fits-state, state-fits}
 use Rattle.events.proofs.Runs.{onward-accepted, fits-runIn}
-use Rattle.nextstate.specs.Rules.{bodyOf, surelyWaits, loopsWait}
+use Rattle.nextstate.specs.Rules.{someThread, bodyOf, surelyWaits, loopsWait, runsAway}
 use Rattle.nextstate.specs.Book.{put}
 use Rattle.threads.specs.Alone.{Local, putPending, exec, turn}
 use Rattle.threads.proofs.View.{seen}
-use Rattle.meaning.specs.Meaning.{Write, stored, deferred, valuesAfter, Course, stops, meaning}
-use Rattle.meaning.specs.Thread.{behind, pendingAfter, held, shown, writesOf, Lasts, whole, Stands, at-start, behind-wait, alone, Along, Arrived, Goes, AsWritten}
-use Rattle.meaning.proofs.Paths.{moved, wrote, Path, here, onward, path-moved, Cut, path-cut}
+use Rattle.meaning.specs.Meaning.{Write, valuesAfter, Course, stops, meaning}
+use Rattle.meaning.specs.Thread.{behind, pendingAfter, held, shown, writesOf, Lasts, whole, Stands, at-start, behind-wait, Along, Arrived, Goes, AsWritten}
+use Rattle.meaning.proofs.Paths.{moved, wrote, Path, here, onward, path-moved, path-cut}
 use Rattle.meaning.proofs.Statements.{Stops, followed-next, sure-stops, stand-whole, Reaches, to-end, to-wait, within, Done, done}
 
 -- ---- one choice of a thread that is at no wait
@@ -260,3 +257,9 @@ unfolding seen
 as-written s m r i l loops st shaped f what h =
     goes s m r i l st shaped f loops what (meaning what (valueOf st)) refl (stands-stops m i loops s h (valueOf st))
     (stands-reaches m i loops s h (seen st i) refl)
+
+-- A sheet that meets rule 17 has only such threads.
+pub rule-17 : (m : Module Expr) → runsAway m ≡ false → (i : ℕ) → i < length (m .threads) → loopsWait (forever (bodyOf m i)) ≡ true
+unfolding runsAway someThread
+rule-17 m h i l =
+    not-false (loopsWait (forever (bodyOf m i))) (none-below (λ j. not (loopsWait (forever (bodyOf m j)))) (length (m .threads)) h i l)

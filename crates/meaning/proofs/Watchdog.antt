@@ -1,5 +1,5 @@
 -- The claim isn't empty: both threads of the watchdog of tests/data (waits in nested loops and branches) meet rule 17, so that each
--- does what it means (watchdog-as-written). Two courses of its first thread, computed: a reset, and a reading that came again.
+-- does what it means (watchdog-as-written). Three courses of its first thread, computed.
 use mathlib.Core.Path.{_≡_, refl}
 use mathlib.Core.Bool.{true}
 use mathlib.Core.List.{List, [], _∷_}
@@ -9,15 +9,14 @@ use lib.ListN.{length, getD}
 use Rattle.values.specs.declared.Value.{Value}
 use Rattle.values.specs.declared.Value.the-variants.{Known, Unknown}
 use Rattle.values.specs.declared.Edge.the-variants.{Posedge}
-use Rattle.values.specs.Values.{holds}
 use Rattle.sheet.specs.declared.EdgeTerm.{EdgeTerm}
 use Rattle.sheet.specs.Expression.{Expr}
-use Rattle.sheet.specs.Statement.{Stmt, size}
-use Rattle.evaluation.specs.Evaluation.{eval}
+use Rattle.sheet.specs.Statement.{Stmt}
 use Rattle.state.specs.declared.State.{State}
 use Rattle.state.specs.State.{Shaped, placeOf}
 use Rattle.events.specs.Calls.{stateFits}
 use Rattle.nextstate.specs.Rules.{bodyOf, surelyWaits, loopsWait}
+use Rattle.nextstate.proofs.Samples.{turning}
 use Rattle.nextstate.proofs.Watchdog.{watchdog-sheet, watchdog, watchdog-read}
 use Rattle.meaning.specs.Meaning.{deferred, valuesAfter, stops, prefixed, followed, nothing, meaning}
 use Rattle.meaning.specs.Thread.{behind, whole, Stands, Goes}
@@ -53,12 +52,18 @@ values reset again v =
 pub reset-course :
     meaning (behind (thread 0) 0) (values 1 0)
     ≡ stops (deferred 5 (Known 0) ∷ deferred 6 (Known 0) ∷ deferred 7 (Known 0) ∷ []) clock (behind (thread 0) 0)
-unfolding watchdog bodyOf behind size meaning followed prefixed nothing valuesAfter eval holds
+unfolding watchdog turning behind meaning followed prefixed nothing valuesAfter
 reset-course = refl
 
 -- A reading that came again: two pending values, and on to the wait before the loop, place 9.
 pub again-course :
     meaning (behind (thread 0) 0) (values 0 1)
     ≡ stops (deferred 5 (Known 5) ∷ deferred 6 (Known 1) ∷ []) clock (behind (thread 0) 9)
-unfolding watchdog bodyOf behind size meaning followed prefixed nothing valuesAfter eval holds
+unfolding watchdog turning behind meaning followed prefixed nothing valuesAfter
 again-course = refl
+
+-- Once more, from the wait in the loop, place 12: the condition holds, one more is counted, and it waits there again.
+pub loop-course :
+    meaning (behind (thread 0) 12) (values 0 1) ≡ stops (deferred 6 (Known 1) ∷ []) clock (behind (thread 0) 12)
+unfolding watchdog turning behind meaning followed prefixed nothing valuesAfter
+loop-course = refl

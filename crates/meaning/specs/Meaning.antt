@@ -2,6 +2,8 @@
 -- either ends or stops at a wait with what remains to do". Of a state it looks at the variables' values. It is meant for each
 -- "statement whose loop bodies surely wait (rule 17)".
 use Prim.Native.Nat.{ℕ}
+use mathlib.Core.Path.{_≡_}
+use mathlib.Core.Bool.{true}
 use mathlib.Core.List.{List, [], _∷_, _++_}
 use Rattle.values.specs.declared.Value.{Value}
 use Rattle.values.specs.Values.{pick, holds}
@@ -9,9 +11,10 @@ use Rattle.sheet.specs.declared.EdgeTerm.{EdgeTerm}
 use Rattle.sheet.specs.Expression.{Expr}
 use Rattle.sheet.specs.Statement.{Stmt, empty, assign, later, sequence, ifThen, ifElse, while, forever, wait}
 use Rattle.evaluation.specs.Evaluation.{eval}
+use Rattle.nextstate.specs.Rules.{surelyWaits, loopsWait}
 use Rattle.nextstate.specs.Book.{put}
 
--- ---- "stores and pending values in .. order"
+-- ---- "the same stores and pending values in the same order"
 
 -- A store of a variable, or a pending value for one.
 pub data Write : Type 0 where
@@ -47,7 +50,7 @@ nothing ws = ends []
 
 -- ---- meaning: the course of a statement from the values f
 
--- "A condition holds if known and not zero." A loop's body surely waits, so that it stops before the loop comes round again.
+-- "A condition holds if known and not zero." A loop's body surely waits, so that it stops before the loop comes round (SureStop).
 unfoldable pub meaning : Stmt Expr → (ℕ → Value) → Course
 meaning empty f = ends []
 meaning (assign t e) f = ends (stored t (eval f e) ∷ [])
@@ -58,3 +61,8 @@ meaning (ifElse e a b) f = pick (holds (eval f e)) (meaning a f) (meaning b f)
 meaning (while e a) f = pick (holds (eval f e)) (followed (meaning a f) (while e a) nothing) (ends [])
 meaning (forever a) f = followed (meaning a f) (forever a) nothing
 meaning (wait ts) f = stops [] ts empty
+
+-- Rule 17 makes a statement that surely waits stop: it doesn't end. proofs/Statements proves it.
+abbrev pub SureStop : Type 0
+SureStop =
+    (s : Stmt Expr) → surelyWaits s ≡ true → loopsWait s ≡ true → (f : ℕ → Value) (ws : List Write) → meaning s f ≡ ends ws → ⊥

@@ -23,7 +23,7 @@ use Rattle.events.specs.Cycle.{codeOf, instrAt, current, isWait}
 use Rattle.events.specs.Calls.{stateFits, chooseIn, choose, runList}
 use Rattle.nextstate.specs.Rules.{bodyOf, loopsWait}
 use Rattle.threads.specs.Alone.{putPending}
-use Rattle.meaning.specs.Meaning.{Write, stored, deferred, valuesAfter, Course, stops, meaning}
+use Rattle.meaning.specs.Meaning.{Write, stored, deferred, valuesAfter, stops, meaning}
 
 -- ---- places and statements
 
@@ -41,18 +41,19 @@ behind (wait ts) p = empty
 
 -- ---- what a run of choices has written
 
+-- The pending value that is held for a variable, if any.
+unfoldable pub held : ℕ → Option Value → List Write
+held t none = []
+held t (some a) = deferred t a ∷ []
+
 module _ (m : Module Expr) where
-  -- The pending values after some writes. "A new pending value for a register replaces the old."
+  -- The pending values after some writes: "A new pending value for a register replaces the old."
   unfoldable pub pendingAfter : (ℕ → Option Value) → List Write → ℕ → Option Value
   pendingAfter o [] = o
   pendingAfter o (stored t a ∷ ws) = pendingAfter o ws
   pendingAfter o (deferred t a ∷ ws) = pendingAfter (putPending o (t - m .scope .inputs) a) ws
 
   -- What an instruction has written, as the state after it shows.
-  unfoldable pub held : ℕ → Option Value → List Write
-  held t none = []
-  held t (some a) = deferred t a ∷ []
-
   unfoldable pub shown : Instr Expr → State → List Write
   shown (wait! ts) new = []
   shown (set! t e) new = stored t (valueOf new t) ∷ []
@@ -113,7 +114,7 @@ module _ (s : List ℕ) (m : Module Expr) (i : ℕ) where
     pub along : (k : ℕ) → k ≤ count → Lasts k st → Along st writes k
     pub arrives : Lasts count st → Arrived st writes place count
 
--- ---- the claim
+-- ---- the claim. The thread "meets rule 17": all its loop bodies surely wait, its own included.
 
 abbrev pub AsWritten : Type 0
 AsWritten =

@@ -1,7 +1,7 @@
 -- How long is long enough (long-enough): from any state that fits, the plain run comes to quiet or to a commit within all threads'
 -- instructions and the wires, while the count lasts. Assumes nothing.
 use Prim.Native.Nat.{ℕ, zero, suc, _+_, _-_, _≤_, _<_}
-use mathlib.Core.Path.{_≡_, refl, sym, ap, _∙_, subst}
+use mathlib.Core.Path.{_≡_, refl, ap, _∙_, subst}
 use mathlib.Core.Logic.{_≢_, inl, inr}
 use mathlib.Core.Bool.{Bool, true, false}
 use native.Mathlib.Decide.{ℕ-discrete, decLt}
@@ -12,7 +12,7 @@ use Rattle.sheet.specs.Module.{Module}
 use Rattle.state.specs.declared.State.{State}
 use Rattle.state.specs.State.{Shaped, isDue}
 use Rattle.soundness.specs.Soundness.{Sound}
-use Rattle.events.specs.Cycle.{codeOf, current, isWait, enabled, quiet}
+use Rattle.events.specs.Cycle.{codeOf, isWait, enabled, quiet}
 use Rattle.events.specs.Calls.{chooseIn, runBy, plainChoice}
 use Rattle.events.specs.Steps.{Step}
 use Rattle.events.proofs.Cycle.{absurd-bool, current-place}

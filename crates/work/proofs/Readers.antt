@@ -1,7 +1,7 @@
 -- The wires that read a variable whose value differs: they go by the values that wires read (touched-same, readers-same), and wires
 -- that read no such variable add none (readers-none). They are as many as are counted (readers-count). Assumes nothing.
 use Prim.Native.Nat.{ℕ, zero, suc, _+_, _≤_, _<_}
-use mathlib.Core.Path.{_≡_, refl, sym, ap, _∙_}
+use mathlib.Core.Path.{_≡_, refl, ap, _∙_}
 use mathlib.Core.Bool.{Bool, true, false, _&&_}
 use mathlib.Core.List.{[], _∷_, append-nil}
 use native.Mathlib.Decide.{decLe}

@@ -5,8 +5,8 @@
 use Prim.Native.Nat.{ℕ, zero, suc, _+_, _≤_, _<_}
 use mathlib.Core.Path.{_≡_, refl, sym, ap, _∙_, subst}
 use mathlib.Core.Logic.{_≢_}
-use mathlib.Core.Bool.{Bool, true, false, not, _&&_, and-true}
-use mathlib.Core.List.{List, [], _∷_, _++_, append-nil, append-assoc}
+use mathlib.Core.Bool.{true, false, not, _&&_, and-true}
+use mathlib.Core.List.{[], _∷_, _++_, append-nil, append-assoc}
 use native.Mathlib.Decide.{ℕ-discrete, decLt}
 use native.Mathlib.Omega.{arith}
 use lib.ListN.{length}
@@ -21,7 +21,7 @@ use Rattle.state.specs.State.{Shaped, valueOf, isDue}
 use Rattle.soundness.specs.Soundness.{Sound}
 use Rattle.events.specs.Cycle.{variables, current, wireExpr, wireVariable, isWait, enabled, anyEnabled, items, touched}
 use Rattle.events.specs.Calls.{plainChoice}
-use Rattle.events.specs.Steps.{Marked, was-due, reads-changed, not-due, Reacted, Acts, assigns, defers, jumps, goes-in, passes-by, settles, commits, Step, Instant}
+use Rattle.events.specs.Steps.{Marked, was-due, reads-changed, not-due, Acts, assigns, defers, jumps, goes-in, passes-by, settles, commits, Step, Instant}
 use Rattle.events.proofs.Cycle.{absurd-bool, current-place, touched-true, touched-reads, touched-none}
 use Rattle.events.proofs.Choices.{enabled-thread, enabled-wire, none-enabled, shaped-chooseIn, quiet-enabled}
 use Rattle.nextstate.specs.Rules.{sets, wireReads}
@@ -30,7 +30,7 @@ use Rattle.threads.proofs.Ruled.{refuted, sets-register, wire-within}
 use Rattle.threads.proofs.View.{turned, marks-kept, values-kept}
 use Rattle.settling.specs.Settles.{WireStep}
 use Rattle.settling.proofs.Settle.{reads-lower}
-use Rattle.settling.proofs.Marks.{mark-same, wire-kept}
+use Rattle.settling.proofs.Marks.{wire-kept}
 use Rattle.phases.specs.Phases.{Still}
 use Rattle.work.specs.Work.{readersBelow, readers}
 use Rattle.work.proofs.Readers.{touched-same, readers-same, readers-none}

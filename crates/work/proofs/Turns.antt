@@ -3,12 +3,11 @@
 use Prim.Native.Nat.{ℕ, zero, suc, _+_, _-_, _<_}
 use mathlib.Core.Path.{_≡_, refl, sym, ap, _∙_, subst}
 use mathlib.Core.Logic.{_≢_, _⊎_, inl, inr}
-use mathlib.Core.Bool.{Bool, true, false, _||_}
+use mathlib.Core.Bool.{Bool, true, false}
 use mathlib.Core.List.{List, [], _∷_}
 use native.Mathlib.Decide.{ℕ-discrete}
 use native.Mathlib.Omega.{arith}
 use lib.ListN.{length}
-use lib.Dec.{eqb, ltb}
 use borrow.Author.Tests.{eq-eqb, ne-eqb, lt-ltb, le-ltb}
 use Rattle.values.specs.Values.{pick}
 use Rattle.sheet.specs.Expression.{Expr}
@@ -18,7 +17,6 @@ use Rattle.state.specs.State.{Shaped}
 use Rattle.soundness.specs.Soundness.{Sound}
 use Rattle.events.specs.declared.Chosen.{Chosen}
 use Rattle.events.specs.declared.Rested.{Rested}
-use Rattle.events.specs.declared.Verdict.{Verdict}
 use Rattle.events.specs.declared.Verdict.the-variants.{Quiet, Spent, Stopped}
 use Rattle.events.specs.Cycle.{enabled, anyEnabled, quiet}
 use Rattle.events.specs.Calls.{chooseIn, runBy, choicesBy, plainChoice}

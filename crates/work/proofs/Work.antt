@@ -1,7 +1,7 @@
 -- Exact work of the plain run (`work`, the claim of specs/Work). Assumes nothing.
-use Prim.Native.Nat.{ℕ, _+_, _<_}
-use mathlib.Core.Path.{_≡_, refl, sym, ap, _∙_, subst}
-use mathlib.Core.Logic.{_⊎_, inl, inr}
+use Prim.Native.Nat.{ℕ}
+use mathlib.Core.Path.{_≡_, sym, ap, _∙_, subst}
+use mathlib.Core.Logic.{inl, inr}
 use mathlib.Core.Bool.{true}
 use mathlib.Core.List.{List}
 use lib.ListN.{length}
@@ -25,9 +25,9 @@ use Rattle.nextstate.proofs.Numbers.{accepted, extracted-rule}
 use Rattle.threads.specs.Ruled.{Ruled}
 use Rattle.threads.proofs.Ruled.{ruled}
 use Rattle.settling.proofs.Plain.{plain-sheet}
-use Rattle.work.specs.Work.{upToCommit, readers, LongEnough, taken, stores, there, Exact, WorkOf, Work}
+use Rattle.work.specs.Work.{upToCommit, readers, LongEnough, taken, stores, there, Exact, Work}
 use Rattle.work.proofs.Readers.{readers-count}
-use Rattle.work.proofs.Turns.{Long, stored, end}
+use Rattle.work.proofs.Turns.{Long}
 use Rattle.work.proofs.Storing.{Fresh, instant-fresh, commit-fresh, stores-readers}
 use Rattle.work.proofs.Enough.{long-enough}
 
