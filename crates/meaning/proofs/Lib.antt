@@ -1,0 +1,4 @@
+pub mod Paths
+pub mod Statements
+pub mod Thread
+pub mod Watchdog
