@@ -22,7 +22,7 @@ use Rattle.events.specs.Cycle.{codeOf, instrAt, isWait}
 use Rattle.events.proofs.Cycle.{absurd-bool, and-left, and-right}
 use Rattle.nextstate.specs.Rules.{surelyWaits, loopsWait}
 use Rattle.threads.specs.Alone.{Local, exec}
-use Rattle.threads.proofs.Ruled.{or-either}
+use Rattle.nextstate.proofs.Ruled.{or-either}
 use Rattle.meaning.specs.Meaning.{Write, stored, deferred, valuesAfter, Course, ends, stops, prefixed, followed, nothing, meaning, SureStop}
 use Rattle.meaning.specs.Thread.{behind, pendingAfter}
 use Rattle.meaning.proofs.Paths.{moved, moved-place, wrote, Path, path-none, path-one, path-on, path-quiet, path-to}

@@ -20,7 +20,7 @@ use Rattle.events.proofs.Choices.{spend-zero, Ready, thread-ready, wire-ready, 
 use Rattle.events.proofs.Steps.{step-chooseIn}
 use Rattle.events.proofs.Fits.{Fits}
 use Rattle.events.proofs.Runs.{plain-ready, plain-refusal}
-use Rattle.threads.specs.Ruled.{Ruled}
+use Rattle.nextstate.specs.Ruled.{Ruled}
 use Rattle.threads.specs.Resting.{here}
 use Rattle.threads.specs.Alone.{Local}
 use Rattle.threads.specs.Alone as spec

@@ -25,8 +25,8 @@ use Rattle.events.specs.Steps.{Marked, was-due, reads-changed, not-due, Acts, a
 use Rattle.events.proofs.Cycle.{absurd-bool, current-place, touched-true, touched-reads, touched-none}
 use Rattle.events.proofs.Choices.{enabled-thread, enabled-wire, none-enabled, shaped-chooseIn, quiet-enabled}
 use Rattle.nextstate.specs.Rules.{sets, wireReads}
-use Rattle.threads.specs.Ruled.{Ruled}
-use Rattle.threads.proofs.Ruled.{refuted, sets-register, wire-within}
+use Rattle.nextstate.specs.Ruled.{Ruled}
+use Rattle.nextstate.proofs.Ruled.{refuted, sets-register, wire-within}
 use Rattle.threads.proofs.View.{turned, marks-kept, values-kept}
 use Rattle.settling.specs.Settles.{WireStep}
 use Rattle.settling.proofs.Settle.{reads-lower}

@@ -22,8 +22,8 @@ use Rattle.events.proofs.Choices.{number-instantIn, instantIn-accepted, shaped-
 use Rattle.events.proofs.Fits.{Fits, fits-state, state-fits, fits-chooseIn, fits-instantIn}
 use Rattle.events.proofs.Accepted.{accepted-choice, accepted-instant}
 use Rattle.nextstate.proofs.Numbers.{accepted, extracted-rule}
-use Rattle.threads.specs.Ruled.{Ruled}
-use Rattle.threads.proofs.Ruled.{ruled}
+use Rattle.nextstate.specs.Ruled.{Ruled}
+use Rattle.nextstate.proofs.Ruled.{ruled}
 use Rattle.settling.proofs.Plain.{plain-sheet}
 use Rattle.work.specs.Work.{upToCommit, readers, LongEnough, taken, stores, there, Exact, Work}
 use Rattle.work.proofs.Readers.{readers-count}
