@@ -1,0 +1,9 @@
+pub mod Steps
+pub mod Operators
+pub mod ExpressionSound
+pub mod ExpressionComplete
+pub mod StatementComplete
+pub mod StatementSound
+pub mod ModuleComplete
+pub mod Module
+pub mod Samples

@@ -1,0 +1,5 @@
+pub mod AnnexA
+pub mod Conditions
+pub mod Meaning
+pub mod Reader
+pub mod Claims

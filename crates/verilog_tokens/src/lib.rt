@@ -1,0 +1,14 @@
+// The tokens of a Verilog text (document 02, request [1]): what they are is said in specs/.
+
+// Kinds of characters: white space; what a word goes on with; what a one-line comment holds; digits of each base with what may
+// stand among them; underscores.
+pub enum Class {
+    Space,
+    Word,
+    Comment,
+    Decimal,
+    Binary,
+    Octal,
+    Hexadecimal,
+    Underscore,
+}
