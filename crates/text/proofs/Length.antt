@@ -81,9 +81,9 @@ weight-append [] js = omega arith
 weight-append (i ∷ is) js = rw (weight-append is js) (omega arith)
 
 module _ (n : ℕ) (e : Expr) where
-  length-set : n < 100 → length (showInstr showExpr (set! n e)) ≤ 9 + (length (showExpr e) + 1)
+  length-assign : n < 100 → length (showInstr showExpr (set! n e)) ≤ 9 + (length (showExpr e) + 1)
   unfolding showInstr ascii
-  length-set h = simp length-append (omega (arith, length-decimal 1 n h))
+  length-assign h = simp length-append (omega (arith, length-decimal 1 n h))
 
   length-later : n < 100 → length (showInstr showExpr (later! n e)) ≤ 9 + (length (showExpr e) + 1)
   unfolding showInstr ascii
@@ -120,7 +120,7 @@ module _ (c : Scope) (s : List ℕ) (r : c .inputs + c .registers ≤ 100) (w : 
   weight-stmt (an-empty l m) n h = omega arith
   weight-stmt {p = p} (an-assign {t = t} {e = e} l m x g y f) n h =
       let v = length-expr w (tree-reads s (c .widths) (p + 2) y) in
-      omega (arith, length-set t (e .item) (omega (arith, register-below c t g)))
+      omega (arith, length-assign t (e .item) (omega (arith, register-below c t g)))
   weight-stmt {p = p} (a-later {t = t} {e = e} l m x g y f) n h =
       let v = length-expr w (tree-reads s (c .widths) (p + 2) y) in
       omega (arith, length-later t (e .item) (omega (arith, register-below c t g)))
