@@ -10,6 +10,7 @@ use pseudocode::Instruction;
 ghost use mathlib.Core.Path.{_≡_};
 ghost use Prim.Native.Nat.{_<_};
 ghost use Rattle.masks.specs.Masks.{bits, mask, either};
+ghost use Rattle.tables.specs.Readers.{atMost};
 ghost use Rattle.extraction.specs.Filling.{variablesBelow, putRow, filling, waits, walkFromAt, walkRow, walksBelowAt, threadsBelowAt};
 
 // One node for each variable.
@@ -134,7 +135,7 @@ pub fn both(a: u32, b: u32) -> u32
 }
 
 // The walks of the first threads, with the masks of the registers that each assigns plainly, and later.
-pub fn walk_threads(
+pub(crate) fn walk_first(
     sheet: &[u8],
     code: &[u16; 4096],
     sizes: &[usize; 8],
@@ -170,4 +171,46 @@ pub fn walk_threads(
         i += 1;
     }
     x
+}
+
+// A count, eight at most.
+fn few(n: usize) -> usize
+    ensures { λ r. ⌜ r ≡ atMost 8 n ⌝ }
+{
+    if n < 8 { n } else { 8 }
+}
+
+// The same of any number of threads, of which eight are walked at most.
+pub fn walk_threads(
+    sheet: &[u8],
+    code: &[u16; 4096],
+    sizes: &[usize; 8],
+    inputs: u8,
+    registers: u8,
+    plain: &[u32; 8],
+    later: &[u32; 8],
+    threads: usize,
+    nodes: &mut [u16; 16384],
+    rows: &mut [u16; 1056],
+    e: Extent,
+) -> Extent
+    ensures { λ r. ⌜
+        filling r (now (nodes .exit)) (now (rows .exit))
+        ≡ threadsBelowAt (now (sheet .entry)) (now (code .entry)) (now (sizes .entry)) inputs registers (now (plain .entry))
+        (now (later .entry)) (atMost 8 threads) (filling e (now (nodes .entry)) (now (rows .entry)))
+        ⌝ }
+{
+    walk_first(
+        sheet,
+        code,
+        sizes,
+        inputs,
+        registers,
+        plain,
+        later,
+        few(threads),
+        nodes,
+        rows,
+        e,
+    )
 }

@@ -4,7 +4,7 @@ pub mod filling;
 mod walk;
 
 use filling::put_variables;
-use filling::walk_threads;
+use filling::walk_first;
 use sheet::Layout;
 ghost use mathlib.Core.Path.{_≡_};
 ghost use lib.ListN.{length, replicate};
@@ -96,7 +96,7 @@ fn fill(
         nodes: variables,
         rows: 0,
     };
-    walk_threads(
+    walk_first(
         sheet,
         code,
         sizes,

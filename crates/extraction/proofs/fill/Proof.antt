@@ -7,8 +7,8 @@ use borrow.Author.Needs.{needs}
 use Rattle.extraction.proofs.fill.Statement.{statement}
 use Rattle.extraction.proofs.fill.Tie as tie
 
-walk-threads-requires : tie.Need-walk-threads-requires
-walk-threads-requires c κs =
+walk-first-requires : tie.Need-walk-first-requires
+walk-first-requires c κs =
     let b1 = c .before .before in
     let b2 = b1 .before .before .before .before .before .before .before .before .before .before .before .before in
     omega (arith, atMost-most 8 (b2 .args .layout .threads), b1 .thread-count .ensures)
@@ -22,7 +22,7 @@ returns c =
     let b5 = b4 .before in
     let b6 = b5 .before in
     fill-path _ _ _ _ _ _ (b6 .writers .ensures .0) (b6 .writers .ensures .1) (b5 .word .ensures) (b4 .word2 .ensures) (b3 .word3 .ensures)
-    refl (b2 .put-variables .ensures) (b1 .thread-count .ensures) (c .walk-threads .ensures)
+    refl (b2 .put-variables .ensures) (b1 .thread-count .ensures) (c .walk-first .ensures)
 
 pub fill-spec : {M : Type 1} → statement M
 fill-spec =
@@ -36,5 +36,5 @@ fill-spec =
     (λ c. search needs)
     (λ c κs. search needs)
     (λ c κs. search needs)
-    walk-threads-requires
+    walk-first-requires
     returns)

@@ -1,0 +1,12 @@
+-- `filling::few` meets its contract. Assumes nothing.
+use mathlib.Core.Path.{sym}
+use Rattle.tables.proofs.Readers.{atMost-in, atMost-cut}
+use Rattle.extraction.proofs.filling.few.Statement.{statement}
+use Rattle.extraction.proofs.filling.few.Tie as tie
+
+pub few-spec : {M : Type 1} → statement M
+few-spec =
+    tie.close
+    (tie.spec
+    (λ c. sym (atMost-in _ _ (c .if1 .taken)))
+    (λ c. sym (atMost-cut _ _ (c .if1 .left))))
