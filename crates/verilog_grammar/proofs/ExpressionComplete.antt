@@ -139,7 +139,8 @@ no-bang (numbered (sized w v)) rest = refl
 no-bang (numbered (sizedX w)) rest = refl
 no-bang (bracketed e) rest = refl
 
-plain-step : (inner : Reader Expression) (p : Primary) (ts rest : List Token) → primary inner ts ≡ ok p rest → plain inner ts ≡ ok (only p) rest
+plain-step : (inner : Reader Expression) (p : Primary) (ts rest : List Token) → primary inner ts ≡ ok p rest
+    → plain inner ts ≡ ok (only p) rest
 unfolding plain
 plain-step inner p ts rest e = rw e refl
 
@@ -147,7 +148,8 @@ operand-only : (inner : Reader Expression) (p : Primary) (rest : List Token) →
     → operand inner (spellPrimary p rest) ≡ ok (only p) rest
 unfolding operand
 operand-only inner p rest e =
-    next-not (ascii "~") (prefix complement inner) (ifNext (ascii "!") (prefix negation inner) (plain inner)) (spellPrimary p rest) (no-tilde p rest)
+    next-not (ascii "~") (prefix complement inner) (ifNext (ascii "!") (prefix negation inner) (plain inner)) (spellPrimary p rest)
+    (no-tilde p rest)
     ∙ next-not (ascii "!") (prefix negation inner) (plain inner) (spellPrimary p rest) (no-bang p rest)
     ∙ plain-step inner p (spellPrimary p rest) rest e
 
@@ -160,11 +162,14 @@ bang-tilde : (ts : List Token) → starts (ascii "~") (mark "!" ∷ ts) ≡ fals
 unfolding starts isMark ascii sameText
 bang-tilde ts = refl
 
-operand-prefix : (inner : Reader Expression) (u : Unary) (ts : List Token) → operand inner (terminal (unarySign u) ∷ ts) ≡ prefix u inner (terminal (unarySign u) ∷ ts)
+operand-prefix : (inner : Reader Expression) (u : Unary) (ts : List Token)
+    → operand inner (terminal (unarySign u) ∷ ts) ≡ prefix u inner (terminal (unarySign u) ∷ ts)
 unfolding operand unarySign
-operand-prefix inner complement ts = next-is (ascii "~") (prefix complement inner) (ifNext (ascii "!") (prefix negation inner) (plain inner)) ts
+operand-prefix inner complement ts =
+    next-is (ascii "~") (prefix complement inner) (ifNext (ascii "!") (prefix negation inner) (plain inner)) ts
 operand-prefix inner negation ts =
-    next-not (ascii "~") (prefix complement inner) (ifNext (ascii "!") (prefix negation inner) (plain inner)) (mark "!" ∷ ts) (bang-tilde ts)
+    next-not (ascii "~") (prefix complement inner) (ifNext (ascii "!") (prefix negation inner) (plain inner)) (mark "!" ∷ ts)
+    (bang-tilde ts)
     ∙ next-is (ascii "!") (prefix negation inner) (plain inner) ts
 
 reached-only : (p : Primary) → ReadPrimary p → Reached (only p)
@@ -176,8 +181,15 @@ reached-only p r f k rest h a b c =
 reached-prefixed : (u : Unary) (p : Primary) → ReadPrimary p → Reached (prefixed u p)
 unfolding Reached ReadPrimary spell start
 reached-prefixed u p r f k rest h a b c =
-    let s = longer-primary p rest in
-    (f, omega arith, rw (operand-prefix (reader f 1) u (spellPrimary p rest), prefix-step (reader f 1) u p (spellPrimary p rest) rest (r f rest (omega arith))) refl)
+    let s = longer-primary p rest in (
+      f,
+      omega arith,
+      rw (
+        operand-prefix (reader f 1) u (spellPrimary p rest),
+        prefix-step (reader f 1) u p (spellPrimary p rest) rest
+            (r f rest (omega arith)),
+      ) refl,
+    )
 
 -- ---- binary operators
 
@@ -186,7 +198,8 @@ turn-step : (inner : ℕ → Reader Expression) (g k : ℕ) (a b : Expression) (
 unfolding climb turn join
 turn-step inner g k a b o ts rest h e = rw (operator-sign o ts, le-leb k (precedence o) h, expected (binarySign o) ts, e) refl
 
-reached-joined : (a b : Expression) (o : Binary) → precedence o ≤ level a → precedence o < level b → Reached a → Read b → Reached (joined a o b)
+reached-joined : (a b : Expression) (o : Binary) → precedence o ≤ level a → precedence o < level b → Reached a → Read b
+    → Reached (joined a o b)
 unfolding Reached Read level spell
 reached-joined a b o ha hb ra rb f k rest h x y z = go (q .0) (q .1) (q .2)
   where
@@ -212,12 +225,14 @@ reached-joined a b o ha hb ra rb f k rest h x y z = go (q .0) (q .1) (q .2)
 
 -- ---- ?:
 
-choice-step : (inner : Reader Expression) (c a b : Expression) (ts us rest : List Token) → inner ts ≡ ok a (mark ":" ∷ us) → inner us ≡ ok b rest
+choice-step : (inner : Reader Expression) (c a b : Expression) (ts us rest : List Token) → inner ts ≡ ok a (mark ":" ∷ us)
+    → inner us ≡ ok b rest
     → choice inner c (mark "?" ∷ ts) ≡ ok (chosen c a b) rest
 unfolding choice
 choice-step inner c a b ts us rest d e = rw (expected (ascii "?") ts, d, expected (ascii ":") us, e) refl
 
-arms-step : (inner : Reader Expression) (k : ℕ) (c e : Expression) (ts rest : List Token) → k ≤ 1 → choice inner c (mark "?" ∷ ts) ≡ ok e rest
+arms-step : (inner : Reader Expression) (k : ℕ) (c e : Expression) (ts rest : List Token) → k ≤ 1
+    → choice inner c (mark "?" ∷ ts) ≡ ok e rest
     → arms inner k c (mark "?" ∷ ts) ≡ ok e rest
 unfolding arms
 arms-step inner k c e ts rest h d = rw (le-leb k 1 h) (next-is (ascii "?") (choice inner c) (give c) ts ∙ d)
@@ -254,7 +269,8 @@ sizedX-read w f rest = refl
 brackets-step : (inner : Reader Expression) (e : Expression) (ts rest : List Token) → inner ts ≡ ok e (mark ")" ∷ rest)
     → primary inner (mark "(" ∷ ts) ≡ ok (bracketed e) rest
 unfolding primary brackets
-brackets-step inner e ts rest d = next-is (ascii "(") (brackets inner) atom ts ∙ rw (expected (ascii "(") ts, d, expected (ascii ")") rest) refl
+brackets-step inner e ts rest d =
+    next-is (ascii "(") (brackets inner) atom ts ∙ rw (expected (ascii "(") ts, d, expected (ascii ")") rest) refl
 
 read-brackets : (e : Expression) → Read e → ReadPrimary (bracketed e)
 unfolding Read ReadPrimary spellPrimary

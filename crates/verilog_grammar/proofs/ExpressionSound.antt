@@ -128,7 +128,8 @@ module _ (inner : ℕ → Reader Expression) (sound : Inner inner) where
       rw (← ok-item h, ← ok-rest h)
       (record { spelled = refl; grouped = r .grouped; closer = r .closer; above = r .above; stopped = b })
 
-  join-sound : (again : Expression → Reader Expression) (k : ℕ) (l : Expression) (o : Binary) (ts : List Token) {e : Expression} {rest : List Token}
+  join-sound : (again : Expression → Reader Expression) (k : ℕ) (l : Expression) (o : Binary) (ts : List Token) {e : Expression}
+      {rest : List Token}
       → k ≤ precedence o → precedence o ≤ level l → Grouped l
       → ((x : Expression) (us : List Token) → Ready k x us → again x us ≡ ok e rest → Looped k (spell x us) e rest)
       → join inner again l o ts ≡ ok e rest → Looped k (spell l ts) e rest
@@ -162,7 +163,8 @@ module _ (inner : ℕ → Reader Expression) (sound : Inner inner) where
         stopped = q .stopped;
       }
 
-  turn-sound : (again : Expression → Reader Expression) (k : ℕ) (l : Expression) (o : Option Binary) (ts : List Token) {e : Expression} {rest : List Token}
+  turn-sound : (again : Expression → Reader Expression) (k : ℕ) (l : Expression) (o : Option Binary) (ts : List Token) {e : Expression}
+      {rest : List Token}
       → 1 ≤ k → operator ts ≡ o → Ready k l ts
       → ((x : Expression) (us : List Token) → Ready k x us → again x us ≡ ok e rest → Looped k (spell x us) e rest)
       → turn inner again k l o ts ≡ ok e rest → Looped k (spell l ts) e rest

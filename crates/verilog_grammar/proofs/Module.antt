@@ -20,13 +20,15 @@ use Rattle.verilog_grammar.proofs.ModuleComplete.{module-read}
 
 -- ---- lists
 
-pub record FoundList {T A : Type 0} (sp : T → List Token → List Token) (f : T → A) (P : T → Type 0) (ts : List Token) (xs : List A) (rest : List Token) : Type 0 where
+pub record FoundList {T A : Type 0} (sp : T → List Token → List Token) (f : T → A) (P : T → Type 0) (ts : List Token) (xs : List A)
+    (rest : List Token) : Type 0 where
   pub trees : Listed T
   pub spelled : spellListed sp trees rest ≡ ts
   pub means : listOf f trees ≡ xs
   pub each : Every P trees
 
-pub record FoundOne {T A : Type 0} (sp : T → List Token → List Token) (f : T → A) (P : T → Type 0) (ts : List Token) (a : A) (rest : List Token) : Type 0 where
+pub record FoundOne {T A : Type 0} (sp : T → List Token → List Token) (f : T → A) (P : T → Type 0) (ts : List Token) (a : A)
+    (rest : List Token) : Type 0 where
   pub tree : T
   pub spelled : sp tree rest ≡ ts
   pub means : f tree ≡ a
@@ -125,7 +127,8 @@ module _ (index : List ℕ → ℕ) where
     pub spelled : spellDeclared s bits names rest ≡ ts
     pub means : declares k (widthOf bits) (listOf same names) ≡ p
 
-  declaration-sound : (s : String) (k : Kind) (ts : List Token) {p : Part} {rest : List Token} → declaration index (ascii s) k ts ≡ ok p rest
+  declaration-sound : (s : String) (k : Kind) (ts : List Token) {p : Part} {rest : List Token}
+      → declaration index (ascii s) k ts ≡ ok p rest
       → FoundDeclared s k ts p rest
   unfolding declaration spellDeclared
   declaration-sound s k ts h =
@@ -214,9 +217,12 @@ module _ (index : List ℕ → ℕ) where
   part-sound : (ts : List Token) {p : Part} {rest : List Token} → moduleItem index ts ≡ ok p rest → FoundPart ts p rest
   unfolding moduleItem
   part-sound ts h =
-      next-ok (ascii "input") (declaration index (ascii "input") anInput) _ ts (λ j. input-sound ts (declaration-sound "input" anInput ts j)) (λ p1 h1.
-      next-ok (ascii "reg") (declaration index (ascii "reg") aRegister) _ ts (λ j. reg-sound ts (declaration-sound "reg" aRegister ts j)) (λ p2 h2.
-      next-ok (ascii "wire") (declaration index (ascii "wire") aWire) _ ts (λ j. wire-sound ts (declaration-sound "wire" aWire ts j)) (λ p3 h3.
+      next-ok (ascii "input") (declaration index (ascii "input") anInput) _ ts
+      (λ j. input-sound ts (declaration-sound "input" anInput ts j)) (λ p1 h1.
+      next-ok (ascii "reg") (declaration index (ascii "reg") aRegister) _ ts (λ j. reg-sound ts (declaration-sound "reg" aRegister ts j))
+      (λ p2 h2.
+      next-ok (ascii "wire") (declaration index (ascii "wire") aWire) _ ts (λ j. wire-sound ts (declaration-sound "wire" aWire ts j))
+      (λ p3 h3.
       next-ok (ascii "assign") (continuousAssign index) (alwaysConstruct index) ts (assign-sound ts) (λ p4 h4. always-sound ts h4)
       h3) h2) h1) h
 

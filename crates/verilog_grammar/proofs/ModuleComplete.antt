@@ -113,7 +113,11 @@ module _ (index : List ℕ → ℕ) where
       → bounds index (mark "[" ∷ number a n ∷ mark ":" ∷ number b 0 ∷ mark "]" ∷ rest) ≡ ok (n + 1) rest
   unfolding bounds unsigned naught
   bounds-read a b n rest =
-      rw (expected (ascii "[") (number a n ∷ mark ":" ∷ number b 0 ∷ mark "]" ∷ rest), expected (ascii ":") (number b 0 ∷ mark "]" ∷ rest), expected (ascii "]") rest) refl
+      rw (
+        expected (ascii "[") (number a n ∷ mark ":" ∷ number b 0 ∷ mark "]" ∷ rest),
+        expected (ascii ":") (number b 0 ∷ mark "]" ∷ rest),
+        expected (ascii "]") rest,
+      ) refl
 
   range-read : (r : Range) (rest : List Token) → starts (ascii "[") rest ≡ false → range index (spellRange r rest) ≡ ok (widthOf r) rest
   unfolding range spellRange widthOf
@@ -126,12 +130,18 @@ module _ (index : List ℕ → ℕ) where
   unfolding declaration spellDeclared
   declaration-read s k r ns rest =
       let ts = spellListed spellName ns (mark ";" ∷ rest) in
-      rw (expected (ascii s) (spellRange r ts), range-read r ts (names-open ns (mark ";" ∷ rest)), names-read ns (mark ";" ∷ rest) (rw (leads-semicolon rest) (omega arith)) (no-comma-semicolon rest), expected (ascii ";") rest)
+      rw (
+        expected (ascii s) (spellRange r ts),
+        range-read r ts (names-open ns (mark ";" ∷ rest)),
+        names-read ns (mark ";" ∷ rest) (rw (leads-semicolon rest) (omega arith)) (no-comma-semicolon rest),
+        expected (ascii ";") rest,
+      )
       refl
 
   -- ---- assign and always
 
-  net-read : (a : NetAssignment) (rest : List Token) → GroupedNet a → leads rest < 1 → netAssignment index (spellNet a rest) ≡ ok (drivenOf index a) rest
+  net-read : (a : NetAssignment) (rest : List Token) → GroupedNet a → leads rest < 1
+      → netAssignment index (spellNet a rest) ≡ ok (drivenOf index a) rest
   unfolding netAssignment spellNet drivenOf GroupedNet ident
   net-read a rest w h = rw (expected (ascii "=") (spell (a .value) rest), expression-read (a .value) rest w h) refl
 
@@ -140,7 +150,12 @@ module _ (index : List ℕ → ℕ) where
   unfolding continuousAssign
   assign-read xs rest w =
       let ts = spellListed spellNet xs (mark ";" ∷ rest) in
-      rw (expected (ascii "assign") ts, list-read (netAssignment index) spellNet (drivenOf index) GroupedNet net-read longer-net xs (mark ";" ∷ rest) w (rw (leads-semicolon rest) (omega arith)) (no-comma-semicolon rest), expected (ascii ";") rest)
+      rw (
+        expected (ascii "assign") ts,
+        list-read (netAssignment index) spellNet (drivenOf index) GroupedNet net-read longer-net xs (mark ";" ∷ rest) w
+            (rw (leads-semicolon rest) (omega arith)) (no-comma-semicolon rest),
+        expected (ascii ";") rest,
+      )
       refl
 
   always-read : (a : Statement) (rest : List Token) → unfold SettledPart in SettledPart (always a) → starts (ascii "else") rest ≡ false
@@ -174,9 +189,12 @@ module _ (index : List ℕ → ℕ) where
   part-read : (i : Item) (rest : List Token) → SettledPart i → starts (ascii "else") rest ≡ false
       → moduleItem index (spellPart i rest) ≡ ok (partOf index i) rest
   unfolding spellPart partOf SettledPart spellDeclared
-  part-read (input r ns) rest w h = by-input (spellRange r (spellListed spellName ns (mark ";" ∷ rest))) ∙ declaration-read "input" anInput r ns rest
-  part-read (reg r ns) rest w h = by-reg (spellRange r (spellListed spellName ns (mark ";" ∷ rest))) ∙ declaration-read "reg" aRegister r ns rest
-  part-read (wire r ns) rest w h = by-wire (spellRange r (spellListed spellName ns (mark ";" ∷ rest))) ∙ declaration-read "wire" aWire r ns rest
+  part-read (input r ns) rest w h =
+      by-input (spellRange r (spellListed spellName ns (mark ";" ∷ rest))) ∙ declaration-read "input" anInput r ns rest
+  part-read (reg r ns) rest w h =
+      by-reg (spellRange r (spellListed spellName ns (mark ";" ∷ rest))) ∙ declaration-read "reg" aRegister r ns rest
+  part-read (wire r ns) rest w h =
+      by-wire (spellRange r (spellListed spellName ns (mark ";" ∷ rest))) ∙ declaration-read "wire" aWire r ns rest
   part-read (assign xs) rest w h = by-assign (spellListed spellNet xs (mark ";" ∷ rest)) ∙ assign-read xs rest w
   part-read (always a) rest w h = by-always (spellStatement a rest) ∙ always-read a rest w h
 
@@ -223,13 +241,15 @@ module _ (index : List ℕ → ℕ) where
   unfolding moduleItems moduleEnd spellParts partsOf SettledParts
   parts-read [] zero rest w l = absurd (omega arith)
   parts-read [] (suc g) rest w l =
-      next-is (ascii "endmodule") (moduleEnd index) (moduleMore index (moduleItems index g)) rest ∙ rw (expected (ascii "endmodule") rest) refl
+      next-is (ascii "endmodule") (moduleEnd index) (moduleMore index (moduleItems index g)) rest
+      ∙ rw (expected (ascii "endmodule") rest) refl
   parts-read (i ∷ is) zero rest w l = let n = longer-part i (spellParts is rest) in absurd (omega arith)
   parts-read (i ∷ is) (suc g) rest w l =
       let ts = spellParts is rest in
       let n = longer-part i ts in
       next-not (ascii "endmodule") (moduleEnd index) (moduleMore index (moduleItems index g)) (spellPart i ts) (part-open i ts .0)
-      ∙ more-step (moduleItems index g) (partOf index i) (partsOf index is) (spellPart i ts) ts rest (part-read i ts (w .0) (parts-clear is rest))
+      ∙ more-step (moduleItems index g) (partOf index i) (partsOf index is) (spellPart i ts) ts rest
+      (part-read i ts (w .0) (parts-clear is rest))
       (parts-read is g rest (w .1) (omega arith))
 
   -- ---- the module
@@ -240,5 +260,12 @@ module _ (index : List ℕ → ℕ) where
       let ps = spellParts (m .items) [] in
       let ts = mark ")" ∷ mark ";" ∷ ps in
       let ns = spellListed spellName (m .ports) ts in
-      rw (expected (ascii "module") (name (m .title) ∷ mark "(" ∷ ns), expected (ascii "(") ns, names-read (m .ports) ts (rw (leads-close (mark ";" ∷ ps)) (omega arith)) (no-comma-close (mark ";" ∷ ps)), expected (ascii ")") (mark ";" ∷ ps), expected (ascii ";") ps, parts-read (m .items) (length ps) [] w (omega arith))
+      rw (
+        expected (ascii "module") (name (m .title) ∷ mark "(" ∷ ns),
+        expected (ascii "(") ns,
+        names-read (m .ports) ts (rw (leads-close (mark ";" ∷ ps)) (omega arith)) (no-comma-close (mark ";" ∷ ps)),
+        expected (ascii ")") (mark ";" ∷ ps),
+        expected (ascii ";") ps,
+        parts-read (m .items) (length ps) [] w (omega arith),
+      )
       refl

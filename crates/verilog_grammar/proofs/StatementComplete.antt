@@ -176,13 +176,15 @@ unfolding starts isMark ascii sameText spellAll
 all-clear none rest = refl
 all-clear (more a xs) rest = opens a (spellAll xs rest) .else
 
-item-open : (i : CaseItem) (rest : List Token) → (starts (ascii "endcase") (spellItem i rest) ≡ false) × (starts (ascii "else") (spellItem i rest) ≡ false)
+item-open : (i : CaseItem) (rest : List Token)
+    → (starts (ascii "endcase") (spellItem i rest) ≡ false) × (starts (ascii "else") (spellItem i rest) ≡ false)
 unfolding starts isMark ascii sameText spellItem
 item-open (labelled w v a) rest = (refl, refl)
 item-open (default a) rest = (refl, refl)
 item-open (defaultColon a) rest = (refl, refl)
 
-items-open : (xs : CaseItems) (rest : List Token) → (starts (ascii "endcase") (spellItems xs rest) ≡ false) × (starts (ascii "else") (spellItems xs rest) ≡ false)
+items-open : (xs : CaseItems) (rest : List Token)
+    → (starts (ascii "endcase") (spellItems xs rest) ≡ false) × (starts (ascii "else") (spellItems xs rest) ≡ false)
 unfolding spellItems
 items-open (lastItem i) rest = item-open i (mark "endcase" ∷ rest)
 items-open (item i xs) rest = item-open i (spellItems xs rest)
@@ -196,7 +198,11 @@ endcase-clear rest = refl
 pub condition-read : (e : Expression) (rest : List Token) → Grouped e → condition (spellCondition e rest) ≡ ok e rest
 unfolding condition spellCondition
 condition-read e rest w =
-    rw (expected (ascii "(") (spell e (mark ")" ∷ rest)), expression-read e (mark ")" ∷ rest) w (rw (leads-close rest) (omega arith)), expected (ascii ")") rest) refl
+    rw (
+      expected (ascii "(") (spell e (mark ")" ∷ rest)),
+      expression-read e (mark ")" ∷ rest) w (rw (leads-close rest) (omega arith)),
+      expected (ascii ")") rest,
+    ) refl
 
 module _ (index : List ℕ → ℕ) where
   -- ---- events
@@ -240,7 +246,8 @@ module _ (index : List ℕ → ℕ) where
   comma-step inner t us ts end e =
       next-not (ascii "or") _ _ (mark "," ∷ ts) (comma-no ts) ∙ next-is (ascii ",") _ _ ts ∙ rw (expected (ascii ",") ts, e) refl
 
-  close-step : (inner : Reader (List EdgeTerm)) (t : EdgeTerm) (ts : List Token) → moreEvents index inner t (mark ")" ∷ ts) ≡ ok (t ∷ []) (mark ")" ∷ ts)
+  close-step : (inner : Reader (List EdgeTerm)) (t : EdgeTerm) (ts : List Token)
+      → moreEvents index inner t (mark ")" ∷ ts) ≡ ok (t ∷ []) (mark ")" ∷ ts)
   unfolding moreEvents ifNext starts isMark ascii sameText
   close-step inner t ts = refl
 
@@ -275,7 +282,8 @@ module _ (index : List ℕ → ℕ) where
       (λ t g h. close-step (events index g) t rest)
       ∙ ap (λ (x : List EdgeTerm). ok x (mark ")" ∷ rest)) (append-nil (termsOf index e))
 
-  bare-step : (n : Name) (ts : List Token) → ifNext (ascii "(") (eventList index) (eventName index) (name n ∷ ts) ≡ ok (termOf index Change n ∷ []) ts
+  bare-step : (n : Name) (ts : List Token)
+      → ifNext (ascii "(") (eventList index) (eventName index) (name n ∷ ts) ≡ ok (termOf index Change n ∷ []) ts
   unfolding ifNext starts isMark eventName change ident
   bare-step n ts = refl
 
@@ -319,7 +327,8 @@ module _ (index : List ℕ → ℕ) where
     unfolding statementBy ifNext starts isMark
     by-name n = refl
 
-  by-control : (inner : Reader (Stmt Expr)) (c : Control) (ts : List Token) → statementBy index inner (spellControl c ts) ≡ timing index inner (spellControl c ts)
+  by-control : (inner : Reader (Stmt Expr)) (c : Control) (ts : List Token)
+      → statementBy index inner (spellControl c ts) ≡ timing index inner (spellControl c ts)
   unfolding spellControl
   by-control inner (bare n) ts = by-at inner (name n ∷ ts)
   by-control inner (among e) ts = by-at inner (mark "(" ∷ spellEvent e (mark ")" ∷ ts))
@@ -435,10 +444,12 @@ module _ (index : List ℕ → ℕ) where
       ∙ no-else (statement index f) (exprOf index e) (orNullOf index a) rest h
 
   -- The second part is whatever the reader reads as statement_or_null.
-  else-read : (e : Expression) (a : OrNull) (b : Stmt Expr) (f : ℕ) (ts rest : List Token) → Grouped e → ReadOrNull a → isOpenOrNull a ≡ false
+  else-read : (e : Expression) (a : OrNull) (b : Stmt Expr) (f : ℕ) (ts rest : List Token) → Grouped e → ReadOrNull a
+      → isOpenOrNull a ≡ false
       → suc (length (spellCondition e (spellOrNull a (mark "else" ∷ ts)))) ≤ f
       → ((h : ℕ) → length ts ≤ h → orNull index (statement index h) ts ≡ ok b rest)
-      → statement index f (mark "if" ∷ spellCondition e (spellOrNull a (mark "else" ∷ ts))) ≡ ok (ifElse (exprOf index e) (orNullOf index a) b) rest
+      → statement index f (mark "if" ∷ spellCondition e (spellOrNull a (mark "else" ∷ ts))) ≡ ok
+      (ifElse (exprOf index e) (orNullOf index a) b) rest
   unfolding statement ReadOrNull
   else-read e a b zero ts rest w r c l k = absurd (omega arith)
   else-read e a b (suc f) ts rest w r c l k =
@@ -462,11 +473,13 @@ module _ (index : List ℕ → ℕ) where
   unfolding ReadChain spellChain chainOf isOpenChain Clear
   read-last e a w r f rest c l = if-read e a f rest w r c l
 
-  read-last-else : (e : Expression) (a b : OrNull) → Grouped e → ReadOrNull a → ReadOrNull b → isOpenOrNull a ≡ false → ReadChain (lastElse e a b)
+  read-last-else : (e : Expression) (a b : OrNull) → Grouped e → ReadOrNull a → ReadOrNull b → isOpenOrNull a ≡ false
+      → ReadChain (lastElse e a b)
   unfolding ReadChain ReadOrNull spellChain chainOf isOpenChain
   read-last-else e a b w r q o f rest c l = else-read e a (orNullOf index b) f (spellOrNull b rest) rest w r o l (λ h m. q h rest c m)
 
-  read-leg : (e : Expression) (a : OrNull) (d : Chain) → Grouped e → ReadOrNull a → ReadChain d → isOpenOrNull a ≡ false → ReadChain (leg e a d)
+  read-leg : (e : Expression) (a : OrNull) (d : Chain) → Grouped e → ReadOrNull a → ReadChain d → isOpenOrNull a ≡ false
+      → ReadChain (leg e a d)
   unfolding ReadChain ReadOrNull spellChain chainOf isOpenChain orNull
   read-leg e a d w r q o f rest c l =
       else-read e a (chainOf index d) f (spellChain d rest) rest w r o l
@@ -509,7 +522,8 @@ module _ (index : List ℕ → ℕ) where
       next-is (ascii "end") (blockEnd index) (blockMore index (statement index f) (statements index (statement index f) g)) rest
       ∙ rw (expected (ascii "end") rest) refl
 
-  more-step : (inner : Reader (Stmt Expr)) (rest : Reader (List (Stmt Expr))) (a : Stmt Expr) (xs : List (Stmt Expr)) (ts us vs : List Token)
+  more-step : (inner : Reader (Stmt Expr)) (rest : Reader (List (Stmt Expr))) (a : Stmt Expr) (xs : List (Stmt Expr))
+      (ts us vs : List Token)
       → inner ts ≡ ok a us → rest us ≡ ok xs vs → blockMore index inner rest ts ≡ ok (a ∷ xs) vs
   unfolding blockMore
   more-step inner rest a xs ts us vs p q = rw (p, q) refl
@@ -520,8 +534,10 @@ module _ (index : List ℕ → ℕ) where
   read-more a xs r q f (suc g) rest l m =
       let ts = spellAll xs rest in
       let n = longer-statement a ts in
-      next-not (ascii "end") (blockEnd index) (blockMore index (statement index f) (statements index (statement index f) g)) (spellStatement a ts) (opens a ts .end)
-      ∙ more-step (statement index f) (statements index (statement index f) g) (stmtOf index a) (stmtsOf index xs) (spellStatement a ts) ts rest
+      next-not (ascii "end") (blockEnd index) (blockMore index (statement index f) (statements index (statement index f) g))
+      (spellStatement a ts) (opens a ts .end)
+      ∙ more-step (statement index f) (statements index (statement index f) g) (stmtOf index a) (stmtsOf index xs)
+      (spellStatement a ts) ts rest
       (r f ts (clear (isOpen a) ts (all-clear xs rest)) l) (q f g rest (omega arith) (omega arith))
 
   read-block : (xs : Statements) → ReadAll xs → Read (blockTree xs)
@@ -546,28 +562,33 @@ module _ (index : List ℕ → ℕ) where
   unfolding colon
   no-colon-step ts h = next-not (ascii ":") (expect (ascii ":")) (give tt) ts h
 
-  default-step : (inner : Reader (Stmt Expr)) (a : Stmt Expr) (ts us rest : List Token) → colon index ts ≡ ok tt us → orNull index inner us ≡ ok a rest
+  default-step : (inner : Reader (Stmt Expr)) (a : Stmt Expr) (ts us rest : List Token) → colon index ts ≡ ok tt us
+      → orNull index inner us ≡ ok a rest
       → defaultItem index inner (mark "default" ∷ ts) ≡ ok (otherwise a) rest
   unfolding defaultItem
   default-step inner a ts us rest p q = rw (expected (ascii "default") ts, p, q) refl
 
-  first-label : (inner : Reader (Stmt Expr)) (g n w : ℕ) (ts rest : List Token) (i : Arm) → labelledItem index inner (number true w ∷ ts) ≡ ok i rest
+  first-label : (inner : Reader (Stmt Expr)) (g n w : ℕ) (ts rest : List Token) (i : Arm)
+      → labelledItem index inner (number true w ∷ ts) ≡ ok i rest
       → caseItems index inner (suc g) n (number true w ∷ ts) ≡ itemsBehind index (caseItems index inner g n) i rest
   unfolding caseItems ifNext starts isMark labelFirst
   first-label inner g n w ts rest i e = rw e refl
 
-  first-default : (inner : Reader (Stmt Expr)) (g n : ℕ) (ts rest : List Token) (i : Arm) → n + 1 ≤ 1 → defaultItem index inner (mark "default" ∷ ts) ≡ ok i rest
+  first-default : (inner : Reader (Stmt Expr)) (g n : ℕ) (ts rest : List Token) (i : Arm) → n + 1 ≤ 1
+      → defaultItem index inner (mark "default" ∷ ts) ≡ ok i rest
       → caseItems index inner (suc g) n (mark "default" ∷ ts) ≡ itemsBehind index (caseItems index inner g (n + 1)) i rest
   unfolding caseItems defaultFirst
   first-default inner g zero ts rest i h e =
-      next-is (ascii "default") (defaultFirst index inner (caseItems index inner g 1)) (labelFirst index inner (caseItems index inner g 0)) ts ∙ rw e refl
+      next-is (ascii "default") (defaultFirst index inner (caseItems index inner g 1))
+      (labelFirst index inner (caseItems index inner g 0)) ts ∙ rw e refl
   first-default inner g (suc n) ts rest i h e = absurd (omega arith)
 
   read-labelled : (w v : ℕ) (a : OrNull) → ReadOrNull a → ReadItem (labelled w v a)
   unfolding ReadItem ReadOrNull spellItem armOf defaultsOf
   read-labelled w v a r f g n rest d c l =
       first-label (statement index f) g n w (known v ∷ mark ":" ∷ spellOrNull a rest) rest (on (numberExpr (sized w v)) (orNullOf index a))
-      (label-step (statement index f) w v (orNullOf index a) (spellOrNull a rest) rest (r f rest (clear (isOpenOrNull a) rest c) (omega arith)))
+      (label-step (statement index f) w v (orNullOf index a) (spellOrNull a rest) rest
+      (r f rest (clear (isOpenOrNull a) rest c) (omega arith)))
       ∙ rw (add-zero n) refl
 
   read-default : (a : OrNull) → ReadOrNull a → ReadItem (default a)
@@ -586,9 +607,11 @@ module _ (index : List ℕ → ℕ) where
       (default-step (statement index f) (orNullOf index a) (mark ":" ∷ ts) ts rest (colon-step ts)
       (r f rest (clear (isOpenOrNull a) rest c) (omega arith)))
 
-  end-step : (later-ones : Reader (List Arm)) (i : Arm) (ts : List Token) → itemsBehind index later-ones i (mark "endcase" ∷ ts) ≡ ok (i ∷ []) ts
+  end-step : (later-ones : Reader (List Arm)) (i : Arm) (ts : List Token)
+      → itemsBehind index later-ones i (mark "endcase" ∷ ts) ≡ ok (i ∷ []) ts
   unfolding itemsBehind itemsEnd
-  end-step later-ones i ts = next-is (ascii "endcase") (itemsEnd index i) (itemsMore index later-ones i) ts ∙ rw (expected (ascii "endcase") ts) refl
+  end-step later-ones i ts =
+      next-is (ascii "endcase") (itemsEnd index i) (itemsMore index later-ones i) ts ∙ rw (expected (ascii "endcase") ts) refl
 
   behind-step : (later-ones : Reader (List Arm)) (i : Arm) (is : List Arm) (ts rest : List Token) → starts (ascii "endcase") ts ≡ false
       → later-ones ts ≡ ok is rest → itemsBehind index later-ones i ts ≡ ok (i ∷ is) rest
@@ -609,7 +632,8 @@ module _ (index : List ℕ → ℕ) where
       let ts = spellItems xs rest in
       let k = longer-item i ts in
       r f g n ts (omega arith) (items-open xs rest .1) l
-      ∙ behind-step (caseItems index (statement index f) g (n + defaultsOf i)) (armOf index i) (armsOf index xs) ts rest (items-open xs rest .0)
+      ∙ behind-step (caseItems index (statement index f) g (n + defaultsOf i)) (armOf index i) (armsOf index xs) ts rest
+      (items-open xs rest .0)
       (q f g (n + defaultsOf i) rest (omega arith) (omega arith) (omega arith))
 
   read-selects : (e : Expression) (xs : CaseItems) → Grouped e → defaults xs ≤ 1 → ReadItems xs → Read (selects e xs)
@@ -619,7 +643,11 @@ module _ (index : List ℕ → ℕ) where
       let ts = spellItems xs rest in
       let m = longer-condition e ts in
       by-case (statement index f) (spellCondition e ts)
-      ∙ rw (expected (ascii "case") (spellCondition e ts), condition-read e ts w, r f (length ts) 0 rest (omega arith) (omega arith) (omega arith)) refl
+      ∙ rw (
+        expected (ascii "case") (spellCondition e ts),
+        condition-read e ts w,
+        r f (length ts) 0 rest (omega arith) (omega arith) (omega arith),
+      ) refl
 
   -- ---- all trees
 

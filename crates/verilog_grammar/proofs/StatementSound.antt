@@ -33,7 +33,8 @@ unfolding Clear starts isMark ascii sameText
 closed true ts h = absurd (true≢false h)
 closed false ts h = refl
 
-condition-sound : (ts : List Token) {e : Expression} {rest : List Token} → condition ts ≡ ok e rest → (spellCondition e rest ≡ ts) × Grouped e
+condition-sound : (ts : List Token) {e : Expression} {rest : List Token} → condition ts ≡ ok e rest
+    → (spellCondition e rest ≡ ts) × Grouped e
 unfolding condition spellCondition
 condition-sound ts h =
     after (ascii "(") ts _ h λ us a g.
@@ -55,7 +56,8 @@ module _ (index : List ℕ → ℕ) where
   unfolding change
   change-sound ts h = named ts _ h λ n us a g. rw (← ok-item g, ← ok-rest g) (n, sym a, refl)
 
-  rises-sound : (ts : List Token) {t : EdgeTerm} {rest : List Token} → edge index (ascii "posedge") Posedge ts ≡ ok t rest → FoundEvents ts (t ∷ []) rest
+  rises-sound : (ts : List Token) {t : EdgeTerm} {rest : List Token} → edge index (ascii "posedge") Posedge ts ≡ ok t rest
+      → FoundEvents ts (t ∷ []) rest
   unfolding edge spellEvent termsOf
   rises-sound ts h =
       after (ascii "posedge") ts _ h λ us a g.
@@ -63,7 +65,8 @@ module _ (index : List ℕ → ℕ) where
       rw (← ok-item k, ← ok-rest k)
       (record { tree = rises n; spelled = ap (λ (z : List Token). mark "posedge" ∷ z) (sym b) ∙ sym a; means = refl })
 
-  falls-sound : (ts : List Token) {t : EdgeTerm} {rest : List Token} → edge index (ascii "negedge") Negedge ts ≡ ok t rest → FoundEvents ts (t ∷ []) rest
+  falls-sound : (ts : List Token) {t : EdgeTerm} {rest : List Token} → edge index (ascii "negedge") Negedge ts ≡ ok t rest
+      → FoundEvents ts (t ∷ []) rest
   unfolding edge spellEvent termsOf
   falls-sound ts h =
       after (ascii "negedge") ts _ h λ us a g.
@@ -81,34 +84,40 @@ module _ (index : List ℕ → ℕ) where
   unfolding event
   event-sound ts h =
       next-ok (ascii "posedge") (edge index (ascii "posedge") Posedge) _ ts (rises-sound ts)
-      (λ p j. next-ok (ascii "negedge") (edge index (ascii "negedge") Negedge) (change index) ts (falls-sound ts) (λ q i. changes-sound ts i) j)
+      (λ p j. next-ok (ascii "negedge") (edge index (ascii "negedge") Negedge) (change index) ts (falls-sound ts)
+      (λ q i. changes-sound ts i) j)
       h
 
   -- An event, a separator and further ones.
-  with-or : (ts us vs rest : List Token) (t : EdgeTerm) (es : List EdgeTerm) → FoundEvents ts (t ∷ []) us → us ≡ mark "or" ∷ vs → FoundEvents vs es rest
+  with-or : (ts us vs rest : List Token) (t : EdgeTerm) (es : List EdgeTerm) → FoundEvents ts (t ∷ []) us → us ≡ mark "or" ∷ vs
+      → FoundEvents vs es rest
       → FoundEvents ts (t ∷ es) rest
   unfolding spellEvent termsOf
   with-or ts us vs rest t es f a g =
       record {
         tree = orEvent (f .tree) (g .tree);
-        spelled = ap (λ (z : List Token). spellEvent (f .tree) (mark "or" ∷ z)) (g .spelled) ∙ ap (spellEvent (f .tree)) (sym a) ∙ f .spelled;
+        spelled =
+            ap (λ (z : List Token). spellEvent (f .tree) (mark "or" ∷ z)) (g .spelled) ∙ ap (spellEvent (f .tree)) (sym a) ∙ f .spelled;
         means = rw (f .means, g .means) refl;
       }
 
-  with-comma : (ts us vs rest : List Token) (t : EdgeTerm) (es : List EdgeTerm) → FoundEvents ts (t ∷ []) us → us ≡ mark "," ∷ vs → FoundEvents vs es rest
+  with-comma : (ts us vs rest : List Token) (t : EdgeTerm) (es : List EdgeTerm) → FoundEvents ts (t ∷ []) us → us ≡ mark "," ∷ vs
+      → FoundEvents vs es rest
       → FoundEvents ts (t ∷ es) rest
   unfolding spellEvent termsOf
   with-comma ts us vs rest t es f a g =
       record {
         tree = comma (f .tree) (g .tree);
-        spelled = ap (λ (z : List Token). spellEvent (f .tree) (mark "," ∷ z)) (g .spelled) ∙ ap (spellEvent (f .tree)) (sym a) ∙ f .spelled;
+        spelled =
+            ap (λ (z : List Token). spellEvent (f .tree) (mark "," ∷ z)) (g .spelled) ∙ ap (spellEvent (f .tree)) (sym a) ∙ f .spelled;
         means = rw (f .means, g .means) refl;
       }
 
   InnerEvents : Reader (List EdgeTerm) → Type 0
   InnerEvents inner = (ts : List Token) (es : List EdgeTerm) (rest : List Token) → inner ts ≡ ok es rest → FoundEvents ts es rest
 
-  more-sound : (inner : Reader (List EdgeTerm)) → InnerEvents inner → (ts us : List Token) (t : EdgeTerm) {es : List EdgeTerm} {rest : List Token}
+  more-sound : (inner : Reader (List EdgeTerm)) → InnerEvents inner
+      → (ts us : List Token) (t : EdgeTerm) {es : List EdgeTerm} {rest : List Token}
       → FoundEvents ts (t ∷ []) us → moreEvents index inner t us ≡ ok es rest → FoundEvents ts es rest
   unfolding InnerEvents moreEvents furtherEvents
   more-sound inner sound ts us t f h =
@@ -133,7 +142,8 @@ module _ (index : List ℕ → ℕ) where
     pub spelled : spellControl tree rest ≡ ts
     pub means : controlOf index tree ≡ es
 
-  list-sound : (ts : List Token) {es : List EdgeTerm} {rest : List Token} → eventList index ts ≡ ok es rest → FoundControl (mark "@" ∷ ts) es rest
+  list-sound : (ts : List Token) {es : List EdgeTerm} {rest : List Token} → eventList index ts ≡ ok es rest
+      → FoundControl (mark "@" ∷ ts) es rest
   unfolding eventList spellControl controlOf InnerEvents
   list-sound ts h =
       after (ascii "(") ts _ h λ us a g.
@@ -148,7 +158,8 @@ module _ (index : List ℕ → ℕ) where
         means = i .means;
       })
 
-  bare-sound : (ts : List Token) {es : List EdgeTerm} {rest : List Token} → eventName index ts ≡ ok es rest → FoundControl (mark "@" ∷ ts) es rest
+  bare-sound : (ts : List Token) {es : List EdgeTerm} {rest : List Token} → eventName index ts ≡ ok es rest
+      → FoundControl (mark "@" ∷ ts) es rest
   unfolding eventName spellControl controlOf
   bare-sound ts h =
       stepped (change index ts) _ h λ t us a g.
@@ -207,7 +218,8 @@ module _ (index : List ℕ → ℕ) where
 
   -- ---- assignments
 
-  blocking-sound : (n : Name) (ts : List Token) {c : Stmt Expr} {rest : List Token} → blockingTo index n ts ≡ ok c rest → Found (name n ∷ ts) c rest
+  blocking-sound : (n : Name) (ts : List Token) {c : Stmt Expr} {rest : List Token} → blockingTo index n ts ≡ ok c rest
+      → Found (name n ∷ ts) c rest
   unfolding blockingTo spellStatement stmtOf Settled isOpen Clear
   blocking-sound n ts h =
       after (ascii "=") ts _ h λ us a g.
@@ -267,11 +279,13 @@ module _ (index : List ℕ → ℕ) where
 
     orNull-sound : (ts : List Token) {c : Stmt Expr} {rest : List Token} → orNull index inner ts ≡ ok c rest → FoundOrNull ts c rest
     unfolding orNull
-    orNull-sound ts {c} {rest} h = next-ok (ascii ";") (nullStatement index) inner ts (null-sound ts) (λ q j. some-sound ts (sound ts c rest j)) h
+    orNull-sound ts {c} {rest} h =
+        next-ok (ascii ";") (nullStatement index) inner ts (null-sound ts) (λ q j. some-sound ts (sound ts c rest j)) h
 
     -- ---- if, with and without else
 
-    without-else : (e : Expression) (ts us : List Token) (a : Stmt Expr) {c : Stmt Expr} {rest : List Token} → Grouped e → FoundOrNull ts a us
+    without-else : (e : Expression) (ts us : List Token) (a : Stmt Expr) {c : Stmt Expr} {rest : List Token} → Grouped e
+        → FoundOrNull ts a us
         → starts (ascii "else") us ≡ false → ok (ifThen (exprOf index e) a) us ≡ ok c rest → Found (mark "if" ∷ spellCondition e ts) c rest
     unfolding spellStatement stmtOf Settled isOpen Clear
     without-else e ts us a w f k h =
@@ -295,7 +309,8 @@ module _ (index : List ℕ → ℕ) where
         (record {
           tree = either e (f .tree) (j .tree);
           spelled = ap (λ (z : List Token). mark "if" ∷ spellCondition e z)
-              (ap (λ (z : List Token). spellOrNull (f .tree) (mark "else" ∷ z)) (j .spelled) ∙ ap (spellOrNull (f .tree)) (sym p) ∙ f .spelled);
+              (ap (λ (z : List Token). spellOrNull (f .tree) (mark "else" ∷ z)) (j .spelled) ∙ ap (spellOrNull (f .tree))
+              (sym p) ∙ f .spelled);
           means = rw (f .means, j .means) refl;
           settled = (w, f .settled, j .settled, closed (isOpenOrNull (f .tree)) vs (rw p at (f .free)));
           free = j .free;
@@ -310,7 +325,8 @@ module _ (index : List ℕ → ℕ) where
         let i = condition-sound us q in
         let f = orNull-sound vs r in
         rw (p, ← i .0)
-        (next-ok (ascii "else") (elsePart index inner (exprOf index e) a) (give (ifThen (exprOf index e) a)) ws (with-else e vs ws a (i .1) f)
+        (next-ok (ascii "else") (elsePart index inner (exprOf index e) a) (give (ifThen (exprOf index e) a)) ws
+        (with-else e vs ws a (i .1) f)
         (λ n j. without-else e vs ws a (i .1) f n j) m)
 
     -- ---- loops and waits
@@ -458,7 +474,8 @@ module _ (index : List ℕ → ℕ) where
 
     colon-sound : {P : Type 0} (ts us : List Token) {u : Unit {0}} → (ts ≡ mark ":" ∷ us → P) → (ts ≡ us → P) → colon index ts ≡ ok u us → P
     unfolding colon
-    colon-sound ts us f g h = next-ok (ascii ":") (expect (ascii ":")) (give tt) ts (λ j. f (expect-ok (ascii ":") ts j)) (λ q j. g (ok-rest j)) h
+    colon-sound ts us f g h =
+        next-ok (ascii ":") (expect (ascii ":")) (give tt) ts (λ j. f (expect-ok (ascii ":") ts j)) (λ q j. g (ok-rest j)) h
 
     default-sound : (ts : List Token) {i : Arm} {rest : List Token} → defaultItem index inner ts ≡ ok i rest → FoundItem ts 1 i rest
     unfolding defaultItem
@@ -473,7 +490,8 @@ module _ (index : List ℕ → ℕ) where
     InnerItems : ℕ → Reader (List Arm) → Type 0
     InnerItems n rest = (ts : List Token) (is : List Arm) (us : List Token) → rest ts ≡ ok is us → FoundItems n ts is us
 
-    behind-sound : (n d : ℕ) (rest : Reader (List Arm)) → n + d ≤ 1 → InnerItems (n + d) rest → (ts us : List Token) (i : Arm) {is : List Arm} {end : List Token}
+    behind-sound : (n d : ℕ) (rest : Reader (List Arm)) → n + d ≤ 1 → InnerItems (n + d) rest
+        → (ts us : List Token) (i : Arm) {is : List Arm} {end : List Token}
         → FoundItem ts d i us → itemsBehind index rest i us ≡ ok is end → FoundItems n ts is end
     unfolding InnerItems itemsBehind itemsEnd itemsMore spellItems armsOf SettledItems defaults
     behind-sound n d rest o inside ts us i {is} {end} f h =

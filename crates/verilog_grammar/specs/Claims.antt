@@ -18,7 +18,8 @@ pub record Derivation (index : List ℕ → ℕ) (ts : List Token) (s : Source) 
 -- "text that IEEE 1364-2005's Annex A, cut to these forms, doesn't derive (42)": what is read has a derivation, and what has one is
 -- read.
 unfoldable pub OnlyDerived : Type 0
-OnlyDerived = (index : List ℕ → ℕ) (ts : List Token) (s : Source) (rest : List Token) → readModule index ts ≡ ok s rest → Derivation index ts s
+OnlyDerived =
+    (index : List ℕ → ℕ) (ts : List Token) (s : Source) (rest : List Token) → readModule index ts ≡ ok s rest → Derivation index ts s
 
 unfoldable pub AllDerived : Type 0
 AllDerived = (index : List ℕ → ℕ) (ts : List Token) (s : Source) → Derivation index ts s → readModule index ts ≡ ok s []

@@ -14,6 +14,14 @@ use Rattle.verilog_tokens.specs.Tokens.{Token, terminal, name, number, k
 abbrev pub at : ℕ → List ℕ → Token
 at p w = name (record { place = p; spelled = w })
 
+-- The tokens of a text, with every definition open.
+unfoldable pub seen : List ℕ → List Token
+unfolding tokens located fromGap fromToken andThen goesOn tokenBy opening sign signToken based value valueBehind valueToken isUnknown
+    isKnown digitsIn decimalDigits radixOf baseOf unsigned numberToken opensZero word wordToken gap gaps onwards blank comment
+    blockComment closing isSlash lineComment endedBy further either firstOf opensWith signs isKeyword isAmong keywords numeral
+    numeralFrom withDigit every span inClass isDigit isUnderscore isZ isX isBelow isLetter isSpace isNewline sameText ascii digitOf
+seen text = tokens text
+
 abbrev pub sees : List ℕ → List Token → Type 0
 sees text ts = tokens text ≡ ts
 
@@ -21,12 +29,13 @@ sees text ts = tokens text ≡ ts
 pub an-assignment : sees (ascii "if(a)b<=c==d;")
     (terminal (ascii "if") ∷ terminal (ascii "(") ∷ at 3 (ascii "a") ∷ terminal (ascii ")") ∷ at 5 (ascii "b") ∷
     terminal (ascii "<=") ∷ at 8 (ascii "c") ∷ terminal (ascii "==") ∷ at 11 (ascii "d") ∷ terminal (ascii ";") ∷ [])
-unfolding tokens located fromGap fromToken andThen goesOn tokenBy opening sign signToken based value valueBehind valueToken isUnknown isKnown digitsIn decimalDigits radixOf baseOf unsigned numberToken opensZero word wordToken gap gaps onwards blank comment blockComment closing isSlash lineComment endedBy further either firstOf opensWith signs isKeyword isAmong keywords numeral numeralFrom withDigit every span inClass isDigit isUnderscore isZ isX isBelow isLetter isSpace isNewline sameText ascii digitOf
+unfolding seen
 an-assignment = refl
 
 -- A name goes on with digits and `$`; `iff` is none of Annex B's words, `xnor` and `uwire` are. Comments part two tokens.
-pub names-and-keywords : sees (ascii "iff a$1/**/_ xnor//uwire") (at 0 (ascii "iff") ∷ at 4 (ascii "a$1") ∷ at 11 (ascii "_") ∷ terminal (ascii "xnor") ∷ [])
-unfolding tokens located fromGap fromToken andThen goesOn tokenBy opening sign signToken based value valueBehind valueToken isUnknown isKnown digitsIn decimalDigits radixOf baseOf unsigned numberToken opensZero word wordToken gap gaps onwards blank comment blockComment closing isSlash lineComment endedBy further either firstOf opensWith signs isKeyword isAmong keywords numeral numeralFrom withDigit every span inClass isDigit isUnderscore isZ isX isBelow isLetter isSpace isNewline sameText ascii digitOf
+pub names-and-keywords : sees (ascii "iff a$1/**/_ xnor//uwire")
+    (at 0 (ascii "iff") ∷ at 4 (ascii "a$1") ∷ at 11 (ascii "_") ∷ terminal (ascii "xnor") ∷ [])
+unfolding seen
 names-and-keywords = refl
 
 -- Sizes and values: white space may stand behind the base, a comment may not; `_` not first.
@@ -36,7 +45,7 @@ pub constants : sees (ascii "8'hFf 1_6 'b 1_0 0'd07") (number true 8 ∷ known 2
     × sees (ascii "8' hff") (number true 8 ∷ broken ∷ [])
     × sees (ascii "8'sd1") (number true 8 ∷ broken ∷ [])
     × sees (ascii "1'b_0") (number true 1 ∷ broken ∷ [])
-unfolding tokens located fromGap fromToken andThen goesOn tokenBy opening sign signToken based value valueBehind valueToken isUnknown isKnown digitsIn decimalDigits radixOf baseOf unsigned numberToken opensZero word wordToken gap gaps onwards blank comment blockComment closing isSlash lineComment endedBy further either firstOf opensWith signs isKeyword isAmong keywords numeral numeralFrom withDigit every span inClass isDigit isUnderscore isZ isX isBelow isLetter isSpace isNewline sameText ascii digitOf
+unfolding seen
 constants = (refl, refl, refl, refl, refl, refl)
 
 -- "known or all x": no x at all, or nothing but x; ? is a digit of b, o and h, and not of d; one x for d.
@@ -45,17 +54,18 @@ pub mixed-digits : sees (ascii "8'bx1") (number true 8 ∷ broken ∷ [])
     × sees (ascii "1'b1?a") (number true 1 ∷ broken ∷ [])
     × sees (ascii "1'd1?a") (number true 1 ∷ known 1 ∷ terminal (ascii "?") ∷ at 5 (ascii "a") ∷ [])
     × sees (ascii "8'dxx") (number true 8 ∷ unknown ∷ at 4 (ascii "x") ∷ [])
-unfolding tokens located fromGap fromToken andThen goesOn tokenBy opening sign signToken based value valueBehind valueToken isUnknown isKnown digitsIn decimalDigits radixOf baseOf unsigned numberToken opensZero word wordToken gap gaps onwards blank comment blockComment closing isSlash lineComment endedBy further either firstOf opensWith signs isKeyword isAmong keywords numeral numeralFrom withDigit every span inClass isDigit isUnderscore isZ isX isBelow isLetter isSpace isNewline sameText ascii digitOf
+unfolding seen
 mixed-digits = (refl, refl, refl, refl, refl)
 
 -- A block comment ends at the first */ behind its /*; one that never ends, or has a byte that isn't ASCII, is none.
 pub comments : sees (ascii "/*/a*/b") (at 6 (ascii "b") ∷ [])
+    × sees (ascii "/*a/b*/c") (at 7 (ascii "c") ∷ [])
     × sees (ascii "a/*/") (at 0 (ascii "a") ∷ broken ∷ [])
     × sees (0x2F ∷ 0x2F ∷ 0xC2 ∷ 0xB5 ∷ []) (broken ∷ [])
     × sees (0x2F ∷ 0x2F ∷ 0x0D ∷ 0x61 ∷ []) (at 3 (ascii "a") ∷ [])
     × sees [] []
-unfolding tokens located fromGap fromToken andThen goesOn tokenBy opening sign signToken based value valueBehind valueToken isUnknown isKnown digitsIn decimalDigits radixOf baseOf unsigned numberToken opensZero word wordToken gap gaps onwards blank comment blockComment closing isSlash lineComment endedBy further either firstOf opensWith signs isKeyword isAmong keywords numeral numeralFrom withDigit every span inClass isDigit isUnderscore isZ isX isBelow isLetter isSpace isNewline sameText ascii digitOf
-comments = (refl, refl, refl, refl, refl)
+unfolding seen
+comments = (refl, refl, refl, refl, refl, refl)
 
 -- `^~` is one sign; what begins no token ends the list.
 pub signs-longest-first : sees (ascii "a^~b") (at 0 (ascii "a") ∷ terminal (ascii "^~") ∷ at 3 (ascii "b") ∷ [])
@@ -63,5 +73,5 @@ pub signs-longest-first : sees (ascii "a^~b") (at 0 (ascii "a") ∷ terminal (as
     × sees (ascii "a#b") (at 0 (ascii "a") ∷ broken ∷ [])
     × sees (ascii "a/b") (at 0 (ascii "a") ∷ broken ∷ [])
     × sees (0x0B ∷ 0x61 ∷ []) (broken ∷ [])
-unfolding tokens located fromGap fromToken andThen goesOn tokenBy opening sign signToken based value valueBehind valueToken isUnknown isKnown digitsIn decimalDigits radixOf baseOf unsigned numberToken opensZero word wordToken gap gaps onwards blank comment blockComment closing isSlash lineComment endedBy further either firstOf opensWith signs isKeyword isAmong keywords numeral numeralFrom withDigit every span inClass isDigit isUnderscore isZ isX isBelow isLetter isSpace isNewline sameText ascii digitOf
+unfolding seen
 signs-longest-first = (refl, refl, refl, refl, refl)
