@@ -4,3 +4,4 @@ pub mod Storing
 pub mod Enough
 pub mod Work
 pub mod Watchdog
+pub mod Samples
