@@ -40,10 +40,11 @@ impl Calls for Library<'_> {
         let run = self.on_saved(state, |saved| super::run_plain(self.sheet, saved, limit));
         let (accepted, number, word) = run;
         let verdict = match (word, number) {
-            (0, _) => Verdict::Quiet,
-            (1, _) => Verdict::Spent,
-            (_, FULL) => Verdict::Full,
-            _ => Verdict::Refused,
+            (0, 0) => Verdict::Quiet,
+            (1, 0) => Verdict::Spent,
+            (2, FULL) => Verdict::Full,
+            (3, 1..=11 | 31) => Verdict::Refused,
+            _ => panic!("word {word} with number {number}"),
         };
         PlainRun { accepted, number, verdict }
     }
