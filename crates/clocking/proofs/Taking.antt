@@ -22,7 +22,7 @@ use Rattle.soundness.specs.Soundness.{Sound, SoundInstr, sound-wait, sound-set,
 use Rattle.events.specs.Cycle.{codeOf}
 use Rattle.events.proofs.Cycle.{absurd-bool, Below, at-end, before, below-suc}
 use Rattle.nextstate.specs.declared.Registers.{Registers}
-use Rattle.nextstate.specs.Rules.{setsAt, defersAt, anyInstr, sets, defers, writes}
+use Rattle.nextstate.specs.Rules.{setsAt, defersAt, anyInstr, plainWrites, defers, writes}
 use Rattle.nextstate.specs.Nodes.{nodeAt}
 use Rattle.nextstate.specs.Extraction.{Tables}
 use Rattle.nextstate.specs.Book.{Book, put, rowOf, entry, worth, taken}
@@ -72,8 +72,8 @@ instr-at f (i ∷ c) h = by (f i) refl h (instr-at f c)
 pub writes-register :
     {m : Module Expr} → Sound m → (i v : ℕ) → i < length (m .threads) → writes m i v ≡ true →
     (m .scope .inputs ≤ v) × (v < m .scope .inputs + m .scope .registers)
-unfolding writes sets defers codeOf
-writes-register {m} z i v l h = by (sets m i v) refl h
+unfolding writes plainWrites defers codeOf
+writes-register {m} z i v l h = by (plainWrites m i v) refl h
   where
     c : List (Instr Expr)
     c = codeOf m i

@@ -13,7 +13,7 @@ use borrow.Author.Tests.{ne-eqb, eqb-true}
 use Rattle.values.specs.Values.{pick}
 use Rattle.masks.specs.Masks.{first, anyMark}
 use Rattle.engine.specs.Live.{Plan, Live}
-use Rattle.engine.specs.Acting.{Taken, taken, take}
+use Rattle.engine.specs.Acting.{Taken, taken, takeChoice}
 use Rattle.engine.proofs.Taking.{take-room}
 use Rattle.engine.specs.Running.{Run, run, onward, runList, busy, plainChoice, runPlain}
 
@@ -49,19 +49,19 @@ module _ (q : Plan) (count : ℕ) (l : Live) (i n : ℕ) (d : Live) where
 
   module _ (cs : List ℕ) where
     list-first : i < length cs → runList q (drop i cs) count l
-        ≡ onward (take q count (getD cs i 0) l)
-        (runList q (drop (i + 1) cs) (count + 1) (take q count (getD cs i 0) l .left))
+        ≡ onward (takeChoice q count (getD cs i 0) l)
+        (runList q (drop (i + 1) cs) (count + 1) (takeChoice q count (getD cs i 0) l .left))
     unfolding runList
     list-first h = rw (drop-cons cs i 0 h, add-one i)
 
-    pub list-on : i < length cs → taken n d ≡ take q count (getD cs i 0) l → n ≡ 0
+    pub list-on : i < length cs → taken n d ≡ takeChoice q count (getD cs i 0) l → n ≡ 0
         → ahead i (runList q (drop i cs) count l) ≡ ahead (i + 1) (runList q (drop (i + 1) cs) (count + 1) d)
     list-on h e z =
         rw (list-first h)
         (onward-on i n d _ _ e z
         ∙ ap (λ (t : Taken). ahead (i + 1) (runList q (drop (i + 1) cs) (count + 1) (t .left))) (sym e))
 
-    pub list-off : i < length cs → taken n d ≡ take q count (getD cs i 0) l → (n ≡ 0 → ⊥)
+    pub list-off : i < length cs → taken n d ≡ takeChoice q count (getD cs i 0) l → (n ≡ 0 → ⊥)
         → ahead i (runList q (drop i cs) count l) ≡ run i n d
     list-off h e z = rw (list-first h) (onward-off i n d _ _ e z)
 
@@ -69,21 +69,21 @@ module _ (q : Plan) (count : ℕ) (l : Live) (i n : ℕ) (d : Live) where
 
   module _ (limit : ℕ) where
     plain-first : i < limit → busy l ≡ true → runPlain q (limit - i) count l
-        ≡ onward (take q count (plainChoice q l) l)
-        (runPlain q (limit - (i + 1)) (count + 1) (take q count (plainChoice q l) l .left))
+        ≡ onward (takeChoice q count (plainChoice q l) l)
+        (runPlain q (limit - (i + 1)) (count + 1) (takeChoice q count (plainChoice q l) l .left))
     unfolding runPlain
     plain-first h b =
         let e : limit - i ≡ suc (limit - (i + 1)) = omega arith in
         rw (e, b)
 
-    pub plain-on : i < limit → busy l ≡ true → taken n d ≡ take q count (plainChoice q l) l → n ≡ 0
+    pub plain-on : i < limit → busy l ≡ true → taken n d ≡ takeChoice q count (plainChoice q l) l → n ≡ 0
         → ahead i (runPlain q (limit - i) count l) ≡ ahead (i + 1) (runPlain q (limit - (i + 1)) (count + 1) d)
     plain-on h b e z =
         rw (plain-first h b)
         (onward-on i n d _ _ e z
         ∙ ap (λ (t : Taken). ahead (i + 1) (runPlain q (limit - (i + 1)) (count + 1) (t .left))) (sym e))
 
-    pub plain-off : i < limit → busy l ≡ true → taken n d ≡ take q count (plainChoice q l) l → (n ≡ 0 → ⊥)
+    pub plain-off : i < limit → busy l ≡ true → taken n d ≡ takeChoice q count (plainChoice q l) l → (n ≡ 0 → ⊥)
         → ahead i (runPlain q (limit - i) count l) ≡ run i n d
     plain-off h b e z = rw (plain-first h b) (onward-off i n d _ _ e z)
 
@@ -143,15 +143,15 @@ module _ (q : Plan) where
   unfolding runList
   list-count [] count l h = omega arith
   list-count (c ∷ cs) count l h =
-      onward-count (take q count c l) _ count (λ e u. take-room q count u c l e) h
-      (λ k. list-count cs (count + 1) (take q count c l .left) k)
+      onward-count (takeChoice q count c l) _ count (λ e u. take-room q count u c l e) h
+      (λ k. list-count cs (count + 1) (takeChoice q count c l .left) k)
 
   pub plain-count : (limit count : ℕ) (l : Live) → count ≤ 4294967295
       → runPlain q limit count l .accepted + count ≤ 4294967295
   unfolding runPlain
   plain-count zero count l h = omega arith
   plain-count (suc n) count l h =
-      let t = take q count (plainChoice q l) l in
+      let t = takeChoice q count (plainChoice q l) l in
       either-count (busy l) (onward t (runPlain q n (count + 1) (t .left))) (run 0 0 l) count
       (onward-count t _ count (λ e u. take-room q count u (plainChoice q l) l e) h
       (λ k. plain-count n (count + 1) (t .left) k))

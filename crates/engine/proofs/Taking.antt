@@ -20,7 +20,7 @@ use Rattle.changes.specs.Scene.{Scene}
 use Rattle.changes.proofs.Firing.{placed-past}
 use Rattle.engine.specs.Live.{Plan, Live, live}
 use Rattle.engine.specs.Acting.{act, settle, commit}
-use Rattle.engine.specs.Acting.{Taken, taken, unless, takeInstr, takeThread, takeWire, takeCommit, take}
+use Rattle.engine.specs.Acting.{Taken, taken, unless, takeInstr, takeThread, takeWire, takeCommit, takeChoice}
 
 -- ---- unless
 
@@ -119,24 +119,24 @@ module _ (q : Plan) (count : ℕ) where
   -- ---- take
 
   module _ (c : ℕ) (l : Live) where
-    pub take-thread : (t : Taken) → c < q .shape .threads → t ≡ takeThread q count c l → t ≡ take q count c l
-    unfolding take
+    pub take-thread : (t : Taken) → c < q .shape .threads → t ≡ takeThread q count c l → t ≡ takeChoice q count c l
+    unfolding takeChoice
     take-thread t h e = rw (lt-ltb c (q .shape .threads) h, e)
 
     module _ (p : q .shape .threads ≤ c) where
       pub take-wire : (t : Taken) → c < q .shape .threads + q .shape .wires
-          → t ≡ takeWire q count (c - q .shape .threads) l → t ≡ take q count c l
-      unfolding take
+          → t ≡ takeWire q count (c - q .shape .threads) l → t ≡ takeChoice q count c l
+      unfolding takeChoice
       take-wire t h e = rw (le-ltb c (q .shape .threads) p, lt-ltb c (q .shape .threads + q .shape .wires) h, e)
 
       module _ (h : q .shape .threads + q .shape .wires ≤ c) where
-        pub take-commit : (t : Taken) → c ≡ 255 → t ≡ takeCommit q count l → t ≡ take q count c l
-        unfolding take
+        pub take-commit : (t : Taken) → c ≡ 255 → t ≡ takeCommit q count l → t ≡ takeChoice q count c l
+        unfolding takeChoice
         take-commit t s e =
             rw (le-ltb c (q .shape .threads) p, le-ltb c (q .shape .threads + q .shape .wires) h, eq-eqb c 255 s, e)
 
-        pub take-none : (c ≡ 255 → ⊥) → taken 22 l ≡ take q count c l
-        unfolding take
+        pub take-none : (c ≡ 255 → ⊥) → taken 22 l ≡ takeChoice q count c l
+        unfolding takeChoice
         take-none s =
             rw (le-ltb c (q .shape .threads) p, le-ltb c (q .shape .threads + q .shape .wires) h, ne-eqb c 255 s)
 
@@ -171,8 +171,8 @@ module _ (q : Plan) (count : ℕ) (full : count ≡ 4294967295) where
       either (anyMark (l .scene .ready) || anyMark (l .scene .due)) _ _ (λ e. omega arith)
       (either (anyMark (l .held)) _ _ (room-unless l _) (λ e. omega arith))
 
-  pub take-room : (c : ℕ) (l : Live) → take q count c l .number ≡ 0 → ⊥
-  unfolding take
+  pub take-room : (c : ℕ) (l : Live) → takeChoice q count c l .number ≡ 0 → ⊥
+  unfolding takeChoice
   take-room c l =
       either (ltb c (q .shape .threads)) _ _ (room-thread c l)
       (either (ltb c (q .shape .threads + q .shape .wires)) _ _ (room-wire (c - q .shape .threads) l)

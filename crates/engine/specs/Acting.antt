@@ -92,7 +92,7 @@ pub record Taken : Type 0 where
 abbrev pub taken : ℕ → Live → Taken
 taken n l = record { number = n; left = l }
 
--- "36 .. count at 4,294,967,295", judged last: then nothing is done.
+-- 36: "count (for a choice) at 4,294,967,295", judged last: then nothing is done.
 unfoldable pub unless : ℕ → Live → Live → Taken
 unless n l done = pick (eqb (spend n) 0) (taken 0 done) (taken (spend n) l)
 
@@ -116,8 +116,8 @@ takeCommit q count l =
     (pick (anyMark (l .held)) (unless count l (commit q l))
     (taken 35 l))
 
-unfoldable pub take : Plan → ℕ → ℕ → Live → Taken
-take q count c l =
+unfoldable pub takeChoice : Plan → ℕ → ℕ → Live → Taken
+takeChoice q count c l =
     pick (ltb c threads) (takeThread q count c l)
     (pick (ltb c (threads + q .shape .wires)) (takeWire q count (c - threads) l)
     (pick (eqb c 255) (takeCommit q count l)

@@ -6,7 +6,7 @@ use lib.Dec.{eqb}
 use Rattle.values.specs.Values.{pick}
 use Rattle.masks.specs.Masks.{first, anyMark}
 use Rattle.engine.specs.Live.{Plan, Live}
-use Rattle.engine.specs.Acting.{Taken, take}
+use Rattle.engine.specs.Acting.{Taken, takeChoice}
 
 -- How many choices were accepted, the number that stopped the run, and what it leaves.
 pub record Run : Type 0 where
@@ -25,7 +25,7 @@ onward t rest = pick (eqb (t .number) 0) (run (rest .accepted + 1) (rest .number
 
 unfoldable pub runList : Plan → List ℕ → ℕ → Live → Run
 runList q [] count l = run 0 0 l
-runList q (c ∷ cs) count l = onward (take q count c l) (runList q cs (count + 1) (take q count c l .left))
+runList q (c ∷ cs) count l = onward (takeChoice q count c l) (runList q cs (count + 1) (takeChoice q count c l .left))
 
 -- ---- the plain run: "takes the lowest enabled item, else the commit"
 
@@ -43,5 +43,5 @@ unfoldable pub runPlain : Plan → ℕ → ℕ → Live → Run
 runPlain q zero count l = run 0 0 l
 runPlain q (suc n) count l =
     pick (busy l)
-    (onward (take q count (plainChoice q l) l) (runPlain q n (count + 1) (take q count (plainChoice q l) l .left)))
+    (onward (takeChoice q count (plainChoice q l) l) (runPlain q n (count + 1) (takeChoice q count (plainChoice q l) l .left)))
     (run 0 0 l)

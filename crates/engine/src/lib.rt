@@ -22,7 +22,7 @@ ghost use Rattle.changes.specs.Scene.{Scene, tables, scene};
 ghost use Rattle.changes.specs.Changes.{after, placed, changing, store};
 ghost use Rattle.engine.specs.Live.{live, planOf, standing};
 ghost use Rattle.engine.specs.Acting.{defer, act, settle, putRegister, putPending, commit, putInputs, feed};
-ghost use Rattle.engine.specs.Acting.{taken, takeThread, takeWire, takeCommit, take};
+ghost use Rattle.engine.specs.Acting.{taken, takeThread, takeWire, takeCommit, takeChoice};
 ghost use Rattle.engine.specs.Running.{run, busy, plainChoice, runList, runPlain};
 
 // The counts of a sheet that was accepted.
@@ -819,7 +819,7 @@ pub fn take(
         taken (r .number)
         (standing (now (value .exit)) (now (unknown .exit)) (now (places .exit)) (now (pending .exit))
         (now (unsure .exit)) (r .marks))
-        ≡ take
+        ≡ takeChoice
         (planOf (now (sheet .entry)) (now (widths .entry)) (now (code .entry)) (now (readers .entry))
         (now (watched .entry)) (now (starts .entry)) shape) count c
         (standing (now (value .entry)) (now (unknown .entry)) (now (places .entry)) (now (pending .entry))

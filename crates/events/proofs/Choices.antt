@@ -219,7 +219,7 @@ module _ (m : Module Expr) (st : State) (c : ℕ) where
   unfolding chooseIn
   chooseIn-refused h = answer-refused (refusal m st c) st (performed m st c) h
 
-  -- "A refusal hands back its number and the state it got."
+  -- "A refusal hands back its number and the state it got".
   pub state-refused : chooseIn m st c .number ≢ 0 → chooseIn m st c .state ≡ st
   state-refused h = ap (λ r. r .state) (chooseIn-refused (λ e. h (number-chooseIn ∙ e)))
 

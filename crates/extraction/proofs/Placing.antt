@@ -50,9 +50,9 @@ module _ {ws s : List ℕ} where
   unfolding instructionOf
   waits ts = a-wait!
 
-  sets : (t p : ℕ) {e : Expr} → ReadAt ws s e p → Fetched ws s (set! t e) (instructionOf (set! t p))
+  assigns : (t p : ℕ) {e : Expr} → ReadAt ws s e p → Fetched ws s (set! t e) (instructionOf (set! t p))
   unfolding instructionOf
-  sets t p x = a-set! x
+  assigns t p x = a-set! x
 
   laters : (t p : ℕ) {e : Expr} → ReadAt ws s e p → Fetched ws s (later! t e) (instructionOf (later! t p))
   unfolding instructionOf
@@ -87,7 +87,7 @@ module _ (c : Scope) (s : List ℕ) where
       → Placed (c .widths) s (translate (b .stmt) n) (translate (mapStmt treeAt (b .stmt)) n)
   unfolding translate mapStmt
   stmt-placed (an-empty l m) n = none
-  stmt-placed (an-assign l m t r e w) n = more (sets _ _ (located-read s (c .widths) _ e)) none
+  stmt-placed (an-assign l m t r e w) n = more (assigns _ _ (located-read s (c .widths) _ e)) none
   stmt-placed (a-later l m t r e w) n = more (laters _ _ (located-read s (c .widths) _ e)) none
   stmt-placed (a-sequence {a = a} l m x y) n =
       rw (size-map treeAt (a .stmt)) (placed-append (stmt-placed x n) (stmt-placed y (n + size (a .stmt))))

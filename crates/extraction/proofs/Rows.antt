@@ -27,7 +27,7 @@ use Rattle.state.specs.Saved.{listOf}
 use Rattle.state.proofs.Rows.{length-listOf}
 use Rattle.events.specs.Cycle as cycle
 use Rattle.events.specs.Cycle.{codeOf, instrAt, isWait}
-use Rattle.nextstate.specs.Rules.{sets, defers, writes, one, waitsBefore, waitsBelow}
+use Rattle.nextstate.specs.Rules.{plainWrites, defers, writes, one, waitsBefore, waitsBelow}
 use Rattle.nextstate.specs.Nodes.{aVariable, nodeWords, allWords, padded}
 use Rattle.nextstate.specs.Walk as the-walk
 use Rattle.nextstate.specs.Walk.{ownRows}
@@ -204,7 +204,7 @@ module _ (s code : List ℕ) (t : Thread) (size : ℕ) where
 -- ---- a thread's walks
 
 module _ (m : Module Expr) (z : Sound m) (s code : List ℕ) (fetched : AllFetched s code m) (plain later : List ℕ)
-    (plain-is : (i r : ℕ) → i < length (m .threads) → getD (bits (getD plain i 0)) r false ≡ sets m i (m .scope .inputs + r))
+    (plain-is : (i r : ℕ) → i < length (m .threads) → getD (bits (getD plain i 0)) r false ≡ plainWrites m i (m .scope .inputs + r))
     (later-is : (i r : ℕ) → i < length (m .threads) → getD (bits (getD later i 0)) r false ≡ defers m i (m .scope .inputs + r)) where
   module _ (i : ℕ) (l : i < length (m .threads)) where
     abbrev size : ℕ

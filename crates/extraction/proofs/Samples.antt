@@ -17,7 +17,7 @@ use Rattle.pseudocode.specs.Fetching.{termFrom, termsFrom, termsAt, decode, fet
 use Rattle.masks.specs.Masks.{bits, digits, odd}
 use Rattle.state.specs.Saved.{listOf}
 use Rattle.events.specs.Cycle.{variables, codeOf, instrAt, isWait}
-use Rattle.nextstate.specs.Rules.{setsAt, defersAt, anyInstr, sets, defers, writes}
+use Rattle.nextstate.specs.Rules.{setsAt, defersAt, anyInstr, plainWrites, defers, writes}
 use Rattle.nextstate.specs.Nodes.{aVariable, aConstant, aUnary, aBranch}
 use Rattle.nextstate.specs.Walk.{emit, express, ownRow, ownRows, heldNode, landed, mergeOne, merge, visit, walk}
 use Rattle.nextstate.specs.Extraction.{variableNodes, walkFrom, walksBelow, threadsBelow}
@@ -43,7 +43,7 @@ pub flip-flop : threadsBelow flipFlop 1
       nodes = aVariable 0 ∷ aVariable 1 ∷ aVariable 2 ∷ aConstant 8 0 ∷ [];
       rows = 1 ∷ (replicate 31 0 ++ (3 ∷ []));
     })
-unfolding flipFlop threadsBelow walksBelow walkFrom walk visit express emit landed ownRow ownRows heldNode isRegister codeOf instrAt threadCode translate size variableNodes variables listOf sets defers anyInstr setsAt defersAt isWait
+unfolding flipFlop threadsBelow walksBelow walkFrom walk visit express emit landed ownRow ownRows heldNode isRegister codeOf instrAt threadCode translate size variableNodes variables listOf plainWrites defers anyInstr setsAt defersAt isWait
 flip-flop = refl
 
 pub flipFlopSheet : List ℕ
@@ -81,5 +81,5 @@ pub branch : threadsBelow branching 1
           aVariable 0 ∷ aVariable 1 ∷ aVariable 2 ∷ aUnary 1 2 ∷ aConstant 8 0 ∷ aConstant 8 0 ∷ aBranch 1 3 2 ∷ aBranch 1 4 5 ∷ [];
       rows = 6 ∷ (replicate 31 0 ++ (7 ∷ []));
     })
-unfolding branching threadsBelow walksBelow walkFrom walk visit express emit merge mergeOne landed ownRow ownRows heldNode isRegister codeOf instrAt threadCode translate size variableNodes variables listOf writes sets defers anyInstr setsAt defersAt isWait
+unfolding branching threadsBelow walksBelow walkFrom walk visit express emit merge mergeOne landed ownRow ownRows heldNode isRegister codeOf instrAt threadCode translate size variableNodes variables listOf writes plainWrites defers anyInstr setsAt defersAt isWait
 branch = refl

@@ -23,7 +23,7 @@ isOperator (aBinary o a b) = true
 isOperator (aConditional c a b) = true
 isOperator (aBranch c a b) = true
 
--- ---- nodeCount: one past the last node with a word that isn't 0. "What isn't filled is set to 0"; node 0, which is variable 0,
+-- ---- nodeCount: one past the last node with a word that isn't 0. "what isn't filled is set to 0"; node 0, which is variable 0,
 -- has no other words and is always there.
 
 -- Are node n's four words 0?

@@ -21,7 +21,7 @@ use Rattle.pseudocode.specs.Translation.{Instr, wait!, set!, later!, go, transl
 use Rattle.soundness.specs.Soundness.{Sound, SoundTarget, SoundInstr, sound-wait, sound-set, sound-later, sound-go, sound-ifnot}
 use Rattle.events.specs.Cycle.{codeOf, instrAt, isWait, wireExpr, wireVariable}
 use Rattle.events.proofs.Cycle.{absurd-bool, or-left, or-right, any-below, none-below, wireExpr-past}
-use Rattle.nextstate.specs.Rules.{setsAt, defersAt, readsAt, anyInstr, sets, defers, writes, threadReads, wireReads, someThread, someWire, someRegister}
+use Rattle.nextstate.specs.Rules.{setsAt, defersAt, readsAt, anyInstr, plainWrites, defers, writes, threadReads, wireReads, someThread, someWire, someRegister}
 use Rattle.nextstate.specs.Rules.{twoWriters, bothWays, readElsewhere, plainlyShared, clockEdge, otherWaitAt, otherWait, startsWaiting, bodyOf, startsRunning}
 use Rattle.nextstate.specs.Rules.{loopsWait, runsAway, clockRead, readsUpward, manyWaits, rule}
 use Rattle.nextstate.specs.Ruled.{Ruled}
@@ -82,8 +82,8 @@ module _ (m : Module Expr) where
       by (yes l) = l
       by (no d) = absurd-bool h (none-past f z i (omega arith))
 
-  pub sets-thread : (i v : ℕ) → sets m i v ≡ true → i < length (m .threads)
-  unfolding sets setsAt
+  pub sets-thread : (i v : ℕ) → plainWrites m i v ≡ true → i < length (m .threads)
+  unfolding plainWrites setsAt
   sets-thread i v h = is-thread (setsAt v) refl i h
 
   pub defers-thread : (i v : ℕ) → defers m i v ≡ true → i < length (m .threads)
@@ -92,7 +92,7 @@ module _ (m : Module Expr) where
 
   pub writes-thread : (i v : ℕ) → writes m i v ≡ true → i < length (m .threads)
   unfolding writes
-  writes-thread i v h = or-either (sets m i v) (defers m i v) h (sets-thread i v) (defers-thread i v)
+  writes-thread i v h = or-either (plainWrites m i v) (defers m i v) h (sets-thread i v) (defers-thread i v)
 
   pub reads-thread : (i v : ℕ) → threadReads m i v ≡ true → i < length (m .threads)
   unfolding threadReads readsAt
@@ -142,8 +142,8 @@ module _ (m : Module Expr) (w : Sound m) where
   unfolding codeOf instrAt
   sound-instr i p l h = w .code i l .instruction p h
 
-  pub sets-register : (i v : ℕ) → sets m i v ≡ true → Register m v
-  unfolding sets
+  pub sets-register : (i v : ℕ) → plainWrites m i v ≡ true → Register m v
+  unfolding plainWrites
   sets-register i v h =
       let s = any-instr (setsAt v) (codeOf m i) h in
       set-register m v (length (codeOf m i)) (s .0) (sound-instr i (s .0) (sets-thread m i v h) (s .1)) (s .2)
@@ -156,7 +156,7 @@ module _ (m : Module Expr) (w : Sound m) where
 
   pub writes-register : (i v : ℕ) → writes m i v ≡ true → Register m v
   unfolding writes
-  writes-register i v h = or-either (sets m i v) (defers m i v) h (sets-register i v) (defers-register i v)
+  writes-register i v h = or-either (plainWrites m i v) (defers m i v) h (sets-register i v) (defers-register i v)
 
   -- A variable that a wire reads is one of the module's.
   pub wire-within : (k v : ℕ) → wireReads m k v ≡ true → v < length (m .scope .widths)
@@ -304,36 +304,36 @@ module _ (m : Module Expr) (w : Sound m) (u : Unbroken m) where
       let d : (not (eqb i j) && (writes m i v && writes m j v)) ≡ true = rw (ne-eqb i j ne, wi, wj) in
       absurd-bool d c
 
-  one-way : (i j v : ℕ) → defers m i v ≡ true → sets m j v ≡ false
+  one-way : (i j v : ℕ) → defers m i v ≡ true → plainWrites m j v ≡ false
   unfolding bothWays
-  one-way i j v di = refuted (sets m j v) λ sj.
-      let a = no-register m (λ v. someThread m (λ i. sets m i v) && someThread m (λ i. defers m i v)) (u .n13) v
+  one-way i j v di = refuted (plainWrites m j v) λ sj.
+      let a = no-register m (λ v. someThread m (λ i. plainWrites m i v) && someThread m (λ i. defers m i v)) (u .n13) v
       (defers-register m w i v di) in
-      let b = some-thread m (λ i. sets m i v) j (sets-thread m j v sj) sj in
+      let b = some-thread m (λ i. plainWrites m i v) j (sets-thread m j v sj) sj in
       let c = some-thread m (λ i. defers m i v) i (defers-thread m i v di) di in
-      let d : (someThread m (λ i. sets m i v) && someThread m (λ i. defers m i v)) ≡ true = rw (b, c) in
+      let d : (someThread m (λ i. plainWrites m i v) && someThread m (λ i. defers m i v)) ≡ true = rw (b, c) in
       absurd-bool d a
 
   -- A register that thread j writes plainly is read elsewhere by none.
-  not-elsewhere : (j v : ℕ) → sets m j v ≡ true → readElsewhere m j v ≡ false
+  not-elsewhere : (j v : ℕ) → plainWrites m j v ≡ true → readElsewhere m j v ≡ false
   unfolding plainlyShared
   not-elsewhere j v sj =
-      let a = no-register m (λ v. someThread m (λ i. sets m i v && readElsewhere m i v)) (u .n14) v (sets-register m w j v sj) in
-      let b = no-thread m (λ i. sets m i v && readElsewhere m i v) a j (sets-thread m j v sj) in
+      let a = no-register m (λ v. someThread m (λ i. plainWrites m i v && readElsewhere m i v)) (u .n14) v (sets-register m w j v sj) in
+      let b = no-thread m (λ i. plainWrites m i v && readElsewhere m i v) a j (sets-thread m j v sj) in
       rw sj at b
 
-  apart : (i j v : ℕ) → i ≢ j → threadReads m i v ≡ true → sets m j v ≡ false
+  apart : (i j v : ℕ) → i ≢ j → threadReads m i v ≡ true → plainWrites m j v ≡ false
   unfolding readElsewhere
-  apart i j v ne ri = refuted (sets m j v) λ sj.
+  apart i j v ne ri = refuted (plainWrites m j v) λ sj.
       let a = or-left (someThread m (λ i. not (eqb j i) && threadReads m i v)) (someWire m (λ k. wireReads m k v))
       (not-elsewhere j v sj) in
       let b = no-thread m (λ i. not (eqb j i) && threadReads m i v) a i (reads-thread m i v ri) in
       let d : (not (eqb j i) && threadReads m i v) ≡ true = rw (ne-eqb j i (λ (e : j ≡ i). ne (rw e)), ri) in
       absurd-bool d b
 
-  apart-wire : (k j v : ℕ) → wireReads m k v ≡ true → sets m j v ≡ false
+  apart-wire : (k j v : ℕ) → wireReads m k v ≡ true → plainWrites m j v ≡ false
   unfolding readElsewhere
-  apart-wire k j v rk = refuted (sets m j v) λ sj.
+  apart-wire k j v rk = refuted (plainWrites m j v) λ sj.
       let a = or-right (someThread m (λ i. not (eqb j i) && threadReads m i v)) (someWire m (λ k. wireReads m k v))
       (not-elsewhere j v sj) in
       absurd-bool rk (no-wire m (λ k. wireReads m k v) a k (reads-wire m k v rk))

@@ -27,7 +27,7 @@ use Rattle.events.specs.Cycle.{variables, codeOf, instrAt, wireExpr, wireVariab
 use Rattle.events.specs.Calls.{widthOf, inputOf}
 use Rattle.events.proofs.Samples.{module-of, posedge-clock, swapping}
 use Rattle.nextstate.specs.declared.Registers.{Registers}
-use Rattle.nextstate.specs.Rules.{setsAt, defersAt, readsAt, anyInstr, sets, defers, writes, threadReads, wireReads, someThread, someWire, someRegister, twoWriters, bothWays, readElsewhere, plainlyShared, isPosedge, clockEdge, otherWaitAt, otherWait, startsWaiting, bodyOf, startsRunning, surelyWaits, loopsWait, runsAway, clockRead, readsUpward, one, waitsBefore, waitsBelow, manyWaits, rule}
+use Rattle.nextstate.specs.Rules.{setsAt, defersAt, readsAt, anyInstr, plainWrites, defers, writes, threadReads, wireReads, someThread, someWire, someRegister, twoWriters, bothWays, readElsewhere, plainlyShared, isPosedge, clockEdge, otherWaitAt, otherWait, startsWaiting, bodyOf, startsRunning, surelyWaits, loopsWait, runsAway, clockRead, readsUpward, one, waitsBefore, waitsBelow, manyWaits, rule}
 use Rattle.nextstate.specs.Nodes.{Node, aVariable, aConstant, anUnknown, aUnary, aBinary, aConditional, aBranch, fourWords, nodeWords, allWords, padded, nodeFrom, nodeAt, nodeWidth, nodeValue, workOut, worked}
 use Rattle.nextstate.specs.Walk.{emit, express, ownRow, ownRows, heldNode, landed, mergeOne, merge, visit, walk}
 use Rattle.nextstate.specs.Extraction.{Tables, variableNodes, walkFrom, walksBelow, threadsBelow, extracted, expressions, filled, rightLengths, extract}
@@ -41,7 +41,7 @@ unfolding read readSheet readHead readWidths readWires readThreads readStmt form
 reading = tt
 
 unfoldable pub judging : Unit {0}
-unfolding rule twoWriters bothWays plainlyShared otherWait startsRunning runsAway clockRead readsUpward manyWaits setsAt defersAt readsAt anyInstr sets defers writes threadReads wireReads someThread someWire someRegister readElsewhere isPosedge clockEdge otherWaitAt startsWaiting bodyOf surelyWaits loopsWait one waitsBefore waitsBelow reads codeOf wireExpr wireVariable anyBelow isWait threadCode translate size
+unfolding rule twoWriters bothWays plainlyShared otherWait startsRunning runsAway clockRead readsUpward manyWaits setsAt defersAt readsAt anyInstr plainWrites defers writes threadReads wireReads someThread someWire someRegister readElsewhere isPosedge clockEdge otherWaitAt startsWaiting bodyOf surelyWaits loopsWait one waitsBefore waitsBelow reads codeOf wireExpr wireVariable anyBelow isWait threadCode translate size
 judging = tt
 
 unfoldable pub walking : Unit {0}

@@ -88,11 +88,11 @@ module _ (m : Module Expr) where
     unfoldable pub tablesFit : Bool
     tablesFit = nodesFit (T .nodes) [] && rowsFit
 
--- The lent words as nodes and rows: all 4,096 nodes. "Rows past the sheet's waits aren't read."
+-- The lent words as nodes and rows: all 4,096 nodes. "rows past the sheet's waits aren't read"
 unfoldable pub tablesIn : List ℕ → List ℕ → Tables
 tablesIn ns rs = record { nodes = listOf 4096 (nodeAt ns); rows = rs }
 
--- ---- 31: "state doesn't fit the sheet (value .. too wide; place outside its thread or, for a cycle run, no wait)"
+-- ---- 31: "state doesn't fit the sheet", of registers and places: "value .. too wide; place outside its thread or, for a cycle run, no wait"
 
 module _ (m : Module Expr) where
   unfoldable pub registersFit : Registers → Bool

@@ -38,7 +38,7 @@ unfoldable pub allWords : List Node → List ℕ
 allWords [] = []
 allWords (n ∷ ns) = nodeWords n ++ allWords ns
 
--- "What isn't filled is set to 0."
+-- "what isn't filled is set to 0"
 unfoldable pub padded : ℕ → List ℕ → List ℕ
 padded n l = l ++ replicate (n - length l) 0
 

@@ -12,16 +12,16 @@ use Rattle.sheet.specs.Statement.{forever}
 use Rattle.sheet.specs.Module.{Module}
 use Rattle.pseudocode.specs.Translation.{wait! }
 use Rattle.events.specs.Cycle.{codeOf, instrAt, isWait}
-use Rattle.nextstate.specs.Rules.{sets, defers, writes, threadReads, wireReads, clockEdge, bodyOf, loopsWait}
+use Rattle.nextstate.specs.Rules.{plainWrites, defers, writes, threadReads, wireReads, clockEdge, bodyOf, loopsWait}
 
 pub record Ruled (m : Module Expr) : Type 0 where
   -- 12
   pub one-writer : (i j v : ℕ) → i ≢ j → writes m i v ≡ true → writes m j v ≡ false
   -- 13
-  pub one-way : (i j v : ℕ) → defers m i v ≡ true → sets m j v ≡ false
+  pub one-way : (i j v : ℕ) → defers m i v ≡ true → plainWrites m j v ≡ false
   -- 14
-  pub apart : (i j v : ℕ) → i ≢ j → threadReads m i v ≡ true → sets m j v ≡ false
-  pub apart-wire : (k j v : ℕ) → wireReads m k v ≡ true → sets m j v ≡ false
+  pub apart : (i j v : ℕ) → i ≢ j → threadReads m i v ≡ true → plainWrites m j v ≡ false
+  pub apart-wire : (k j v : ℕ) → wireReads m k v ≡ true → plainWrites m j v ≡ false
   -- 15
   pub waits : (i p : ℕ) {ts : List EdgeTerm} → instrAt (codeOf m i) p ≡ wait! ts → clockEdge ts ≡ true
   -- 16

@@ -50,14 +50,14 @@ anyInstr f [] = false
 anyInstr f (i ∷ c) = f i || anyInstr f c
 
 module _ (m : Module Expr) where
-  unfoldable pub sets : ℕ → ℕ → Bool
-  sets i v = anyInstr (setsAt v) (codeOf m i)
+  unfoldable pub plainWrites : ℕ → ℕ → Bool
+  plainWrites i v = anyInstr (setsAt v) (codeOf m i)
 
   unfoldable pub defers : ℕ → ℕ → Bool
   defers i v = anyInstr (defersAt v) (codeOf m i)
 
   unfoldable pub writes : ℕ → ℕ → Bool
-  writes i v = sets i v || defers i v
+  writes i v = plainWrites i v || defers i v
 
   unfoldable pub threadReads : ℕ → ℕ → Bool
   threadReads i v = anyInstr (readsAt v) (codeOf m i)
@@ -85,7 +85,7 @@ module _ (m : Module Expr) where
   -- ---- "13 one written both ways."
 
   unfoldable pub bothWays : Bool
-  bothWays = someRegister (λ v. someThread (λ i. sets i v) && someThread (λ i. defers i v))
+  bothWays = someRegister (λ v. someThread (λ i. plainWrites i v) && someThread (λ i. defers i v))
 
   -- ---- "14 a register written by plain assignment and read by another thread or a wire."
 
@@ -93,7 +93,7 @@ module _ (m : Module Expr) where
   readElsewhere i v = someThread (λ j. not (eqb i j) && threadReads j v) || someWire (λ k. wireReads k v)
 
   unfoldable pub plainlyShared : Bool
-  plainlyShared = someRegister (λ v. someThread (λ i. sets i v && readElsewhere i v))
+  plainlyShared = someRegister (λ v. someThread (λ i. plainWrites i v && readElsewhere i v))
 
 -- ---- "15 a wait other than the single posedge of input 0."
 
@@ -163,7 +163,7 @@ loopsWait (while e a) = surelyWaits a && loopsWait a
 loopsWait (forever a) = surelyWaits a && loopsWait a
 loopsWait (wait ts) = true
 
--- "A thread is a forever of its statement."
+-- "A thread is a forever of its statement".
 unfoldable pub runsAway : Module Expr → Bool
 runsAway m = someThread m (λ i. not (loopsWait (forever (bodyOf m i))))
 

@@ -22,7 +22,7 @@ use Rattle.events.specs.Cycle.{variables, codeOf}
 use Rattle.events.specs.Calls.{widthOf, pendingFits, inputOf, inputsFit}
 use Rattle.events.specs.Steps.{latest}
 use Rattle.events.proofs.Fits.{fits-inputs, latest-fits}
-use Rattle.nextstate.specs.Rules.{sets, writes}
+use Rattle.nextstate.specs.Rules.{plainWrites, writes}
 use Rattle.nextstate.specs.Extraction.{Tables, extracted}
 use Rattle.nextstate.specs.Book.{Book, settled, fed, rise, opening, turned, turnedAll, book}
 use Rattle.nextstate.specs.Ruled.{Ruled}
@@ -69,7 +69,7 @@ module _ (m : Module Expr) (w : Sound m) (u : Ruled m) where
   after-fits : (i : ℕ) (f : ℕ → Value) (L : Local) (v : ℕ) → Fitting (m .scope) f → LocalFits m L → writes m i v ≡ true →
       fits (widthOf m v) (valueAfter m i f L v) ≡ true
   unfolding valueAfter widthOf
-  after-fits i f L v h k o = by (sets m i v) (writes-register m w i v o)
+  after-fits i f L v h k o = by (plainWrites m i v) (writes-register m w i v o)
     where
       by : (t : Bool) → (r : ℕ) × (r < m .scope .registers) × (m .scope .inputs + r ≡ v) →
           fits (getD (m .scope .widths) v 0) (pick t (L .values v) (latest (L .pending (v - m .scope .inputs)) (f v))) ≡ true

@@ -20,7 +20,7 @@ use Rattle.soundness.specs.Soundness.{Sound}
 use Rattle.events.specs.Cycle.{variables, codeOf, instrAt, current, isWait}
 use Rattle.events.specs.Steps.{latest}
 use Rattle.events.proofs.Cycle.{absurd-bool, or-left, or-right, Below, at-end, before, below-suc}
-use Rattle.nextstate.specs.Rules.{sets, defers, writes}
+use Rattle.nextstate.specs.Rules.{plainWrites, defers, writes}
 use Rattle.nextstate.specs.Book.{Book, settle}
 use Rattle.nextstate.specs.Ruled.{Ruled}
 use Rattle.threads.specs.Alone.{Local, alone, begin, endOf, valueAfter, takenAlone, placeAlone, riseAlone}
@@ -54,13 +54,13 @@ writer? m b (suc n) v = by (writes m n v) refl (writer? m b n v)
     by false e (nobody h q) = nobody (λ i l. none-more h e i (below-suc n i l)) (rw e q)
 
 module _ (m : Module Expr) (i v : ℕ) where
-  pub writes-sets : writes m i v ≡ false → sets m i v ≡ false
+  pub writes-sets : writes m i v ≡ false → plainWrites m i v ≡ false
   unfolding writes
-  writes-sets h = or-left (sets m i v) (defers m i v) h
+  writes-sets h = or-left (plainWrites m i v) (defers m i v) h
 
   pub writes-defers : writes m i v ≡ false → defers m i v ≡ false
   unfolding writes
-  writes-defers h = or-right (sets m i v) (defers m i v) h
+  writes-defers h = or-right (plainWrites m i v) (defers m i v) h
 
 -- What no thread of the sheet writes, no thread does.
 unwritten :
@@ -102,7 +102,7 @@ module _ (m : Module Expr) (w : Sound m) (u : Ruled m) (b : Book) (st : State) (
 
   -- ---- a variable, a register that no thread writes
 
-  untouched : (v : ℕ) → ((j : ℕ) → sets m j v ≡ false) → valueOf st v ≡ f v
+  untouched : (v : ℕ) → ((j : ℕ) → plainWrites m j v ≡ false) → valueOf st v ≡ f v
   unfolding begin
   untouched v h =
       B .view 0 (w .threads-some) .values v (λ j d. h j) ∙ alone-keeps m 0 (B .steps 0) (begin m 0 f (p 0)) v (h 0)
@@ -134,7 +134,7 @@ module _ (m : Module Expr) (w : Sound m) (u : Ruled m) (b : Book) (st : State) (
         latest (pendingOf st r) (valueOf st (m .scope .inputs + r))
         ≡ valueAfter m i f (endOf m i f (p i)) (m .scope .inputs + r)
     unfolding begin valueAfter latest
-    written r i lr l h = rw (end-reached i l, z) (by (sets m i v) refl)
+    written r i lr l h = rw (end-reached i l, z) (by (plainWrites m i v) refl)
       where
         v : ℕ
         v = m .scope .inputs + r
@@ -151,11 +151,11 @@ module _ (m : Module Expr) (w : Sound m) (u : Ruled m) (b : Book) (st : State) (
         slot : pendingOf st r ≡ reached i .pending r
         slot = B .view i l .pending r lr (λ j d. writes-defers m j v (others j d))
 
-        not-deferred : sets m i v ≡ true → (t : Bool) → defers m i v ≡ t → t ≡ false
+        not-deferred : plainWrites m i v ≡ true → (t : Bool) → defers m i v ≡ t → t ≡ false
         not-deferred s true e = absurd-bool s (u .one-way i i v e)
         not-deferred s false e = refl
 
-        by : (t : Bool) → sets m i v ≡ t →
+        by : (t : Bool) → plainWrites m i v ≡ t →
             latest (pendingOf st r) (valueOf st v) ≡ pick t (reached i .values v) (latest (reached i .pending r) (f v))
         by true e =
             let k = alone-keeps-pending m w i (B .steps i) (begin m i f (p i)) r (not-deferred e (defers m i v) refl) in

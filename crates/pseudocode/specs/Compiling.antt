@@ -16,7 +16,7 @@ pub record Compiled : Type 0 where
 abbrev pub compiled : ℕ → List ℕ → List ℕ → Compiled
 compiled next sizes code = record { next = next; sizes = sizes; code = code }
 
--- ---- compileThread: "A thread is a forever of its statement"; a statement has "depth at most 64"
+-- ---- compileThread: "A thread is a forever of its statement"; of a statement, "Depth at most 64"
 
 unfoldable pub compileThread : List ℕ → ℕ → Compiled → Compiled
 compileThread s thread c =
@@ -31,7 +31,7 @@ compileFrom s (suc n) thread c = compileFrom s n (thread + 1) (compileThread s t
 
 -- ---- compileAt: all threads, the first one's statement at `body`. A thread past the last has size 0.
 
--- "Threads (1 to 8)".
+-- "threads (1 to 8)"
 unfoldable pub threadCount : ℕ → ℕ
 threadCount threads = pick (ltb threads 8) threads 8
 

@@ -14,7 +14,7 @@ use Rattle.pseudocode.specs.declared.Instruction.the-variants.{Wait, Act
 use Rattle.pseudocode.specs.Instruction.{noTerm}
 use Rattle.pseudocode.specs.Filling.{cell, waitKind, setKind, laterKind, goKind}
 
--- ---- the terms of a wait: "a count and so many pairs of edge and variable"
+-- ---- the terms of a wait: "a count (1 to 8) and so many pairs of edge (0 any change, 1 posedge, 2 negedge) and variable"
 
 -- Term k of the wait whose count stands at `at`.
 unfoldable pub termFrom : List ℕ → ℕ → ℕ → ℕ → EdgeTerm

@@ -38,7 +38,7 @@ cell thread n = 512 * thread + 2 * n
 unfoldable pub firstWord : ℕ → ℕ → ℕ
 firstWord kind at = kind % 8 + 8 * (at % 8192)
 
--- The second word is the target or the goal. "Threads (1 to 8)", "at most 256 instructions": outside nothing is stored.
+-- The second word is the target or the goal. "threads (1 to 8)", "at most 256 instructions": outside nothing is stored.
 unfoldable pub store : ℕ → ℕ → ℕ → ℕ → ℕ → List ℕ → List ℕ
 store thread n kind at goal code =
     pick (ltb thread 8)

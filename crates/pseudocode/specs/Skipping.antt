@@ -21,7 +21,7 @@ skipNode operand p (ok aConditional) = operand (operand (operand (p + 2)))
 skipNode operand p (no n q) = p
 
 -- ---- skipAt: the place after the expression at p, with so many levels left.
--- A sheet has "at most 8,192 bytes": past them nothing is skipped.
+-- "At most 8,192 bytes": past them nothing is skipped.
 
 unfoldable pub skipAt : ℕ → List ℕ → ℕ → ℕ
 skipAt zero s p = p

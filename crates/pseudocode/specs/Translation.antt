@@ -28,7 +28,7 @@ translate (while e a) n = ifnot e (n + size a + 2) ∷ (translate a (n + 1) ++ (
 translate (forever a) n = translate a n ++ (go n ∷ [])
 translate (wait ts) n = wait! ts ∷ []
 
--- "A thread is a forever of its statement."
+-- "A thread is a forever of its statement".
 unfoldable pub threadCode : {E : Type 0} → Stmt E → List (Instr E)
 threadCode a = translate (forever a) 0
 

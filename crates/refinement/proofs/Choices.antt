@@ -31,7 +31,7 @@ use Rattle.events.proofs.Runs.{plain-lowest, plain-commit}
 use Rattle.changes.specs.Changes.{waiting}
 use Rattle.engine.specs.Live.{Plan, Live}
 use Rattle.engine.specs.Acting.{inScene, act, settle, commit, feed}
-use Rattle.engine.specs.Acting.{Taken, taken, unless, takeInstr, takeThread, takeWire, takeCommit, take}
+use Rattle.engine.specs.Acting.{Taken, taken, unless, takeInstr, takeThread, takeWire, takeCommit, takeChoice}
 use Rattle.engine.specs.Running.{busy, plainChoice}
 use Rattle.refinement.specs.Refinement.{readyIn, sceneOf, liveOf, takenOf, PlanOf}
 use Rattle.refinement.proofs.Kept.{Kept, flag-none, pending-flag, kept-counted, kept-timed}
@@ -278,8 +278,8 @@ module _ {s : List ℕ} {m : Module Expr} {q : Plan} (w : PlanOf s m q) (st : St
   refused = refl
 
   -- A choice has the number that it has in the simulation cycle, and leaves the state that it leaves there.
-  pub take-live : (c : ℕ) → take q (st .count) c (liveOf m st) ≡ takenOf m (chooseIn m st c)
-  unfolding take chooseIn refusal performed items enabled
+  pub take-live : (c : ℕ) → takeChoice q (st .count) c (liveOf m st) ≡ takenOf m (chooseIn m st c)
+  unfolding takeChoice chooseIn refusal performed items enabled
   take-live c =
       ap (λ (n : ℕ). tests n (q .shape .wires)) (w .threads)
       ∙ ap (tests (length (m .threads))) (w .wires)

@@ -22,7 +22,7 @@ use Rattle.events.specs.Calls as calls
 use Rattle.events.proofs.Choices.{number-chooseIn, chooseIn-accepted, state-refused, count-performed, shaped-chooseIn}
 use Rattle.events.proofs.Fits.{Fits, fits-chooseIn}
 use Rattle.engine.specs.Live.{Plan, Live}
-use Rattle.engine.specs.Acting.{Taken, take}
+use Rattle.engine.specs.Acting.{Taken, takeChoice}
 use Rattle.engine.specs.Running.{Run, run, onward, runList, busy, plainChoice, runPlain}
 use Rattle.refinement.specs.Refinement.{liveOf, takenOf, runOf, restedOf, PlanOf}
 use Rattle.refinement.proofs.Kept.{Kept, fits-kept}
@@ -90,8 +90,8 @@ module _ {s : List ℕ} {m : Module Expr} {q : Plan} (w : PlanOf s m q) where
       (chooseIn m st (calls.plainChoice m st) .number ≡ 0 →
       rest (st .count + 1) (liveOf m (chooseIn m st (calls.plainChoice m st) .state)) ≡ restedOf m b) →
       pick (busy (liveOf m st))
-      (onward (take q (st .count) (plainChoice q (liveOf m st)) (liveOf m st))
-      (rest (st .count + 1) (take q (st .count) (plainChoice q (liveOf m st)) (liveOf m st) .left)))
+      (onward (takeChoice q (st .count) (plainChoice q (liveOf m st)) (liveOf m st))
+      (rest (st .count + 1) (takeChoice q (st .count) (plainChoice q (liveOf m st)) (liveOf m st) .left)))
       (run 0 0 (liveOf m st))
       ≡ restedOf m
       (pick (quiet m st) (record { accepted = 0; verdict = Quiet; state = st })
@@ -99,7 +99,7 @@ module _ {s : List ℕ} {m : Module Expr} {q : Plan} (w : PlanOf s m q) where
   unfolding numberOfVerdict
   plain-step st k rest b h =
       ap (λ (t : Taken). pick (busy (liveOf m st)) (onward t (rest (st .count + 1) (t .left))) (run 0 0 (liveOf m st)))
-      (ap (λ (c : ℕ). take q (st .count) c (liveOf m st)) (plain-live w st k) ∙ take-live w st k c)
+      (ap (λ (c : ℕ). takeChoice q (st .count) c (liveOf m st)) (plain-live w st k) ∙ take-live w st k c)
       ∙ ap (λ (t : Bool). pick t (onward (takenOf m r) (rest (st .count + 1) (liveOf m (r .state)))) (run 0 0 (liveOf m st)))
       (busy-live w st k)
       ∙ by (quiet m st)

@@ -26,7 +26,7 @@ use Rattle.soundness.specs.Soundness.{Sound}
 use Rattle.soundness.proofs.Soundness.{sound}
 use Rattle.events.specs.Cycle.{anyBelow, codeOf, isWait, wireExpr, wireVariable}
 use Rattle.events.proofs.Cycle.{any-same}
-use Rattle.nextstate.specs.Rules.{sets, defers, writes, threadReads, wireReads, someThread, someWire, someRegister, readElsewhere, clockEdge, otherWaitAt, anyInstr}
+use Rattle.nextstate.specs.Rules.{plainWrites, defers, writes, threadReads, wireReads, someThread, someWire, someRegister, readElsewhere, clockEdge, otherWaitAt, anyInstr}
 use Rattle.nextstate.specs.Rules.{loopsWait, bodyOf, one, waitsBefore, waitsBelow}
 use Rattle.nextstate.specs.Rules.{twoWriters, bothWays, plainlyShared, otherWait, startsRunning, runsAway, clockRead, readsUpward, manyWaits, rule}
 use Rattle.tables.specs.Readers.{atMost, readersBelow}
@@ -124,7 +124,7 @@ module _ {s : List ℕ} {m : Module Expr} {starts sizes code readers : List ℕ}
   pub low : (i : ℕ) → i < threads → i < 8
   low i l = omega (arith, z .threads-most)
 
-  pub marks-plain : (i r : ℕ) → i < threads → marked ps i r ≡ sets m i (inputs + r)
+  pub marks-plain : (i r : ℕ) → i < threads → marked ps i r ≡ plainWrites m i (inputs + r)
   marks-plain i r l = marked-at ps i r (low i l) ∙ plain-law z h (replicate 8 0) refl i r l
 
   pub marks-later : (i r : ℕ) → i < threads → marked ls i r ≡ defers m i (inputs + r)
@@ -159,9 +159,9 @@ module _ {s : List ℕ} {m : Module Expr} {starts sizes code readers : List ℕ}
 
   -- ---- 13
 
-  pub by-plain : (r : ℕ) → writtenBy ps threads r ≡ someThread m (λ i. sets m i (inputs + r))
+  pub by-plain : (r : ℕ) → writtenBy ps threads r ≡ someThread m (λ i. plainWrites m i (inputs + r))
   unfolding writtenBy someThread
-  by-plain r = any-same (λ i. marked ps i r) (λ i. sets m i (inputs + r)) threads (λ i l. marks-plain i r l)
+  by-plain r = any-same (λ i. marked ps i r) (λ i. plainWrites m i (inputs + r)) threads (λ i l. marks-plain i r l)
 
   pub by-later : (r : ℕ) → writtenBy ls threads r ≡ someThread m (λ i. defers m i (inputs + r))
   unfolding writtenBy someThread
@@ -171,7 +171,7 @@ module _ {s : List ℕ} {m : Module Expr} {starts sizes code readers : List ℕ}
   unfolding bothWaysAt writtenBoth bothWays someRegister
   both-law =
       any-same (writtenBoth ps ls threads)
-      (λ r. someThread m (λ i. sets m i (inputs + r)) && someThread m (λ i. defers m i (inputs + r))) registers
+      (λ r. someThread m (λ i. plainWrites m i (inputs + r)) && someThread m (λ i. defers m i (inputs + r))) registers
       (λ r k. λ j. (by-plain r j && by-later r j))
 
   -- ---- 14
@@ -209,9 +209,9 @@ module _ {s : List ℕ} {m : Module Expr} {starts sizes code readers : List ℕ}
   unfolding plainlySharedAt sharedAt sharedBy plainlyShared someRegister someThread
   shared-law =
       any-same (λ r. sharedAt ps reading readers threads r (inputs + r))
-      (λ r. anyBelow threads (λ i. sets m i (inputs + r) && readElsewhere m i (inputs + r))) registers
+      (λ r. anyBelow threads (λ i. plainWrites m i (inputs + r) && readElsewhere m i (inputs + r))) registers
       (λ r k. any-same (sharedBy ps reading readers r (inputs + r))
-      (λ i. sets m i (inputs + r) && readElsewhere m i (inputs + r)) threads
+      (λ i. plainWrites m i (inputs + r) && readElsewhere m i (inputs + r)) threads
       (λ i l. λ j. (marks-plain i r l j && elsewhere i (inputs + r) (omega (arith, z .inputs-most, z .registers-most)) j)))
 
   -- ---- 15

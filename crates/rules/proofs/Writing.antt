@@ -21,7 +21,7 @@ use Rattle.masks.proofs.Masks.{bits-zero, bits-mask, mask-bits, getD-bits-past}
 use Rattle.soundness.specs.Soundness.{Sound, SoundInstr, sound-wait, sound-set, sound-later, sound-go, sound-ifnot}
 use Rattle.events.specs.Cycle.{anyBelow, codeOf}
 use Rattle.events.proofs.Cycle.{any-same, below-none}
-use Rattle.nextstate.specs.Rules.{setsAt, defersAt, anyInstr, sets, defers}
+use Rattle.nextstate.specs.Rules.{setsAt, defersAt, anyInstr, plainWrites, defers}
 use Rattle.tables.specs.Readers.{atMost}
 use Rattle.tables.specs.Holding.{Holding, Fetched, a-wait, a-set, a-later, a-go, an-ifnot}
 use Rattle.tables.proofs.Readers.{atMost-same}
@@ -157,8 +157,8 @@ module _ {m : Module Expr} (z : Sound m) (i r : ℕ) (l : i < length (m .threads
   abbrev v : ℕ
   v = m .scope .inputs + r
 
-  pub sets-past : sets m i (m .scope .inputs + r) ≡ false
-  unfolding sets codeOf
+  pub sets-past : plainWrites m i (m .scope .inputs + r) ≡ false
+  unfolding plainWrites codeOf
   sets-past =
       any-instr (setsAt v) (codeOf m i)
       ∙ below-none (λ p. setsAt v (getD (codeOf m i) p (go 0))) (length (codeOf m i)) (λ p h. set-past m r past (z .code i l .instruction p h))
@@ -235,10 +235,10 @@ module _ {s : List ℕ} {m : Module Expr} {starts sizes code readers : List ℕ}
 
     pub plain-law : (i r : ℕ) → i < length (m .threads) →
         getD (bits (getD (plainBelow s code sizes (m .scope .inputs) (length (m .threads)) ms) i 0)) r false
-        ≡ sets m i (m .scope .inputs + r)
-    unfolding sets
+        ≡ plainWrites m i (m .scope .inputs + r)
+    unfolding plainWrites
     plain-law i r l =
-        every (setRegister inputs) (λ r. sets m i (inputs + r)) i r
+        every (setRegister inputs) (λ r. plainWrites m i (inputs + r)) i r
         (λ k. mark-at (setRegister inputs) s code sizes count i r ms l (omega (arith, z .threads-most)) k
         ∙ any-fetched i l (λ y. eqb (setRegister inputs y) r) (setsAt (inputs + r)) (λ x y q. set-fetched inputs r k q))
         (λ p. sets-past z i r l p)

@@ -56,14 +56,14 @@ unfoldable pub walkAt : ℕ → List ℕ → ℕ → Waiting
 walkAt zero s p = running p
 walkAt (suc d) s p = pick (ltb p 8192) (walkForm (walkAt d s) s p (formOf (getD s p 0) p)) (running p)
 
--- ---- n threads, one after the other, the first at p. "Depth at most 64."
+-- ---- n threads, one after the other, the first at p. "Depth at most 64".
 
--- "16 a thread that doesn't start with a wait."
+-- 16: "a thread that doesn't start with a wait"
 unfoldable pub startsRunningFrom : List ℕ → ℕ → ℕ → Bool
 startsRunningFrom s zero p = false
 startsRunningFrom s (suc n) p = let w = walkAt 64 s p in not (w .starts) || startsRunningFrom s n (w .next)
 
--- "17 a loop or thread body that doesn't surely wait."
+-- 17: "a loop or thread body that doesn't surely wait"
 unfoldable pub runsAwayFrom : List ℕ → ℕ → ℕ → Bool
 runsAwayFrom s zero p = false
 runsAwayFrom s (suc n) p = let w = walkAt 64 s p in not (w .surely && w .loops) || runsAwayFrom s n (w .next)

@@ -9,7 +9,7 @@ use lib.Dec.{eqb}
 use borrow.Author.Tests.{eq-eqb, ne-eqb}
 use Rattle.values.specs.Values.{pick}
 use Rattle.engine.specs.Live.{Plan, Live}
-use Rattle.engine.specs.Acting.{Taken, taken, take}
+use Rattle.engine.specs.Acting.{Taken, taken, takeChoice}
 use Rattle.engine.specs.Running.{Run, run, onward, runList, busy, plainChoice, runPlain}
 use Rattle.engine.proofs.Taking.{take-room}
 
@@ -18,7 +18,7 @@ abbrev pub most : ℕ
 most = 4294967295
 
 module _ (q : Plan) where
-  pub choice-room : (count c n : ℕ) (l u : Live) → count ≤ most → taken n u ≡ take q count c l → n ≡ 0 → count < most
+  pub choice-room : (count c n : ℕ) (l u : Live) → count ≤ most → taken n u ≡ takeChoice q count c l → n ≡ 0 → count < most
   choice-room count c n l u h e z = by (ℕ-discrete count most)
     where
       by : Dec (count ≡ most) → count < most
@@ -27,12 +27,12 @@ module _ (q : Plan) where
 
   onward-room :
       (count c : ℕ) (l : Live) (r : Run) → count ≤ most → (count < most → count + 1 + r .accepted ≤ most) →
-      count + onward (take q count c l) r .accepted ≤ most
+      count + onward (takeChoice q count c l) r .accepted ≤ most
   unfolding onward
   onward-room count c l r h k = by (ℕ-discrete (t .number) 0)
     where
       t : Taken
-      t = take q count c l
+      t = takeChoice q count c l
 
       by : Dec (t .number ≡ 0) →
           count + (pick (eqb (t .number) 0) (run (r .accepted + 1) (r .number) (r .left)) (run 0 (t .number) (t .left))) .accepted ≤ most
@@ -45,24 +45,24 @@ module _ (q : Plan) where
   unfolding runList
   runList-room [] count l h = omega arith
   runList-room (c ∷ cs) count l h =
-      onward-room count c l (runList q cs (count + 1) (take q count c l .left)) h
-      (λ k. runList-room cs (count + 1) (take q count c l .left) (omega arith))
+      onward-room count c l (runList q cs (count + 1) (takeChoice q count c l .left)) h
+      (λ k. runList-room cs (count + 1) (takeChoice q count c l .left) (omega arith))
 
   runPlain-room : (n count : ℕ) (l : Live) → count ≤ most → count + runPlain q n count l .accepted ≤ most
   unfolding runPlain
   runPlain-room zero count l h = omega arith
   runPlain-room (suc n) count l h =
       by (busy l)
-      (onward-room count c l rest h (λ k. runPlain-room n (count + 1) (take q count c l .left) (omega arith)))
+      (onward-room count c l rest h (λ k. runPlain-room n (count + 1) (takeChoice q count c l .left) (omega arith)))
     where
       c : ℕ
       c = plainChoice q l
 
       rest : Run
-      rest = runPlain q n (count + 1) (take q count c l .left)
+      rest = runPlain q n (count + 1) (takeChoice q count c l .left)
 
-      by : (t : Bool) → count + onward (take q count c l) rest .accepted ≤ most →
-          count + (pick t (onward (take q count c l) rest) (run 0 0 l)) .accepted ≤ most
+      by : (t : Bool) → count + onward (takeChoice q count c l) rest .accepted ≤ most →
+          count + (pick t (onward (takeChoice q count c l) rest) (run 0 0 l)) .accepted ≤ most
       by true h = h
       by false h = omega arith
 

@@ -98,7 +98,7 @@ head-sound s e₀ =
 
 -- ---- readWires
 
--- "A wire has its expression's width." The first of these wires is variable v.
+-- "A target or wire has its expression's width." The first of these wires is variable v.
 abbrev pub WiresSound : Scope → ℕ → List Expr → Type 0
 WiresSound c v es = (k : ℕ) → k < length es → SoundExpr c (getD (c .widths) (v + k) 0) (getD es k (unknown 1))
 

@@ -29,7 +29,7 @@ pub record SoundExpr (c : Scope) (w : ℕ) (e : Expr) : Type 0 where
 
 -- ---- instructions at place p of a code of n
 
--- "A target has its expression's width", and is a register.
+-- "A target or wire has its expression's width", and a target is a register.
 pub record SoundTarget (c : Scope) (t : ℕ) (e : Expr) : Type 0 where
   pub not-input : c .inputs ≤ t
   pub register : t < c .inputs + c .registers

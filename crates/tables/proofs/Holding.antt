@@ -69,7 +69,7 @@ module _ (c : Scope) (s : List ℕ) where
       by p ps x y zero l = x
       by p ps x y (suc j) l = y j (le-of-suc-le-suc l)
 
--- "Inputs (1 to 16), registers (1 to 32), wires (0 to 32)": 80 variables at most.
+-- "inputs (1 to 16), registers (1 to 32), wires (0 to 32)": 80 variables at most.
 head-widths : (s : List ℕ) (h : Head) → Headed s h → length (h .scope .widths) ≤ 80
 head-widths s h x =
     let n = h .scope .inputs + h .scope .registers + h .wires in

@@ -45,7 +45,7 @@ Names ws ts = (k : ℕ) (other : EdgeTerm) → k < length ts → getD ts k other
 
 pub data Placed (ws s : List ℕ) : Instr ℕ → Instr Expr → Type 0 where
   waits : {ts : List EdgeTerm} → length ts ≤ 8 → Names ws ts → Placed ws s (wait! ts) (wait! ts)
-  sets : {t p : ℕ} {e : Expr} → Stands s ws e p → Placed ws s (set! t p) (set! t e)
+  assigns : {t p : ℕ} {e : Expr} → Stands s ws e p → Placed ws s (set! t p) (set! t e)
   laters : {t p : ℕ} {e : Expr} → Stands s ws e p → Placed ws s (later! t p) (later! t e)
   goes : {g : ℕ} → Placed ws s (go g) (go g)
   ifnots : {g p : ℕ} {e : Expr} → Stands s ws e p → Placed ws s (ifnot p g) (ifnot e g)
@@ -59,7 +59,7 @@ module _ {ws s : List ℕ} where
   pub placed-fetched : {i : Instr ℕ} {j : Instr Expr} → Placed ws s i j → Fetched s ws j (instructionOf i)
   unfolding instructionOf
   placed-fetched (waits h n) = a-wait h
-  placed-fetched (sets x) = a-set x
+  placed-fetched (assigns x) = a-set x
   placed-fetched (laters x) = a-later x
   placed-fetched goes = a-go
   placed-fetched (ifnots x) = an-ifnot x
@@ -68,7 +68,7 @@ module _ {ws s : List ℕ} where
   pub placed-wait : {i : Instr ℕ} {j : Instr Expr} {ts : List EdgeTerm} → Placed ws s i j → j ≡ wait! ts
       → (i ≡ wait! ts) × (length ts ≤ 8) × Names ws ts
   placed-wait {ts = ts} (waits {ts = us} h n) e = let q : us ≡ ts = cc in rw (← q) (refl, h, n)
-  placed-wait (sets x) e = let z : _≡_ {A = ℕ} 0 1 = cc in absurd (omega arith)
+  placed-wait (assigns x) e = let z : _≡_ {A = ℕ} 0 1 = cc in absurd (omega arith)
   placed-wait (laters x) e = let z : _≡_ {A = ℕ} 0 1 = cc in absurd (omega arith)
   placed-wait goes e = let z : _≡_ {A = ℕ} 0 1 = cc in absurd (omega arith)
   placed-wait (ifnots x) e = let z : _≡_ {A = ℕ} 0 1 = cc in absurd (omega arith)
@@ -101,7 +101,7 @@ module _ (c : Scope) (s : List ℕ) where
       → PlacedAll (c .widths) s (translate (b .stmt) n) (translate (mapStmt treeAt (b .stmt)) n)
   unfolding translate mapStmt
   stmt-placed (an-empty l m) n = none
-  stmt-placed (an-assign l m t r e w) n = more (sets (place-stands _ e)) none
+  stmt-placed (an-assign l m t r e w) n = more (assigns (place-stands _ e)) none
   stmt-placed (a-later l m t r e w) n = more (laters (place-stands _ e)) none
   stmt-placed (a-sequence {a = a} l m x y) n =
       rw (size-map treeAt (a .stmt)) (placed-append (stmt-placed x n) (stmt-placed y (n + size (a .stmt))))

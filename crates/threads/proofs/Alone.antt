@@ -22,7 +22,7 @@ use Rattle.soundness.specs.Soundness.{Fitting, Sound, SoundTarget, SoundInstr, 
 use Rattle.events.specs.Cycle.{codeOf, instrAt, isWait}
 use Rattle.events.specs.Calls.{widthOf, pendingFits}
 use Rattle.events.proofs.Cycle.{absurd-bool}
-use Rattle.nextstate.specs.Rules.{setsAt, defersAt, sets, defers}
+use Rattle.nextstate.specs.Rules.{setsAt, defersAt, plainWrites, defers}
 use Rattle.nextstate.specs.Book.{put}
 use Rattle.nextstate.specs.Ruled.{Ruled}
 use Rattle.threads.specs.Resting.{Leads, Rests, rests, Way, here, step}
@@ -97,8 +97,8 @@ module _ (m : Module Expr) (i : ℕ) (L : Local) where
   unfolding turn
   turn-wait h = exec-wait m (instrAt (codeOf m i) (L .place)) L h
 
-  pub turn-keeps : (v : ℕ) → sets m i v ≡ false → turn m i L .values v ≡ L .values v
-  unfolding turn sets setsAt
+  pub turn-keeps : (v : ℕ) → plainWrites m i v ≡ false → turn m i L .values v ≡ L .values v
+  unfolding turn plainWrites setsAt
   turn-keeps v h =
       exec-keeps m (instrAt (codeOf m i) (L .place)) L v (at-instr (setsAt v) refl (codeOf m i) h (L .place))
 
@@ -111,7 +111,7 @@ module _ (m : Module Expr) (i : ℕ) (L : Local) where
 -- ---- alone: so many instructions
 
 module _ (m : Module Expr) where
-  pub alone-keeps : (i n : ℕ) (L : Local) (v : ℕ) → sets m i v ≡ false → alone m i n L .values v ≡ L .values v
+  pub alone-keeps : (i n : ℕ) (L : Local) (v : ℕ) → plainWrites m i v ≡ false → alone m i n L .values v ≡ L .values v
   unfolding alone
   alone-keeps i zero L v h = refl
   alone-keeps i (suc n) L v h = turn-keeps m i (alone m i n L) v h ∙ alone-keeps i n L v h

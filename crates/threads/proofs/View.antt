@@ -30,7 +30,7 @@ use Rattle.soundness.specs.Soundness.{Sound}
 use Rattle.events.specs.Cycle.{codeOf, instrAt, current, isWait, wireExpr, termsFire, waitFires}
 use Rattle.events.specs.Steps.{OtherValues, Fired, goes-on, stays, Marked, was-due, reads-changed, not-due, Acts, assigns, defers, jumps, goes-in, passes-by, settles, commits, Step}
 use Rattle.events.proofs.Cycle.{absurd-bool, and-left, and-right}
-use Rattle.nextstate.specs.Rules.{setsAt, defersAt, readsAt, sets, threadReads, wireReads, clockEdge, isPosedge}
+use Rattle.nextstate.specs.Rules.{setsAt, defersAt, readsAt, plainWrites, threadReads, wireReads, clockEdge, isPosedge}
 use Rattle.nextstate.specs.Rules as rules
 use Rattle.nextstate.specs.Book.{put}
 use Rattle.nextstate.specs.Ruled.{Ruled}
@@ -99,8 +99,8 @@ pub record Turned (m : Module Expr) (old new : State) (i : ℕ) : Type 0 where
 
 module _ (m : Module Expr) (w : Sound m) (u : Ruled m) (old new : State) (i : ℕ) where
   module _ {t : ℕ} {e : Expr} (h : current m old i ≡ set! t e) (others : OtherValues m old new (λ v. v ≡ t)) where
-    set-sets : sets m i t ≡ true
-    unfolding current sets setsAt
+    set-sets : plainWrites m i t ≡ true
+    unfolding current plainWrites setsAt
     set-sets = instr-any (setsAt t) refl (codeOf m i) (placeOf old i) (rw h (eq-eqb t t refl))
 
     -- The target is no input, so the clock stays.
@@ -185,8 +185,8 @@ module _ (m : Module Expr) (w : Sound m) (u : Ruled m) (old new : State) (i : �
   pub marks-kept : (k : ℕ) → isDue new k ≡ isDue old k
   marks-kept = turned m w u old new i l s .marks
 
-  pub values-kept : (v : ℕ) → sets m i v ≡ false → valueOf new v ≡ valueOf old v
-  unfolding sets setsAt current seen
+  pub values-kept : (v : ℕ) → plainWrites m i v ≡ false → valueOf new v ≡ valueOf old v
+  unfolding plainWrites setsAt current seen
   values-kept v h =
       turned m w u old new i l s .values v
       ∙ exec-keeps m (current m old i) (seen old i) v (at-instr (setsAt v) refl (codeOf m i) h (placeOf old i))
@@ -199,7 +199,7 @@ module _ (m : Module Expr) (w : Sound m) (u : Ruled m) (old new : State) (i : �
       (at-instr (defersAt (m .scope .inputs + r)) refl (codeOf m i) h (placeOf old i))
 
   pub clock-kept : valueOf new 0 ≡ valueOf old 0
-  clock-kept = values-kept 0 (refuted (sets m i 0) (λ h. let r = sets-register m w i 0 h in omega (arith, r .2, w .inputs-some)))
+  clock-kept = values-kept 0 (refuted (plainWrites m i 0) (λ h. let r = sets-register m w i 0 h in omega (arith, r .2, w .inputs-some)))
 
 -- ---- two locals at one place that agree on some variables and some registers' pending values
 

@@ -11,7 +11,7 @@ use Rattle.evaluation.specs.Evaluation.{eval}
 use Rattle.pseudocode.specs.Translation.{Instr, wait!, set!, later!, go, ifnot}
 use Rattle.events.specs.Cycle.{codeOf, instrAt}
 use Rattle.events.specs.Steps.{latest}
-use Rattle.nextstate.specs.Rules.{sets, writes}
+use Rattle.nextstate.specs.Rules.{plainWrites, writes}
 use Rattle.nextstate.specs.Book.{Book, put}
 
 -- A thread's place, and the values and pending values that it sees.
@@ -58,7 +58,7 @@ module _ (m : Module Expr) where
 
     -- Variable v, which thread i writes, after the commit.
     unfoldable pub valueAfter : (ℕ → Value) → Local → ℕ → Value
-    valueAfter f L v = pick (sets m i v) (L .values v) (latest (L .pending (v - m .scope .inputs)) (f v))
+    valueAfter f L v = pick (plainWrites m i v) (L .values v) (latest (L .pending (v - m .scope .inputs)) (f v))
 
   -- ---- the rise of the clock, by the threads alone
 

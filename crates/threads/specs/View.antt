@@ -8,13 +8,13 @@ use Rattle.sheet.specs.Module.{Module}
 use Rattle.state.specs.declared.State.{State}
 use Rattle.state.specs.State.{valueOf, pendingOf, placeOf}
 use Rattle.events.specs.Cycle.{codeOf}
-use Rattle.nextstate.specs.Rules.{sets, defers}
+use Rattle.nextstate.specs.Rules.{plainWrites, defers}
 use Rattle.threads.specs.Resting.{Way}
 use Rattle.threads.specs.Alone.{Local, alone}
 
 -- Variable v is written plainly by no other thread than i; register r is assigned later by no other.
 abbrev pub Sees : Module Expr → ℕ → ℕ → Type 0
-Sees m i v = (j : ℕ) → j ≢ i → sets m j v ≡ false
+Sees m i v = (j : ℕ) → j ≢ i → plainWrites m j v ≡ false
 
 abbrev pub SeesPending : Module Expr → ℕ → ℕ → Type 0
 SeesPending m i r = (j : ℕ) → j ≢ i → defers m j (m .scope .inputs + r) ≡ false

@@ -124,7 +124,7 @@ module _ (name : ℕ → List ℕ) where
   wiresText v [] = []
   wiresText v (e ∷ es) = ascii "  assign " & name v & ascii " = " & exprText e & ascii ";\n" & wiresText (v + 1) es
 
-  -- "A thread is a forever of its statement."
+  -- "A thread is a forever of its statement".
   unfoldable pub threadsText : List (Stmt Expr) → List ℕ
   threadsText [] = []
   threadsText (a ∷ bs) = ascii "  always begin\n" & stmtText 2 a & ascii "  end\n" & threadsText bs

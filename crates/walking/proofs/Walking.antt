@@ -29,7 +29,7 @@ use Rattle.soundness.specs.Soundness.{SoundExpr, SoundTarget, SoundInstr, sound
 use Rattle.events.specs.Cycle.{variables, codeOf, instrAt, isWait}
 use Rattle.events.specs.Steps.{latest}
 use Rattle.events.proofs.Cycle.{Below, at-end, before, below-suc, absurd-bool, and-left, and-right}
-use Rattle.nextstate.specs.Rules.{sets, defers, writes}
+use Rattle.nextstate.specs.Rules.{plainWrites, defers, writes}
 use Rattle.nextstate.specs.Nodes.{Node, aVariable, aConstant}
 use Rattle.nextstate.specs.Walk.{Emitted, express, Held, Walked, Merged, ownRow, ownRows, heldNode, landed, merge, visit, walk}
 use Rattle.nextstate.specs.Extraction.{variableNodes}
@@ -248,13 +248,13 @@ module _ (m : Module Expr) (i : ℕ) (f : ℕ → Value) where
 
   -- Rule 13 for this thread.
   abbrev pub OneWay : Type 0
-  OneWay = (v : ℕ) → defers m i v ≡ true → sets m i v ≡ false
+  OneWay = (v : ℕ) → defers m i v ≡ true → plainWrites m i v ≡ false
 
-  writes-later : (v : ℕ) → writes m i v ≡ true → sets m i v ≡ false → defers m i v ≡ true
+  writes-later : (v : ℕ) → writes m i v ≡ true → plainWrites m i v ≡ false → defers m i v ≡ true
   unfolding writes
   writes-later v w e = rw e at w
 
-  plain-only : OneWay → (v : ℕ) → sets m i v ≡ true → defers m i v ≡ false
+  plain-only : OneWay → (v : ℕ) → plainWrites m i v ≡ true → defers m i v ≡ false
   plain-only one v e = by (defers m i v) refl
     where
       by : (t : Bool) → defers m i v ≡ t → defers m i v ≡ false
@@ -270,16 +270,16 @@ module _ (m : Module Expr) (i : ℕ) (f : ℕ → Value) where
         registers = λ r l o.
             has-grows (m .scope .widths) f {t = t} (grows-by _ nodes)
             (rw (registers, getD-listOf node 32 r 0 (omega (arith, sound .registers-most)))
-            (by r l (sets m i (m .scope .inputs + r)) refl o));
+            (by r l (plainWrites m i (m .scope .inputs + r)) refl o));
       }
     where
       node : ℕ → ℕ
       node r = pick (defers m i (m .scope .inputs + r)) (getD (h .later) r 0) (getD (h .current) r 0)
 
-      by : (r : ℕ) → r < m .scope .registers → (b : Bool) → sets m i (m .scope .inputs + r) ≡ b →
+      by : (r : ℕ) → r < m .scope .registers → (b : Bool) → plainWrites m i (m .scope .inputs + r) ≡ b →
           writes m i (m .scope .inputs + r) ≡ true →
           Has (m .scope .widths) f t (node r)
-          (pick (sets m i (m .scope .inputs + r)) (L .values (m .scope .inputs + r))
+          (pick (plainWrites m i (m .scope .inputs + r)) (L .values (m .scope .inputs + r))
           (latest (L .pending ((m .scope .inputs + r) - m .scope .inputs)) (f (m .scope .inputs + r))))
       by r l true e o =
           let z : (m .scope .inputs + r) - m .scope .inputs ≡ r = omega arith in

@@ -17,7 +17,7 @@ use Rattle.sheet.specs.Module.{Module, read}
 use Rattle.pseudocode.specs.Translation.{Instr, go}
 use Rattle.events.specs.Cycle.{codeOf, instrAt, isWait, wireVariable}
 use Rattle.events.proofs.Cycle.{absurd-bool, and-left, and-right, any-below, none-below}
-use Rattle.nextstate.specs.Rules.{readsAt, anyInstr, sets, defers, writes, threadReads, wireReads, someThread, someWire, someRegister, readElsewhere}
+use Rattle.nextstate.specs.Rules.{readsAt, anyInstr, plainWrites, defers, writes, threadReads, wireReads, someThread, someWire, someRegister, readElsewhere}
 use Rattle.nextstate.specs.Rules.{otherWaitAt, startsWaiting, bodyOf, loopsWait, one, waitsBefore, waitsBelow}
 use Rattle.nextstate.specs.Rules.{twoWriters, bothWays, plainlyShared, otherWait, startsRunning, runsAway, clockRead, readsUpward, manyWaits, rule}
 use Rattle.nextstate.specs.Extraction.{Tables, walkFrom, walksBelow, threadsBelow, extracted, expressions, filled, rightLengths, extract}
@@ -125,11 +125,11 @@ module _ (m : Module Expr) where
   both : bothWays m ≡ true → Breaks m (writtenBothWays m)
   unfolding bothWays writtenBothWays
   both h =
-      let f : ℕ → Bool = λ v. someThread m (λ i. sets m i v) && someThread m (λ i. defers m i v) in
+      let f : ℕ → Bool = λ v. someThread m (λ i. plainWrites m i v) && someThread m (λ i. defers m i v) in
       let a = some-register f h in
       let v = m .scope .inputs + firstRegister m f in
-      let b = some-thread (λ i. sets m i v) (and-left (someThread m (λ i. sets m i v)) (someThread m (λ i. defers m i v)) (a .1)) in
-      let c = some-thread (λ i. defers m i v) (and-right (someThread m (λ i. sets m i v)) (someThread m (λ i. defers m i v)) (a .1)) in
+      let b = some-thread (λ i. plainWrites m i v) (and-left (someThread m (λ i. plainWrites m i v)) (someThread m (λ i. defers m i v)) (a .1)) in
+      let c = some-thread (λ i. defers m i v) (and-right (someThread m (λ i. plainWrites m i v)) (someThread m (λ i. defers m i v)) (a .1)) in
       written-both-ways refl (a .0) (b .0) (c .0) (b .1) (c .1)
 
   -- ---- 14
@@ -137,15 +137,15 @@ module _ (m : Module Expr) where
   shared : plainlyShared m ≡ true → Breaks m (sharedRegister m)
   unfolding plainlyShared sharedRegister readElsewhere
   shared h =
-      let f : ℕ → Bool = λ v. someThread m (λ i. sets m i v && readElsewhere m i v) in
+      let f : ℕ → Bool = λ v. someThread m (λ i. plainWrites m i v && readElsewhere m i v) in
       let a = some-register f h in
       let v = m .scope .inputs + firstRegister m f in
-      let b = some-thread (λ i. sets m i v && readElsewhere m i v) (a .1) in
-      let i = firstThread m (λ i. sets m i v && readElsewhere m i v) in
-      by (firstRegister m f) i (a .0) (b .0) (and-left (sets m i v) (readElsewhere m i v) (b .1)) (and-right (sets m i v) (readElsewhere m i v) (b .1))
+      let b = some-thread (λ i. plainWrites m i v && readElsewhere m i v) (a .1) in
+      let i = firstThread m (λ i. plainWrites m i v && readElsewhere m i v) in
+      by (firstRegister m f) i (a .0) (b .0) (and-left (plainWrites m i v) (readElsewhere m i v) (b .1)) (and-right (plainWrites m i v) (readElsewhere m i v) (b .1))
       (someThread m (λ j. not (eqb i j) && threadReads m j v)) refl
     where
-      by : (r i : ℕ) → r < m .scope .registers → i < length (m .threads) → let v = m .scope .inputs + r in sets m i v ≡ true
+      by : (r i : ℕ) → r < m .scope .registers → i < length (m .threads) → let v = m .scope .inputs + r in plainWrites m i v ≡ true
           → (someThread m (λ j. not (eqb i j) && threadReads m j v) || someWire m (λ k. wireReads m k v)) ≡ true
           → (t : Bool) → someThread m (λ j. not (eqb i j) && threadReads m j v) ≡ t
           → Breaks m

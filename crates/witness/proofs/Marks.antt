@@ -14,7 +14,7 @@ use Rattle.masks.specs.Masks.{bits}
 use Rattle.soundness.specs.Soundness.{Sound}
 use Rattle.events.specs.Cycle.{anyBelow, wireExpr, wireVariable}
 use Rattle.events.proofs.Cycle.{any-same}
-use Rattle.nextstate.specs.Rules.{sets, defers, writes, threadReads, wireReads, someThread, someWire, readElsewhere, readsUpward}
+use Rattle.nextstate.specs.Rules.{plainWrites, defers, writes, threadReads, wireReads, someThread, someWire, readElsewhere, readsUpward}
 use Rattle.tables.specs.Holding.{Holding}
 use Rattle.rules.specs.Writers.{plainBelow, laterBelow}
 use Rattle.rules.specs.Reading.{readingBelow}
@@ -106,11 +106,11 @@ module _ {s : List ℕ} {m : Module Expr} {starts sizes code readers : List ℕ}
   -- ---- 13
 
   both-at : (r : ℕ) → byMarks l readers ps ls reading Both r
-      ≡ (someThread m (λ i. sets m i (inputs + r)) && someThread m (λ i. defers m i (inputs + r)))
+      ≡ (someThread m (λ i. plainWrites m i (inputs + r)) && someThread m (λ i. defers m i (inputs + r)))
   unfolding byMarks writtenBoth
   both-at r = λ j. (by-plain z h e r j && by-later z h e r j)
 
-  plain-at : (r i : ℕ) → i < threads → byMarks l readers ps ls reading (Plain r) i ≡ sets m i (inputs + r)
+  plain-at : (r i : ℕ) → i < threads → byMarks l readers ps ls reading (Plain r) i ≡ plainWrites m i (inputs + r)
   unfolding byMarks
   plain-at r i k = marks-plain z h e i r k
 
@@ -121,11 +121,11 @@ module _ {s : List ℕ} {m : Module Expr} {starts sizes code readers : List ℕ}
   pub both-same : writtenBothWaysAt l readers ps ls reading ≡ writtenBothWays m
   unfolding writtenBothWaysAt writtenBothWays
   both-same =
-      let f : ℕ → Bool = λ v. someThread m (λ i. sets m i v) && someThread m (λ i. defers m i v) in
+      let f : ℕ → Bool = λ v. someThread m (λ i. plainWrites m i v) && someThread m (λ i. defers m i v) in
       let r = firstRegister m f in
       let v = inputs + r in
       let er = lowest-same (byMarks l readers ps ls reading Both) (λ r. f (inputs + r)) registers (λ k n. both-at k) in
-      let ei = lowest-same (byMarks l readers ps ls reading (Plain r)) (λ i. sets m i v) threads (λ k n. plain-at r k n) in
+      let ei = lowest-same (byMarks l readers ps ls reading (Plain r)) (λ i. plainWrites m i v) threads (λ k n. plain-at r k n) in
       let ej = lowest-same (byMarks l readers ps ls reading (Later r)) (λ i. defers m i v) threads (λ k n. later-at r k n) in
       (λ t. aRegister 13 (er t) (lowest threads (byMarks l readers ps ls reading (Plain (er t)))) (lowest threads (byMarks l readers ps ls reading (Later (er t)))))
       ∙ (λ t. aRegister 13 r (ei t) (ej t))
@@ -151,15 +151,15 @@ module _ {s : List ℕ} {m : Module Expr} {starts sizes code readers : List ℕ}
   -- ---- 14
 
   shared-by : (r i : ℕ) → r ≤ registers → i < threads
-      → byMarks l readers ps ls reading (SharedBy r (inputs + r)) i ≡ (sets m i (inputs + r) && readElsewhere m i (inputs + r))
+      → byMarks l readers ps ls reading (SharedBy r (inputs + r)) i ≡ (plainWrites m i (inputs + r) && readElsewhere m i (inputs + r))
   unfolding byMarks sharedBy
   shared-by r i k n = λ j. (marks-plain z h e i r n j && elsewhere z h e i (inputs + r) (near r k) j)
 
   shared-at : (r : ℕ) → r < registers → byMarks l readers ps ls reading Shared r
-      ≡ someThread m (λ i. sets m i (inputs + r) && readElsewhere m i (inputs + r))
+      ≡ someThread m (λ i. plainWrites m i (inputs + r) && readElsewhere m i (inputs + r))
   unfolding byMarks sharedAt sharedBy someThread
   shared-at r k =
-      any-same (sharedBy ps reading readers r (inputs + r)) (λ i. sets m i (inputs + r) && readElsewhere m i (inputs + r)) threads
+      any-same (sharedBy ps reading readers r (inputs + r)) (λ i. plainWrites m i (inputs + r) && readElsewhere m i (inputs + r)) threads
       (λ i n. λ j. (marks-plain z h e i r n j && elsewhere z h e i (inputs + r) (near r (omega arith)) j))
 
   -- By a thread, or else by a wire.
@@ -172,16 +172,16 @@ module _ {s : List ℕ} {m : Module Expr} {starts sizes code readers : List ℕ}
   pub shared-same : sharedRegisterAt l readers ps ls reading ≡ sharedRegister m
   unfolding sharedRegisterAt sharedRegister someThread
   shared-same =
-      let f : ℕ → Bool = λ v. anyBelow threads (λ i. sets m i v && readElsewhere m i v) in
+      let f : ℕ → Bool = λ v. anyBelow threads (λ i. plainWrites m i v && readElsewhere m i v) in
       let r = firstRegister m f in
       let v = inputs + r in
       let low = near r (lowest-most (λ r. f (inputs + r)) registers) in
-      let i = firstThread m (λ i. sets m i v && readElsewhere m i v) in
+      let i = firstThread m (λ i. plainWrites m i v && readElsewhere m i v) in
       let g : ℕ → Bool = λ j. not (eqb i j) && threadReads m j v in
       let j = firstThread m g in
       let er = lowest-same (byMarks l readers ps ls reading Shared) (λ r. f (inputs + r)) registers (λ k n. shared-at k n) in
       let ei =
-      lowest-same (byMarks l readers ps ls reading (SharedBy r v)) (λ i. sets m i v && readElsewhere m i v) threads
+      lowest-same (byMarks l readers ps ls reading (SharedBy r v)) (λ i. plainWrites m i v && readElsewhere m i v) threads
       (λ k n. shared-by r k (lowest-most (λ r. f (inputs + r)) registers) n) in
       let ej = lowest-same (byMarks l readers ps ls reading (OtherReads i v)) g threads (λ k n. others-read i v k low n) in
       let ek = lowest-same (byMarks l readers ps ls reading (WireReads v)) (λ k. wireReads m k v) wires (λ k n. wires-read v k low n) in

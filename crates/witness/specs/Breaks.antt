@@ -12,7 +12,7 @@ use Rattle.sheet.specs.Statement.{forever}
 use Rattle.sheet.specs.Module.{Module}
 use Rattle.pseudocode.specs.Translation.{Instr}
 use Rattle.events.specs.Cycle.{codeOf, instrAt, isWait, wireVariable}
-use Rattle.nextstate.specs.Rules.{readsAt, sets, defers, writes, threadReads, wireReads, otherWaitAt, startsWaiting, bodyOf, loopsWait}
+use Rattle.nextstate.specs.Rules.{readsAt, plainWrites, defers, writes, threadReads, wireReads, otherWaitAt, startsWaiting, bodyOf, loopsWait}
 use Rattle.nextstate.specs.Rules.{waitsBefore, waitsBelow}
 use Rattle.nextstate.specs.Extraction.{Tables, walkFrom, walksBelow, threadsBelow}
 use Rattle.witness.specs.declared.Witness.{Witness}
@@ -36,14 +36,14 @@ pub data Breaks (m : Module Expr) (w : Witness) : Type 0 where
       → writes m (w .thread) (variable m w) ≡ true → writes m (w .other) (variable m w) ≡ true → Breaks m w
   -- "13 one written both ways."
   written-both-ways : w .number ≡ 13 → w .register < m .scope .registers → w .thread < length (m .threads) → w .other < length (m .threads)
-      → sets m (w .thread) (variable m w) ≡ true → defers m (w .other) (variable m w) ≡ true → Breaks m w
+      → plainWrites m (w .thread) (variable m w) ≡ true → defers m (w .other) (variable m w) ≡ true → Breaks m w
   -- "14 a register written by plain assignment and read by another thread"
   read-by-thread : w .number ≡ 14 → w .wired ≡ false → w .register < m .scope .registers → w .thread < length (m .threads)
-      → w .other < length (m .threads) → w .thread ≢ w .other → sets m (w .thread) (variable m w) ≡ true
+      → w .other < length (m .threads) → w .thread ≢ w .other → plainWrites m (w .thread) (variable m w) ≡ true
       → threadReads m (w .other) (variable m w) ≡ true → Breaks m w
   -- "or a wire."
   read-by-wire : w .number ≡ 14 → w .wired ≡ true → w .register < m .scope .registers → w .thread < length (m .threads)
-      → w .wire < length (m .wires) → sets m (w .thread) (variable m w) ≡ true → wireReads m (w .wire) (variable m w) ≡ true → Breaks m w
+      → w .wire < length (m .wires) → plainWrites m (w .thread) (variable m w) ≡ true → wireReads m (w .wire) (variable m w) ≡ true → Breaks m w
   -- "15 a wait other than the single posedge of input 0."
   other-wait : w .number ≡ 15 → w .thread < length (m .threads) → w .place < length (code m w) → otherWaitAt (instruction m w) ≡ true
       → Breaks m w

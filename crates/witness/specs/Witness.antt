@@ -12,7 +12,7 @@ use Rattle.sheet.specs.Statement.{forever}
 use Rattle.sheet.specs.Module.{Module, read}
 use Rattle.pseudocode.specs.Translation.{Instr}
 use Rattle.events.specs.Cycle.{codeOf, instrAt, wireVariable, anyBelow}
-use Rattle.nextstate.specs.Rules.{readsAt, anyInstr, sets, defers, writes, threadReads, wireReads, someThread, someWire, readElsewhere}
+use Rattle.nextstate.specs.Rules.{readsAt, anyInstr, plainWrites, defers, writes, threadReads, wireReads, someThread, someWire, readElsewhere}
 use Rattle.nextstate.specs.Rules.{otherWaitAt, startsWaiting, bodyOf, loopsWait, waitsBefore, waitsBelow}
 use Rattle.nextstate.specs.Rules.{twoWriters, bothWays, plainlyShared, otherWait, startsRunning, runsAway, clockRead, readsUpward, manyWaits}
 use Rattle.nextstate.specs.Extraction.{walksBelow, threadsBelow}
@@ -71,18 +71,18 @@ module _ (m : Module Expr) where
 
   unfoldable pub writtenBothWays : Witness
   writtenBothWays =
-      let r = firstRegister (λ v. someThread m (λ i. sets m i v) && someThread m (λ i. defers m i v)) in
+      let r = firstRegister (λ v. someThread m (λ i. plainWrites m i v) && someThread m (λ i. defers m i v)) in
       let v = m .scope .inputs + r in
-      aRegister 13 r (firstThread (λ i. sets m i v)) (firstThread (λ i. defers m i v))
+      aRegister 13 r (firstThread (λ i. plainWrites m i v)) (firstThread (λ i. defers m i v))
 
   -- ---- "14 a register written by plain assignment and read by another thread or a wire.": the register, the thread that writes
   -- it, and the other thread that reads it, or else the wire
 
   unfoldable pub sharedRegister : Witness
   sharedRegister =
-      let r = firstRegister (λ v. someThread m (λ i. sets m i v && readElsewhere m i v)) in
+      let r = firstRegister (λ v. someThread m (λ i. plainWrites m i v && readElsewhere m i v)) in
       let v = m .scope .inputs + r in
-      let i = firstThread (λ i. sets m i v && readElsewhere m i v) in
+      let i = firstThread (λ i. plainWrites m i v && readElsewhere m i v) in
       let byThread = someThread m (λ j. not (eqb i j) && threadReads m j v) in
       record {
         number = 14;

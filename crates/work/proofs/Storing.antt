@@ -24,7 +24,7 @@ use Rattle.events.specs.Calls.{plainChoice}
 use Rattle.events.specs.Steps.{Marked, was-due, reads-changed, not-due, Acts, assigns, defers, jumps, goes-in, passes-by, settles, commits, Step, Instant}
 use Rattle.events.proofs.Cycle.{absurd-bool, current-place, touched-true, touched-reads, touched-none}
 use Rattle.events.proofs.Choices.{enabled-thread, enabled-wire, none-enabled, shaped-chooseIn, quiet-enabled}
-use Rattle.nextstate.specs.Rules.{sets, wireReads}
+use Rattle.nextstate.specs.Rules.{plainWrites, wireReads}
 use Rattle.nextstate.specs.Ruled.{Ruled}
 use Rattle.nextstate.proofs.Ruled.{refuted, sets-register, wire-within}
 use Rattle.threads.proofs.View.{turned, marks-kept, values-kept}
@@ -125,7 +125,7 @@ module _ (m : Module Expr) (w : Sound m) (R : Ruled m) (f : ℕ → Value) where
             ∙ touched-same m (wireExpr m k) f (valueOf old) (valueOf new)
             (λ y r. sym (values-kept m w R old new i l s y (R .apart-wire k i y r)));
         wires = λ k b. values-kept m w R old new i l s (wireVariable m k)
-            (refuted (sets m i (wireVariable m k)) (λ h. let r = sets-register m w i (wireVariable m k) h in omega (arith, r .1, r .2)))
+            (refuted (plainWrites m i (wireVariable m k)) (λ h. let r = sets-register m w i (wireVariable m k) h in omega (arith, r .1, r .2)))
             ∙ F .wires k b;
       }
 

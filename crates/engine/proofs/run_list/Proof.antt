@@ -5,7 +5,7 @@ use native.Mathlib.Omega.{arith}
 use mathlib.Core.Path.{_≡_, sym, ap, _∙_}
 use lib.ListN.{length, drop}
 use Rattle.engine.specs.Live.{planOf, standing}
-use Rattle.engine.specs.Acting.{Taken, take}
+use Rattle.engine.specs.Acting.{Taken, takeChoice}
 use Rattle.engine.specs.Running.{runList}
 use Rattle.engine.proofs.Taking.{take-room}
 use Rattle.engine.proofs.Running.{ahead, ahead-zero, list-on, list-off, list-end}
@@ -50,7 +50,7 @@ returns c =
     planOf (a .sheet .now) (a .widths .now) (a .code .now) (a .readers .now) (a .watched .now) (a .starts .now)
     (a .shape) in
     let l = standing (p .value) (p .unknown) (p .places) (p .pending) (p .unsure) (p .m) in
-    let e = the-take .ensures ∙ ap (λ (m : ℕ). take q (p .counted) m l) (wide .ensures) in
+    let e = the-take .ensures ∙ ap (λ (m : ℕ). takeChoice q (p .counted) m l) (wide .ensures) in
     sym (list-off q (p .counted) l (p .i) _ _ (a .choices .now) (loop-test .taken) e (c .if1 .taken)) ∙ p .inv .2
 
 add-counted : tie.Need-add-counted Inv-loop μ-loop
@@ -87,7 +87,7 @@ loop-again c =
     planOf (a .sheet .now) (a .widths .now) (a .code .now) (a .readers .now) (a .watched .now) (a .starts .now)
     (a .shape) in
     let l = standing (p .value) (p .unknown) (p .places) (p .pending) (p .unsure) (p .m) in
-    let e = the-take .ensures ∙ ap (λ (m : ℕ). take q (p .counted) m l) (wide .ensures) in
+    let e = the-take .ensures ∙ ap (λ (m : ℕ). takeChoice q (p .counted) m l) (wide .ensures) in
     let z = sym (ap (λ (t : Taken). t .number) (the-take .ensures)) ∙ c .if1 .left in
     let h : p .counted ≡ 4294967295 → ⊥ = λ u. take-room q (p .counted) u (wide .result) l z in (
       omega arith,

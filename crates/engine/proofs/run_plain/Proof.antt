@@ -5,7 +5,7 @@ use native.Mathlib.Omega.{arith}
 use mathlib.Core.Path.{_≡_, sym, ap, _∙_}
 use Rattle.changes.specs.declared.Marks.{Marks}
 use Rattle.engine.specs.Live.{planOf, standing}
-use Rattle.engine.specs.Acting.{Taken, take}
+use Rattle.engine.specs.Acting.{Taken, takeChoice}
 use Rattle.engine.specs.Running.{runPlain}
 use Rattle.engine.proofs.Taking.{take-room}
 use Rattle.engine.proofs.Running.{ahead, plain-whole, plain-on, plain-off, plain-end, plain-quiet}
@@ -73,7 +73,7 @@ returns-2 c =
     let k =
     plain-choice .ensures (a .sheet .now) (a .widths .now) (a .code .now) (a .readers .now) (a .watched .now)
     (a .starts .now) (p .value) (p .unknown) (p .places) (p .pending) (p .unsure) in
-    let e = the-take .ensures ∙ ap (λ (m : ℕ). take q (p .total) m l) k in
+    let e = the-take .ensures ∙ ap (λ (m : ℕ). takeChoice q (p .total) m l) k in
     sym (plain-off q (p .total) l (p .i) _ _ (a .limit) (loop-test .taken) b e (c .if2 .taken)) ∙ p .inv .2
 
 add-total : tie.Need-add-total Inv-loop μ-loop
@@ -110,7 +110,7 @@ loop-again c =
     let k =
     plain-choice .ensures (a .sheet .now) (a .widths .now) (a .code .now) (a .readers .now) (a .watched .now)
     (a .starts .now) (p .value) (p .unknown) (p .places) (p .pending) (p .unsure) in
-    let e = the-take .ensures ∙ ap (λ (m : ℕ). take q (p .total) m l) k in
+    let e = the-take .ensures ∙ ap (λ (m : ℕ). takeChoice q (p .total) m l) k in
     let z = sym (ap (λ (t : Taken). t .number) (the-take .ensures)) ∙ c .if2 .left in
     let h : p .total ≡ 4294967295 → ⊥ = λ u. take-room q (p .total) u (plain-choice .result) l z in (
       omega arith,
