@@ -4,3 +4,4 @@ pub mod Lines
 pub mod Accepted
 pub mod Naming
 pub mod Samples
+pub mod Searching

@@ -2,11 +2,14 @@
 // Each function equals its definition in specs/, for every line.
 mod names;
 mod numbers;
+mod pieces;
 mod words;
 
 use numbers::is_hex;
 use numbers::is_x;
-use numbers::number_of;
+pub use numbers::number_of;
+pub use pieces::find_line;
+pub use pieces::line_end;
 use values::Value;
 use words::at_end;
 use words::byte_at;
@@ -17,6 +20,7 @@ ghost use lib.ListN.{length};
 ghost use Prim.Native.Nat.{_≤_};
 ghost use Rattle.stimulus.specs.Lines.{fitted, entryOf, taken, slots, surplus, firstPlace, valuesOf, lineOf};
 ghost use Rattle.stimulus.specs.Names.{nameOf};
+ghost use Rattle.stimulus.specs.Counting.{counted};
 
 // Kinds of characters: blanks; blanks and commas; what a word is made of, all others but `#`; letters, digits and `_`.
 pub enum Class {
@@ -24,6 +28,13 @@ pub enum Class {
     Separator,
     Word,
     Name,
+}
+
+// What waits of a file in a buffer: a line that ends at a place, nothing before more is read, or nothing at all.
+pub enum Waiting {
+    Whole(usize),
+    More,
+    Nothing,
 }
 
 // What a line of inputs holds. error: 0 a value for each input, 1 no cycle (blank, or a comment), 2 a value that is no number,
@@ -67,6 +78,13 @@ pub struct Taken {
     pub to: usize,
     pub unknown: bool,
     pub number: u32,
+}
+
+// One more; a count of lines, words or cycles stays below 2^32.
+pub fn counted(n: usize) -> usize
+    ensures { λ r. ⌜ r ≡ counted n ⌝ }
+{
+    if n < 4294967295 { n + 1 } else { n }
 }
 
 // ---- values

@@ -149,7 +149,7 @@ fn shown_length(a: Value) -> usize
 }
 
 // A value as text.
-fn put_shown(a: Value, text: &mut [u8; 65536], pos: usize) -> usize
+pub fn put_shown(a: Value, text: &mut [u8; 65536], pos: usize) -> usize
     ensures { λ r. ⌜ filled (now (text .exit)) r ≡ puts (filled (now (text .entry)) pos) (shown a) ⌝ }
 {
     match a {

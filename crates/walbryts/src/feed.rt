@@ -1,5 +1,7 @@
 // The rows of an inputs file, a line a cycle, read as the run goes on.
 use crate::report::wrong_at;
+use options::Outcome;
+use stimulus::Waiting;
 
 // How far the file is read: its descriptor, the part of the buffer that waits, the line it begins with, and whether the file is at its
 // end.
@@ -27,11 +29,6 @@ pub struct Row {
     pub unknown: [bool; 16],
 }
 
-// One more; a count stays below 2^32.
-pub fn counted(n: usize) -> usize {
-    if n < 4294967295 { n + 1 } else { n }
-}
-
 pub fn over(fd: i32) -> Feed {
     Feed {
         fd,
@@ -42,24 +39,12 @@ pub fn over(fd: i32) -> Feed {
     }
 }
 
-// The status of a run that ends with such a row.
-pub fn status_of(kind: u8) -> u8 {
-    if kind == WRONG { 2 } else { 0 }
-}
-
-// The first line end from a place on, or the end of what waits.
-pub fn line_end(buffer: &[u8], from: usize, to: usize) -> usize {
-    let mut i = from;
-    while i < buffer.len() {
-        if i >= to {
-            return to;
-        }
-        if buffer[i] == b'\n' {
-            return i;
-        }
-        i += 1;
+// How a run ends that ends with such a row.
+pub fn outcome_of(kind: u8) -> Outcome {
+    if kind == WRONG {
+        return Outcome::Mistaken;
     }
-    to
+    Outcome::Done
 }
 
 // What waits moves to the front of the buffer. Gives its length.
@@ -107,10 +92,11 @@ fn refilled(feed: Feed, buffer: &mut [u8]) -> Feed {
 
 // With a whole line that waits, or the file at its end.
 fn filled(feed: Feed, buffer: &mut [u8]) -> Feed {
-    if feed.ended || line_end(buffer, feed.from, feed.to) < feed.to {
-        return feed;
+    match stimulus::find_line(buffer, feed.from, feed.to, feed.ended) {
+        Waiting::Whole(_) => feed,
+        Waiting::More => refilled(feed, buffer),
+        Waiting::Nothing => feed,
     }
-    refilled(feed, buffer)
 }
 
 // A row that is none.
@@ -168,17 +154,25 @@ fn row_of(index: usize, line: &[u8], widths: &[u8], inputs: u8, feed: Feed) -> R
     }
 }
 
-// The line that waits first.
-fn line_at(index: usize, f: Feed, buffer: &[u8], widths: &[u8], inputs: u8) -> Row {
+// The row of the line that waits up to a place.
+fn row_at(index: usize, f: Feed, end: usize, buffer: &[u8], widths: &[u8], inputs: u8) -> Row {
     let from = f.from;
-    let end = line_end(buffer, from, f.to);
-    if from >= f.to || from > end || end > buffer.len() {
+    if from > end || end > buffer.len() {
         return no_row(f, END);
     }
     let mut g = f;
-    g.from = counted(end);
-    g.line = counted(f.line);
+    g.from = stimulus::counted(end);
+    g.line = stimulus::counted(f.line);
     row_of(index, &buffer[from..end], widths, inputs, g)
+}
+
+// The line that waits first: the buffer has as much of the file as it takes.
+fn line_at(index: usize, f: Feed, buffer: &[u8], widths: &[u8], inputs: u8) -> Row {
+    match stimulus::find_line(buffer, f.from, f.to, true) {
+        Waiting::Whole(end) => row_at(index, f, end, buffer, widths, inputs),
+        Waiting::More => no_row(f, END),
+        Waiting::Nothing => no_row(f, END),
+    }
 }
 
 // The next row: blank lines are passed over. A proved loop has to end, and nothing says that a file does: so it counts its turns

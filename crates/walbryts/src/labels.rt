@@ -1,6 +1,4 @@
 // The names of the variables: i0.., r0.., w0.., or those of a names file.
-use crate::feed::counted;
-use crate::feed::line_end;
 use crate::files::read_whole;
 use crate::report::wrong_at;
 use sheet::Layout;
@@ -79,7 +77,7 @@ fn take_lines(
         if from >= size {
             return true;
         }
-        let end = line_end(bytes, from, size);
+        let end = stimulus::line_end(bytes, from, size);
         if from > end {
             return true;
         }
@@ -89,7 +87,7 @@ fn take_lines(
         if !take_line(index, &bytes[from..end], number, layout, names) {
             return false;
         }
-        from = counted(end);
+        from = stimulus::counted(end);
         number += 1;
     }
     true

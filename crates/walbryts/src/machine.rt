@@ -7,6 +7,7 @@ use events::Inputs;
 use events::Verdict;
 use nextstate::Clocked;
 use nextstate::Registers;
+use options::Way;
 use state::State;
 
 // What a run goes by: the sheet's counts, the word that names the inputs, the wires shown or not, only the last cycle or all, how far
@@ -23,16 +24,10 @@ pub struct Plan {
     pub wave: i32,
 }
 
-pub const PLAIN: u8 = 0;
-
-pub const DRAWN: u8 = 1;
-
-pub const EXPRESSED: u8 = 2;
-
-// A state, and how it is run: in which of the three ways, the number that refused a call, whether it came to rest, and the generator's
+// A state, and how it is run: by which of the three ways, the number that refused a call, whether it came to rest, and the generator's
 // next seed.
 pub struct Rest {
-    pub way: u8,
+    pub way: Way,
     pub number: u8,
     pub rested: bool,
     pub state: State,
@@ -41,8 +36,9 @@ pub struct Rest {
 
 // The same way on: what a call has left.
 fn left(r: Rest, number: u8, rested: bool, state: State) -> Rest {
+    let way = r.way;
     Rest {
-        way: r.way,
+        way,
         number,
         rested,
         state,
@@ -57,6 +53,7 @@ fn is_quiet(v: Verdict) -> bool {
         Verdict::Quiet => true,
         Verdict::Spent => false,
         Verdict::Stopped(_) => false,
+        Verdict::Refused(_) => false,
     }
 }
 
@@ -87,8 +84,9 @@ fn draw(sheet: &[u8], items: u64, r: Rest) -> Rest {
     let seed = next_seed(r.seed);
     let c = simulator::choose(sheet, st, drawn_choice(seed, items));
     let state = c.state;
+    let way = r.way;
     Rest {
-        way: r.way,
+        way,
         number: 0,
         rested: c.number == 35,
         state,
@@ -109,14 +107,34 @@ fn by_draw(sheet: &[u8], items: u64, r: Rest) -> Rest {
 
 // A run to rest.
 fn to_rest(p: Plan, sheet: &[u8], r: Rest) -> Rest {
-    if r.way == DRAWN {
-        return by_draw(sheet, p.threads as u64 + p.wires as u64, r);
+    let way = r.way;
+    match way {
+        Way::Drawn(_) => by_draw(sheet, p.threads as u64 + p.wires as u64, r),
+        Way::Plain => plainly(sheet, r),
+        Way::Expressed => plainly(sheet, r),
     }
-    plainly(sheet, r)
+}
+
+// Is it by the extracted expressions?
+pub fn is_expressed(way: Way) -> bool {
+    match way {
+        Way::Plain => false,
+        Way::Drawn(_) => false,
+        Way::Expressed => true,
+    }
+}
+
+// The seed that choices are drawn by.
+fn seed_of(way: Way) -> u64 {
+    match way {
+        Way::Plain => 0,
+        Way::Drawn(seed) => seed as u64,
+        Way::Expressed => 0,
+    }
 }
 
 // The state at the start, at rest.
-pub fn begin(p: Plan, sheet: &[u8], way: u8, seed: u64) -> Rest {
+pub fn begin(p: Plan, sheet: &[u8], way: Way) -> Rest {
     let c = simulator::start(sheet);
     let state = c.state;
     let r = Rest {
@@ -124,7 +142,7 @@ pub fn begin(p: Plan, sheet: &[u8], way: u8, seed: u64) -> Rest {
         number: 0,
         rested: false,
         state,
-        seed,
+        seed: seed_of(way),
     };
     to_rest(p, sheet, r)
 }
@@ -308,7 +326,8 @@ fn half(
     clock: u32,
     row: Row,
 ) -> Rest {
-    if before.way == EXPRESSED {
+    let way = before.way;
+    if is_expressed(way) {
         return by_expressions(p, sheet, nodes, rows, before, clock, row);
     }
     by_events(p, sheet, before, clock, row)

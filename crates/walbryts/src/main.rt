@@ -15,8 +15,10 @@ mod words;
 
 use libc::STDERR_FILENO;
 use libc::STDOUT_FILENO;
+use options::Command;
+use options::Outcome;
+use options::Request;
 use sheet::Layout;
-use words::Options;
 
 fn usage() {
     io::write_all(
@@ -53,54 +55,50 @@ where the clock is the only input; # comments.
 }
 
 // What a command does with a sheet that is read.
-fn command(o: Options, sheet: &[u8], layout: Layout, widths: &[u8]) -> u8 {
+fn perform(c: Command, sheet: &[u8], layout: Layout, widths: &[u8]) -> Outcome {
     let mut names = [0u8; 2560];
-    if !labels::fill(o.names, layout, &mut names) {
-        return 2;
+    if !labels::fill(options::names_of(c), layout, &mut names) {
+        return Outcome::Mistaken;
     }
-    let c = o.command;
     match c {
-        1 => showing::list(sheet),
-        2 => showing::check(sheet),
-        3 => running::run(o, sheet, layout, widths, &names),
-        4 => nets::extract(o.sheet, sheet, &names, o.dot),
-        5 => comparing::compare(o, sheet, layout, widths, &names),
-        _ => showing::print_verilog(o.sheet, sheet),
+        Command::List(_) => showing::list(sheet),
+        Command::Check(_) => showing::check(sheet),
+        Command::Run(o) => running::run(o, sheet, layout, widths, &names),
+        Command::Extract(o) => nets::extract(o, sheet, &names),
+        Command::Compare(o) => comparing::compare(o, sheet, layout, widths, &names),
+        Command::Verilog(index) => showing::print_verilog(index, sheet),
     }
 }
 
 // A sheet's bytes, from the file's: refused, or handed to the command.
-fn with_bytes(o: Options, sheet: &[u8], view: &[u8], hex: bool) -> u8 {
+fn with_bytes(c: Command, sheet: &[u8], view: &[u8], hex: bool) -> Outcome {
     let r = sheet::read(sheet);
     if r.number != 0 || sheet.len() < 4 {
-        report::refuse(o.sheet, sheet, view, hex, r.number, r.place);
-        return 1;
+        report::refuse(options::sheet_of(c), sheet, view, hex, r.number, r.place);
+        return Outcome::Refused;
     }
     let layout = r.layout;
-    command(o, sheet, layout, &sheet[4..])
+    perform(c, sheet, layout, &sheet[4..])
 }
 
 // Hexadecimal text.
-fn with_text(o: Options, view: &[u8]) -> u8 {
+fn with_text(c: Command, view: &[u8]) -> Outcome {
+    let index = options::sheet_of(c);
     if view.len() >= 65536 {
-        report::wrong_with(
-            o.sheet,
-            b": hexadecimal text of 65,536 bytes or longer\n",
-            0,
-        );
-        return 2;
+        report::wrong_with(index, b": hexadecimal text of 65,536 bytes or longer\n", 0);
+        return Outcome::Mistaken;
     }
     let mut bytes = [0u8; 8193];
     let d = hextext::decode(view, &mut bytes);
     if d.error != 0 {
-        misread(o.sheet, d.line, d.column, d.error);
-        return 2;
+        misread(index, d.line, d.column, d.error);
+        return Outcome::Mistaken;
     }
     let length = d.length;
     if length > 8193 {
-        return 2;
+        return Outcome::Mistaken;
     }
-    with_bytes(o, &bytes[..length], view, true)
+    with_bytes(c, &bytes[..length], view, true)
 }
 
 // What is wrong with hexadecimal text.
@@ -113,40 +111,51 @@ fn misread(index: usize, line: usize, column: usize, error: u8) {
 }
 
 // A file's bytes: a sheet, or hexadecimal text.
-fn with_file(o: Options, view: &[u8]) -> u8 {
+fn with_file(c: Command, view: &[u8]) -> Outcome {
     if hextext::is_text(view) {
-        return with_text(o, view);
+        return with_text(c, view);
     }
-    with_bytes(o, view, view, false)
+    with_bytes(c, view, view, false)
 }
 
-// The command line's status: 0 done, 1 refused or different, 2 words or files that are wrong.
-fn done(o: Options) -> u8 {
-    if o.command == words::HELP {
-        help();
-        return 0;
-    }
-    if !words::right(o) {
-        usage();
-        return 2;
-    }
+// A command, from the file of its sheet on.
+fn carry_out(c: Command) -> Outcome {
     let mut source = [0u8; 65536];
-    let got = files::read_whole(o.sheet, &mut source);
+    let got = files::read_whole(options::sheet_of(c), &mut source);
     if !got.found {
-        return 2;
+        return Outcome::Mistaken;
     }
     let size = got.size;
     if size > 65536 {
-        return 2;
+        return Outcome::Mistaken;
     }
-    with_file(o, &source[..size])
+    with_file(c, &source[..size])
+}
+
+// What the words ask for.
+fn answer(r: Request) -> Outcome {
+    match r {
+        Request::Help => {
+            help();
+            Outcome::Done
+        }
+        Request::Short => {
+            usage();
+            Outcome::Mistaken
+        }
+        Request::Wrong(_) => {
+            usage();
+            Outcome::Mistaken
+        }
+        Request::Asked(c) => carry_out(c),
+    }
 }
 
 // A program of this kit has no exit status; where the words ask for it, the status is written to descriptor 3.
 fn main() {
     let o = words::asked();
-    let status = done(o);
-    if o.status {
+    let status = options::status_of(answer(options::judge(o)));
+    if options::wants_status(o) {
         io::print_decimal(3, status as u64);
     }
 }

@@ -5,6 +5,8 @@ use crate::say::say;
 use crate::showing::extracted;
 use crate::showing::find_waits;
 use libc::STDOUT_FILENO;
+use options::ExtractOptions;
+use options::Outcome;
 use sheet::Layout;
 
 // A node: of a graph, or where it is used more than once.
@@ -133,17 +135,17 @@ fn show(sheet: &[u8], nodes: &[u16; 16384], rows: &[u16; 1056], names: &[u8; 256
 }
 
 // `extract`: a sheet that is read.
-pub fn extract(index: usize, sheet: &[u8], names: &[u8; 2560], dot: bool) -> u8 {
+pub fn extract(o: ExtractOptions, sheet: &[u8], names: &[u8; 2560]) -> Outcome {
     let mut nodes = [0u16; 16384];
     let mut rows = [0u16; 1056];
     if !extracted(sheet, &mut nodes, &mut rows) {
-        report::refuse_extraction(index, sheet);
-        return 1;
+        report::refuse_extraction(o.sheet, sheet);
+        return Outcome::Refused;
     }
-    if dot {
+    if o.dot {
         graph(&nodes, names);
-        return 0;
+        return Outcome::Done;
     }
     show(sheet, &nodes, &rows, names);
-    0
+    Outcome::Done
 }

@@ -11,16 +11,17 @@ use crate::machine::Rest;
 use crate::report;
 use crate::say::say;
 use crate::showing::extracted;
-use crate::words::Options;
 use libc::STDERR_FILENO;
 use libc::STDOUT_FILENO;
+use options::Outcome;
+use options::RunOptions;
 use sheet::Layout;
 
 // Where a run has come to: whether it goes on, its status, the cycles done, how much text waits, what the inputs have left, and the
 // state.
 struct Course {
     on: bool,
-    status: u8,
+    outcome: Outcome,
     cycle: usize,
     pos: usize,
     feed: Feed,
@@ -28,11 +29,17 @@ struct Course {
 }
 
 // The run stops.
-fn stopped(c: Course, status: u8) -> Course {
-    let mut e = c;
-    e.on = false;
-    e.status = status;
-    e
+fn stopped(c: Course, outcome: Outcome) -> Course {
+    let feed = c.feed;
+    let rest = c.rest;
+    Course {
+        on: false,
+        outcome,
+        cycle: c.cycle,
+        pos: c.pos,
+        feed,
+        rest,
+    }
 }
 
 // Is it to be told how far the run has come? Where the words ask for it, or standard error is a terminal and the run is long.
@@ -63,7 +70,7 @@ fn moved(
         display::put_row(p, widths, names, c.cycle, st, text, c.pos)
     };
     let mut e = c;
-    e.cycle = feed::counted(c.cycle);
+    e.cycle = stimulus::counted(c.cycle);
     e.pos = display::spilled(text, pos);
     e.rest = rest;
     e
@@ -84,12 +91,12 @@ fn turn(
     let f = c.feed;
     let row = feed::next_row(p.index, f, buffer, widths, p.inputs);
     if row.kind != feed::FOUND {
-        return stopped(c, feed::status_of(row.kind));
+        return stopped(c, feed::outcome_of(row.kind));
     }
     let before = c.rest;
     let after = machine::whole(p, sheet, nodes, rows, widths, c.cycle, before, row);
     if !after.rested {
-        return stopped(c, 1);
+        return stopped(c, Outcome::Refused);
     }
     let f = row.feed;
     let mut e = c;
@@ -122,7 +129,13 @@ fn turns(
 }
 
 // The run is over: the last line where only that one is asked for, and what waits.
-fn finish(p: Plan, widths: &[u8], names: &[u8; 2560], c: Course, text: &mut [u8; 65536]) -> u8 {
+fn finish(
+    p: Plan,
+    widths: &[u8],
+    names: &[u8; 2560],
+    c: Course,
+    text: &mut [u8; 65536],
+) -> Outcome {
     let rest = c.rest;
     let st = rest.state;
     let pos = if p.last && c.cycle > 0 {
@@ -135,7 +148,7 @@ fn finish(p: Plan, widths: &[u8], names: &[u8; 2560], c: Course, text: &mut [u8;
     if told(p, c.cycle) {
         io::write_all(STDERR_FILENO, b"\n");
     }
-    c.status
+    c.outcome
 }
 
 // The table from its titles on.
@@ -148,12 +161,12 @@ fn tabulated(
     names: &[u8; 2560],
     fd: i32,
     rest: Rest,
-) -> u8 {
+) -> Outcome {
     let mut text = [0u8; 65536];
     let pos = display::put_titles(p, widths, names, &mut text);
     let course = Course {
         on: true,
-        status: 0,
+        outcome: Outcome::Done,
         cycle: 0,
         pos,
         feed: feed::over(fd),
@@ -164,50 +177,46 @@ fn tabulated(
 }
 
 // The run, from its start state and the expressions on.
-fn run_on(o: Options, p: Plan, sheet: &[u8], widths: &[u8], names: &[u8; 2560], fd: i32) -> u8 {
-    let rest = machine::begin(p, sheet, way_of(o), o.seed as u64);
+fn run_on(
+    o: RunOptions,
+    p: Plan,
+    sheet: &[u8],
+    widths: &[u8],
+    names: &[u8; 2560],
+    fd: i32,
+) -> Outcome {
+    let way = o.way;
+    let rest = machine::begin(p, sheet, way);
     if !rest.rested {
         report::wrong_with(
             o.sheet,
             b": not at rest after 65,535 choices from the start\n",
             0,
         );
-        return 1;
+        return Outcome::Refused;
     }
     let st = rest.state;
     display::begin_wave(p, widths, names, st);
     let mut nodes = [0u16; 16384];
     let mut rows = [0u16; 1056];
-    if o.by_expressions && !extracted(sheet, &mut nodes, &mut rows) {
+    if machine::is_expressed(way) && !extracted(sheet, &mut nodes, &mut rows) {
         report::refuse_extraction(o.sheet, sheet);
-        return 1;
+        return Outcome::Refused;
     }
     tabulated(p, sheet, &nodes, &rows, widths, names, fd, rest)
 }
 
-// In which way it runs.
-fn way_of(o: Options) -> u8 {
-    if o.by_expressions {
-        return machine::EXPRESSED;
-    }
-    if o.drawn {
-        machine::DRAWN
-    } else {
-        machine::PLAIN
-    }
-}
-
 // The waveform's descriptor, -1 where none is asked for; -2 where it could not be made.
-fn wave_of(o: Options) -> i32 {
-    if o.vcd == 0 {
+fn wave_of(index: usize) -> i32 {
+    if index == 0 {
         return -1;
     }
-    let fd = open_output(o.vcd);
+    let fd = open_output(index);
     if fd < 0 { -2 } else { fd }
 }
 
 // What a run goes by.
-pub fn plan_of(o: Options, layout: Layout, wave: i32) -> Plan {
+fn plan_of(o: RunOptions, layout: Layout, wave: i32) -> Plan {
     Plan {
         inputs: layout.inputs,
         registers: layout.registers,
@@ -222,14 +231,20 @@ pub fn plan_of(o: Options, layout: Layout, wave: i32) -> Plan {
 }
 
 // `run`: a sheet that is read, and its widths.
-pub fn run(o: Options, sheet: &[u8], layout: Layout, widths: &[u8], names: &[u8; 2560]) -> u8 {
+pub fn run(
+    o: RunOptions,
+    sheet: &[u8],
+    layout: Layout,
+    widths: &[u8],
+    names: &[u8; 2560],
+) -> Outcome {
     let fd = open_input(o.inputs);
     if fd < 0 {
-        return 2;
+        return Outcome::Mistaken;
     }
-    let wave = wave_of(o);
+    let wave = wave_of(o.vcd);
     if wave == -2 {
-        return 2;
+        return Outcome::Mistaken;
     }
     run_on(o, plan_of(o, layout, wave), sheet, widths, names, fd)
 }

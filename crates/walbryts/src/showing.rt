@@ -3,27 +3,28 @@ use crate::files::flush;
 use crate::report;
 use crate::say::say;
 use libc::STDOUT_FILENO;
+use options::Outcome;
 use pseudocode::Instruction;
 use sheet::Layout;
 
 // `list`: the listing of a sheet that is read.
-pub fn list(sheet: &[u8]) -> u8 {
+pub fn list(sheet: &[u8]) -> Outcome {
     let mut text = [0u8; 65536];
-    let length = listings::list(sheet, &mut text);
-    flush(STDOUT_FILENO, &text, length);
-    0
+    let listing = listings::list(sheet, &mut text);
+    flush(STDOUT_FILENO, &text, listing.length);
+    Outcome::Done
 }
 
 // `verilog`: the module as Verilog text.
-pub fn print_verilog(index: usize, sheet: &[u8]) -> u8 {
+pub fn print_verilog(index: usize, sheet: &[u8]) -> Outcome {
     let mut text = [0u8; 65536];
     let v = verilog::print(sheet, &mut text);
     if v.length >= 65536 {
         report::wrong_with(index, b": its Verilog is 65,536 bytes or longer\n", 0);
-        return 1;
+        return Outcome::Refused;
     }
     flush(STDOUT_FILENO, &text, v.length);
-    0
+    Outcome::Done
 }
 
 // ---- waits
@@ -136,11 +137,11 @@ fn say_counts(size: usize, layout: Layout) {
 }
 
 // `check`: what a sheet holds that is read.
-pub fn check(sheet: &[u8]) -> u8 {
+pub fn check(sheet: &[u8]) -> Outcome {
     let layout = sheet::read(sheet).layout;
     say_counts(sheet.len(), layout);
     let mut heads = [0usize; 32];
     let waits = find_waits(sheet, layout, true, &mut heads);
     say_extraction(sheet, waits);
-    0
+    Outcome::Done
 }

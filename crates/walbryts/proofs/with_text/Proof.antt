@@ -23,6 +23,7 @@ pub with-text-spec : {M : Type 1} → statement M
 with-text-spec =
     tie.close
     (tie.spec
+    (λ c κs. search needs)
     (λ c. search needs)
     (λ c κs. search needs)
     (λ c. search needs)

@@ -1,0 +1,32 @@
+-- `comparison::saying::put_agreement` meets its contract. Assumes nothing.
+use borrow.Author.Needs.{needs}
+use Rattle.writing.specs.Ascii.{ascii}
+use Rattle.writing.proofs.Buffer.{both}
+use Rattle.comparison.specs.Saying.{agreementLine}
+use Rattle.comparison.proofs.saying.put_agreement.Statement.{statement}
+use Rattle.comparison.proofs.saying.put_agreement.Tie as tie
+
+returns : tie.Need-returns
+unfolding ascii agreementLine
+returns c =
+    let b1 = c .before .before .before in
+    let b2 = b1 .before .before .before in
+    let b3 = b2 .before .before in
+    both _ _ _ _ _ (both _ _ _ _ _ (both _ _ _ _ _
+    (b3 .put-word .ensures)
+    (b2 .put-decimal .ensures))
+    (b1 .put-word2 .ensures))
+    (c .put-word3 .ensures)
+
+pub put-agreement-spec : {M : Type 1} → statement M
+put-agreement-spec =
+    tie.close
+    (tie.spec
+    (λ c. search needs)
+    (λ c κs. search needs)
+    (λ c κs. search needs)
+    (λ c. search needs)
+    (λ c κs. search needs)
+    (λ c. search needs)
+    (λ c κs. search needs)
+    returns)

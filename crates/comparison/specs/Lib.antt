@@ -1,0 +1,3 @@
+pub mod Comparison
+pub mod Verdicts
+pub mod Saying

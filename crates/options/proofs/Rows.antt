@@ -1,0 +1,45 @@
+-- The rows of the definitions that a seed and a command go by. Assumes nothing.
+use mathlib.Core.Path.{_≡_}
+use mathlib.Core.Bool.{true, false}
+use mathlib.Core.List.{List}
+use Prim.Native.Nat.{ℕ, _<_, _≤_}
+use borrow.Author.Tests.{lt-ltb, le-ltb, eq-eqb, ne-eqb}
+use lib.ListN.{length}
+use Rattle.stimulus.specs.declared.Number.{Number}
+use Rattle.stimulus.specs.Numbers.{numberOf}
+use Rattle.options.specs.declared.Options.{Options}
+use Rattle.options.specs.declared.Command.the-variants.{Run, Extract}
+use Rattle.options.specs.Options.{noted, misplaced, withSeed, seeded}
+use Rattle.options.specs.Requests.{wordOf, isGiven, runOf, commanded}
+
+-- ---- seeded
+
+module _ (o : Options) (word : List ℕ) where
+  pub seeded-empty : length word ≡ 0 → misplaced o ≡ seeded o word
+  unfolding seeded
+  seeded-empty h = rw (eq-eqb (length word) 0 h)
+
+  module _ (h : length word ≡ 0 → ⊥) (a : Number) (e : a ≡ numberOf false word) where
+    pub seeded-bad : a .good ≡ false → misplaced o ≡ seeded o word
+    unfolding seeded
+    seeded-bad g = rw (ne-eqb (length word) 0 h, ← e, g)
+
+    pub seeded-long : a .good ≡ true → 4294967296 ≤ a .n → misplaced o ≡ seeded o word
+    unfolding seeded
+    seeded-long g l = rw (ne-eqb (length word) 0 h, ← e, g, le-ltb (a .n) 4294967296 l)
+
+    pub seeded-is : a .good ≡ true → a .n < 4294967296 → withSeed (noted o 3) (a .n) ≡ seeded o word
+    unfolding seeded
+    seeded-is g l = rw (ne-eqb (length word) 0 h, ← e, g, lt-ltb (a .n) 4294967296 l)
+
+-- ---- commanded, where the options of a command are made first
+
+module _ (o : Options) where
+  pub commanded-run : o .command ≡ 3 → Run (runOf o) ≡ commanded o
+  unfolding commanded
+  commanded-run e = rw e
+
+  pub commanded-extract :
+      o .command ≡ 4 → Extract (record { sheet = wordOf o 11; names = wordOf o 2; dot = isGiven o 7 }) ≡ commanded o
+  unfolding commanded
+  commanded-extract e = rw e

@@ -1,0 +1,4 @@
+pub mod Tables
+pub mod Options
+pub mod Requests
+pub mod Status

@@ -1,0 +1,211 @@
+// What all words ask for, and the status of what came of it.
+use crate::Command;
+use crate::CompareOptions;
+use crate::ExtractOptions;
+use crate::Options;
+use crate::Outcome;
+use crate::Request;
+use crate::RunOptions;
+use crate::Way;
+use crate::tables::goes_with;
+use crate::tables::is_fed;
+ghost use mathlib.Core.Path.{_≡_};
+ghost use lib.ListN.{getD};
+ghost use Rattle.options.specs.Requests.{isGiven, isMisfit, misfit, isShort, wayOf, runOf, clashing, commanded, request, sheetOf, namesOf};
+ghost use Rattle.options.specs.Status.{statusOf};
+
+// The number of a slot's word, 0 where it is not given.
+fn word_at(at: &[usize], slot: usize) -> usize
+    ensures { λ r. ⌜ r ≡ getD (now (at .entry)) slot 0 ⌝ }
+{
+    if slot < at.len() { at[slot] } else { 0 }
+}
+
+fn word_of(o: Options, slot: usize) -> usize
+    ensures { λ r. ⌜ r ≡ getD (o .at) slot 0 ⌝ }
+{
+    word_at(&o.at, slot)
+}
+
+fn is_given(o: Options, slot: usize) -> bool
+    ensures { λ r. ⌜ r ≡ isGiven o slot ⌝ }
+{
+    word_of(o, slot) != 0
+}
+
+// Is a slot given by a word, and does not go with the command?
+fn is_misfit(command: u8, slot: usize, n: usize) -> bool
+    ensures { λ r. ⌜ r ≡ isMisfit command slot n ⌝ }
+{
+    if n == 0 {
+        return false;
+    }
+    !goes_with(command, slot)
+}
+
+// The word of the first slot that is given and does not go with the command, 0 where all do.
+fn misfit(command: u8, at: [usize; 13]) -> usize
+    ensures { λ r. ⌜ r ≡ misfit command 0 at ⌝ }
+{
+    let mut k: usize = 0;
+    while k < 13 {
+        let n = at[k];
+        if is_misfit(command, k, n) {
+            return n;
+        }
+        k += 1;
+    }
+    0
+}
+
+// Is a word missing: the command, the sheet, the inputs, or what an option wants?
+fn is_short(o: Options) -> bool
+    ensures { λ r. ⌜ r ≡ isShort o ⌝ }
+{
+    if o.wants != 0 {
+        return true;
+    }
+    if o.command == 0 {
+        return true;
+    }
+    if !is_given(o, 11) {
+        return true;
+    }
+    if !is_fed(o.command) {
+        return false;
+    }
+    !is_given(o, 12)
+}
+
+// By which way a run goes.
+fn way_of(o: Options) -> Way
+    ensures { λ r. ⌜ r ≡ wayOf o ⌝ }
+{
+    if is_given(o, 4) {
+        return Way::Expressed;
+    }
+    if is_given(o, 3) {
+        return Way::Drawn(o.seed);
+    }
+    Way::Plain
+}
+
+fn run_of(o: Options) -> RunOptions
+    ensures { λ r. ⌜ r ≡ runOf o ⌝ }
+{
+    let way = way_of(o);
+    RunOptions {
+        sheet: word_of(o, 11),
+        inputs: word_of(o, 12),
+        names: word_of(o, 2),
+        vcd: word_of(o, 1),
+        way,
+        wires: is_given(o, 5),
+        last: is_given(o, 6),
+        progress: is_given(o, 8),
+    }
+}
+
+// A command with its options, all in place.
+fn commanded(o: Options) -> Command
+    ensures { λ r. ⌜ r ≡ commanded o ⌝ }
+{
+    let sheet = word_of(o, 11);
+    let command = o.command;
+    match command {
+        1 => Command::List(sheet),
+        2 => Command::Check(sheet),
+        3 => Command::Run(run_of(o)),
+        4 => Command::Extract(ExtractOptions {
+            sheet,
+            names: word_of(o, 2),
+            dot: is_given(o, 7),
+        }),
+        5 => Command::Compare(CompareOptions {
+            sheet,
+            inputs: word_of(o, 12),
+        }),
+        _ => Command::Verilog(sheet),
+    }
+}
+
+// Are there both a seed and `--by-expressions`?
+fn clashing(o: Options) -> bool
+    ensures { λ r. ⌜ r ≡ clashing o ⌝ }
+{
+    if is_given(o, 3) {
+        return is_given(o, 4);
+    }
+    false
+}
+
+// What all words ask for.
+pub fn judge(o: Options) -> Request
+    ensures { λ r. ⌜ r ≡ request o ⌝ }
+{
+    if is_given(o, 10) {
+        return Request::Help;
+    }
+    if o.wrong != 0 {
+        return Request::Wrong(o.wrong);
+    }
+    if is_short(o) {
+        return Request::Short;
+    }
+    let at = o.at;
+    let n = misfit(o.command, at);
+    if n != 0 {
+        return Request::Wrong(n);
+    }
+    if clashing(o) {
+        return Request::Wrong(word_of(o, 4));
+    }
+    Request::Asked(commanded(o))
+}
+
+// Is the status asked for?
+pub fn wants_status(o: Options) -> bool
+    ensures { λ r. ⌜ r ≡ isGiven o 9 ⌝ }
+{
+    is_given(o, 9)
+}
+
+// The word that names a command's sheet.
+pub fn sheet_of(c: Command) -> usize
+    ensures { λ r. ⌜ r ≡ sheetOf c ⌝ }
+{
+    match c {
+        Command::List(sheet) => sheet,
+        Command::Check(sheet) => sheet,
+        Command::Run(o) => o.sheet,
+        Command::Extract(o) => o.sheet,
+        Command::Compare(o) => o.sheet,
+        Command::Verilog(sheet) => sheet,
+    }
+}
+
+// The word that names a command's names file, 0 where there is none.
+pub fn names_of(c: Command) -> usize
+    ensures { λ r. ⌜ r ≡ namesOf c ⌝ }
+{
+    match c {
+        Command::List(_) => 0,
+        Command::Check(_) => 0,
+        Command::Run(o) => o.names,
+        Command::Extract(o) => o.names,
+        Command::Compare(_) => 0,
+        Command::Verilog(_) => 0,
+    }
+}
+
+// The status of a command's end.
+pub fn status_of(e: Outcome) -> u8
+    ensures { λ r. ⌜ r ≡ statusOf e ⌝ }
+{
+    match e {
+        Outcome::Done => 0,
+        Outcome::Refused => 1,
+        Outcome::Different => 1,
+        Outcome::Mistaken => 2,
+    }
+}

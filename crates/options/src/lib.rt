@@ -1,0 +1,271 @@
+// What the words of a command line ask for: taken one by one, and judged at the end. Each function equals its definition in specs/,
+// for every word. An option is a row of a table: a slot that keeps the number of the word it is given by.
+mod judging;
+mod tables;
+
+pub use judging::judge;
+pub use judging::names_of;
+pub use judging::sheet_of;
+pub use judging::status_of;
+pub use judging::wants_status;
+use stimulus::number_of;
+use tables::command_of;
+use tables::option_of;
+ghost use mathlib.Core.Path.{_≡_};
+ghost use Rattle.options.specs.Options.{nothing, advanced, noted, wanting, misplaced, seeded, filled, isDashed, placed, fresh, taken};
+
+// What the words so far have asked for: how many there are, the command's number or 0, the slot whose word is to come or 0, the first
+// word that is out of place or 0, the seed, and the slots.
+pub struct Options {
+    pub words: usize,
+    pub command: u8,
+    pub wants: usize,
+    pub wrong: usize,
+    pub seed: u32,
+    pub at: [usize; 13],
+}
+
+// By which of the three ways a run goes: the plain run, choices drawn by a seed, or the extracted expressions.
+pub enum Way {
+    Plain,
+    Drawn(u32),
+    Expressed,
+}
+
+// `run`: the numbers of the words that name files, 0 where there is none, and what is to be shown.
+pub struct RunOptions {
+    pub sheet: usize,
+    pub inputs: usize,
+    pub names: usize,
+    pub vcd: usize,
+    pub way: Way,
+    pub wires: bool,
+    pub last: bool,
+    pub progress: bool,
+}
+
+pub struct ExtractOptions {
+    pub sheet: usize,
+    pub names: usize,
+    pub dot: bool,
+}
+
+pub struct CompareOptions {
+    pub sheet: usize,
+    pub inputs: usize,
+}
+
+// A command with its options.
+pub enum Command {
+    List(usize),
+    Check(usize),
+    Run(RunOptions),
+    Extract(ExtractOptions),
+    Compare(CompareOptions),
+    Verilog(usize),
+}
+
+// What all words ask for: help, a command, or nothing that can be done: a word is missing, or this word is out of place.
+pub enum Request {
+    Help,
+    Short,
+    Wrong(usize),
+    Asked(Command),
+}
+
+// How a command ends.
+pub enum Outcome {
+    Done,
+    Refused,
+    Different,
+    Mistaken,
+}
+
+// ---- what a word changes
+
+// Before the first word.
+pub fn begin() -> Options
+    ensures { λ r. ⌜ r ≡ nothing ⌝ }
+{
+    Options {
+        words: 0,
+        command: 0,
+        wants: 0,
+        wrong: 0,
+        seed: 0,
+        at: [0usize; 13],
+    }
+}
+
+// One word more.
+fn advanced(o: Options) -> Options
+    ensures { λ r. ⌜ r ≡ advanced o ⌝ }
+{
+    let at = o.at;
+    Options {
+        words: stimulus::counted(o.words),
+        command: o.command,
+        wants: 0,
+        wrong: o.wrong,
+        seed: o.seed,
+        at,
+    }
+}
+
+// A slot is given by the last word.
+fn noted(o: Options, slot: usize) -> Options
+    ensures { λ r. ⌜ r ≡ noted o slot ⌝ }
+{
+    if 13 <= slot {
+        return o;
+    }
+    let mut at = o.at;
+    at[slot] = o.words;
+    Options {
+        words: o.words,
+        command: o.command,
+        wants: o.wants,
+        wrong: o.wrong,
+        seed: o.seed,
+        at,
+    }
+}
+
+// A slot wants the next word.
+fn wanting(o: Options, slot: usize) -> Options
+    ensures { λ r. ⌜ r ≡ wanting o slot ⌝ }
+{
+    let at = o.at;
+    Options {
+        words: o.words,
+        command: o.command,
+        wants: slot,
+        wrong: o.wrong,
+        seed: o.seed,
+        at,
+    }
+}
+
+// The last word is out of place; the first such word counts.
+fn misplaced(o: Options) -> Options
+    ensures { λ r. ⌜ r ≡ misplaced o ⌝ }
+{
+    if o.wrong != 0 {
+        return o;
+    }
+    let at = o.at;
+    Options {
+        words: o.words,
+        command: o.command,
+        wants: o.wants,
+        wrong: o.words,
+        seed: o.seed,
+        at,
+    }
+}
+
+// ---- words
+
+// The seed is given by a word: a decimal number below 2^32.
+fn seeded(o: Options, word: &[u8]) -> Options
+    ensures { λ r. ⌜ r ≡ seeded o (now (word .entry)) ⌝ }
+{
+    let a = number_of(false, word, 0);
+    let n = a.n;
+    if word.len() == 0 {
+        return misplaced(o);
+    }
+    if !a.good {
+        return misplaced(o);
+    }
+    if 4294967296 <= n {
+        return misplaced(o);
+    }
+    let b = noted(o, 3);
+    let at = b.at;
+    Options {
+        words: b.words,
+        command: b.command,
+        wants: b.wants,
+        wrong: b.wrong,
+        seed: n as u32,
+        at,
+    }
+}
+
+// The word that a slot wants.
+fn filled(o: Options, slot: usize, word: &[u8]) -> Options
+    ensures { λ r. ⌜ r ≡ filled o slot (now (word .entry)) ⌝ }
+{
+    if slot == 3 {
+        return seeded(o, word);
+    }
+    noted(o, slot)
+}
+
+// Does the word start with `-` and go on?
+fn is_dashed(word: &[u8]) -> bool
+    ensures { λ r. ⌜ r ≡ isDashed (now (word .entry)) ⌝ }
+{
+    if word.len() < 2 {
+        return false;
+    }
+    word[0] == b'-'
+}
+
+// A word that is no option: the command, the sheet, the inputs.
+fn placed(o: Options, word: &[u8]) -> Options
+    ensures { λ r. ⌜ r ≡ placed o (now (word .entry)) ⌝ }
+{
+    if o.command == 0 {
+        let command = command_of(word);
+        if command == 0 {
+            return misplaced(o);
+        }
+        let at = o.at;
+        return Options {
+            words: o.words,
+            command,
+            wants: o.wants,
+            wrong: o.wrong,
+            seed: o.seed,
+            at,
+        };
+    }
+    let at = o.at;
+    if at[11] == 0 {
+        return noted(o, 11);
+    }
+    if at[12] == 0 {
+        return noted(o, 12);
+    }
+    misplaced(o)
+}
+
+// A word that no slot wants.
+fn fresh(o: Options, word: &[u8]) -> Options
+    ensures { λ r. ⌜ r ≡ fresh o (now (word .entry)) ⌝ }
+{
+    let slot = option_of(word);
+    if 3 < slot {
+        return noted(o, slot);
+    }
+    if 0 < slot {
+        return wanting(o, slot);
+    }
+    if is_dashed(word) {
+        return misplaced(o);
+    }
+    placed(o, word)
+}
+
+// The next word.
+pub fn take(o: Options, word: &[u8]) -> Options
+    ensures { λ r. ⌜ r ≡ taken o (now (word .entry)) ⌝ }
+{
+    let n = advanced(o);
+    if o.wants == 0 {
+        return fresh(n, word);
+    }
+    filled(n, o.wants, word)
+}
