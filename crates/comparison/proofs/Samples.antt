@@ -53,7 +53,8 @@ unfolding difference firstFrom valuesDiffer placesDiffer valueOf placeOf valueAt
 sample-nowhere = refl
 
 -- A register, and after it a wire and a place: the register.
-pub sample-register : difference counts (sample (1 ∷ 5 ∷ 6 ∷ 0 ∷ 0 ∷ []) known (0 ∷ 0 ∷ 0 ∷ [])) expressed ≡ Variable 2 (Known 6) (Known 7)
+pub sample-register :
+    difference counts (sample (1 ∷ 5 ∷ 6 ∷ 0 ∷ 0 ∷ []) known (0 ∷ 0 ∷ 0 ∷ [])) expressed ≡ Variable 2 (Known 6) (Known 7)
 unfolding difference firstFrom valuesDiffer placesDiffer valueOf placeOf valueAt same
 sample-register = refl
 

@@ -11,7 +11,8 @@ use crate::tables::goes_with;
 use crate::tables::is_fed;
 ghost use mathlib.Core.Path.{_≡_};
 ghost use lib.ListN.{getD};
-ghost use Rattle.options.specs.Requests.{isGiven, isMisfit, misfit, isShort, wayOf, runOf, clashing, commanded, request, sheetOf, namesOf};
+ghost use Rattle.options.specs.Requests.{isGiven, isMisfit, misfit, isShort, wayOf, runOf, clashing, commanded};
+ghost use Rattle.options.specs.Requests.{request, sheetOf, namesOf};
 ghost use Rattle.options.specs.Status.{statusOf};
 
 // The number of a slot's word, 0 where it is not given.

@@ -47,7 +47,8 @@ returns-2 c =
     let start = at-loop .before in
     let a = start .args in
     let g : length (a .t2) ≡ 3 = start .good .1 .0 .1 .0 .1 in
-    sym (finding-none (a .m) (a .expressed) (a .t2) (a .expressed) (at-loop .loop .k) (omega (arith, c .loop-test .left))) ∙ at-loop .loop .inv
+    sym (finding-none (a .m) (a .expressed) (a .t2) (a .expressed) (at-loop .loop .k)
+    (omega (arith, c .loop-test .left))) ∙ at-loop .loop .inv
 
 pub compare-spec : {M : Type 1} → statement M
 compare-spec =

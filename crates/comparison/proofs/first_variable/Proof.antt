@@ -1,4 +1,5 @@
--- `comparison::first_variable` meets its contract. The loop's invariant: the search from `v` on finds what the whole finds. Assumes nothing.
+-- `comparison::first_variable` meets its contract. The loop's invariant: the search from `v` on finds what the whole finds.
+-- Assumes nothing.
 use borrow.Author.Needs.{needs}
 use Prim.Native.Nat.{ℕ, _-_}
 use mathlib.Core.Bool.{Bool, not}

@@ -21,7 +21,8 @@ returns-3 c =
     let at-good = c .before .before in
     let at-empty = at-good .before .before in
     c .misplaced3 .ensures
-    ∙ seeded-long _ _ (at-empty .if1 .left) _ (at-empty .before .number-of .ensures) (not-false _ (at-good .if2 .left)) (c .before .if3 .taken)
+    ∙ seeded-long _ _ (at-empty .if1 .left) _ (at-empty .before .number-of .ensures)
+    (not-false _ (at-good .if2 .left)) (c .before .if3 .taken)
 
 returns-4 : tie.Need-returns-4
 unfolding withSeed

@@ -48,7 +48,8 @@ returns-3 c =
     let at-loop = c .before in
     let l = at-loop .loop in
     let a = at-loop .before .before .args in
-    sym (sameText-rest (a .word .now) (a .text .now) (l .i) (omega (arith, c .loop-test .left)) (omega (arith, c .loop-test .left, l .inv .0)))
+    sym (sameText-rest (a .word .now) (a .text .now) (l .i) (omega (arith, c .loop-test .left))
+    (omega (arith, c .loop-test .left, l .inv .0)))
     ∙ l .inv .2
 
 pub is-word-spec : {M : Type 1} → statement M

@@ -13,21 +13,24 @@ returns-2 : tie.Need-returns-2
 unfolding waiting
 returns-2 c =
     let at-end = c .before in
-    rw (← at-end .before .line-end .ensures, le-ltb _ _ (at-end .if1 .left), not-true (at-end .before .before .before .args .ended) (c .if2 .taken))
+    let ended = at-end .before .before .before .args .ended in
+    rw (← at-end .before .line-end .ensures, le-ltb _ _ (at-end .if1 .left), not-true ended (c .if2 .taken))
 
 returns-3 : tie.Need-returns-3
 unfolding waiting
 returns-3 c =
     let at-more = c .before in
     let at-end = at-more .before in
-    rw (← at-end .before .line-end .ensures, le-ltb _ _ (at-end .if1 .left), not-false (at-end .before .before .before .args .ended) (at-more .if2 .left), lt-ltb _ _ (c .if3 .taken))
+    let ended = at-end .before .before .before .args .ended in
+    rw (← at-end .before .line-end .ensures, le-ltb _ _ (at-end .if1 .left), not-false ended (at-more .if2 .left), lt-ltb _ _ (c .if3 .taken))
 
 returns-4 : tie.Need-returns-4
 unfolding waiting
 returns-4 c =
     let at-more = c .before in
     let at-end = at-more .before in
-    rw (← at-end .before .line-end .ensures, le-ltb _ _ (at-end .if1 .left), not-false (at-end .before .before .before .args .ended) (at-more .if2 .left), le-ltb _ _ (c .if3 .left))
+    let ended = at-end .before .before .before .args .ended in
+    rw (← at-end .before .line-end .ensures, le-ltb _ _ (at-end .if1 .left), not-false ended (at-more .if2 .left), le-ltb _ _ (c .if3 .left))
 
 pub find-line-spec : {M : Type 1} → statement M
 find-line-spec = tie.close (tie.spec (λ c κs. search needs) returns returns-2 returns-3 returns-4)
