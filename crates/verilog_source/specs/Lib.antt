@@ -1,0 +1,4 @@
+pub mod Names
+pub mod Written
+pub mod Compiled
+pub mod Claims
