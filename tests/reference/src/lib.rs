@@ -10,6 +10,7 @@ pub mod state;
 pub mod machine;
 pub mod simulator;
 pub mod cycles;
+pub mod dispatch;
 pub mod extraction;
 pub mod values;
 pub mod compiler;

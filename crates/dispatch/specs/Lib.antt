@@ -1,0 +1,4 @@
+pub mod Dispatch
+pub mod Turn
+pub mod Planes
+pub mod Claims
