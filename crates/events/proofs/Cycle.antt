@@ -4,7 +4,7 @@
 use mathlib.Core.Path.{_≡_, refl, sym, ap, _∙_}
 use mathlib.Core.Logic.{_≢_}
 use mathlib.Core.Bool.{Bool, true, false, _&&_, _||_, or-true, or-false}
-use mathlib.Core.List.{[], _∷_}
+use mathlib.Core.List.{List, [], _∷_}
 use mathlib.Core.Option.{Option, none, some}
 use Prim.Native.Nat.{ℕ, zero, suc, _+_, _-_, _≤_, _<_}
 use native.Mathlib.Decide.{decLe, decLt}
@@ -14,7 +14,9 @@ use borrow.Author.Tests.{not-true, not-false, ltb-true, ltb-false}
 use lib.Dec.{ltb}
 use Rattle.values.specs.declared.Value.{Value}
 use Rattle.values.specs.Values.{pick, same}
+use Rattle.values.proofs.Edges.{fires-refl}
 use Rattle.values.proofs.Values.{same→≡, same→≢, ≡→same, ≢→same}
+use Rattle.sheet.specs.declared.EdgeTerm.{EdgeTerm}
 use Rattle.sheet.specs.Expression.{Expr, unknown}
 use Rattle.sheet.specs.Statement.{empty}
 use Rattle.sheet.specs.Module.{Module}
@@ -28,7 +30,7 @@ use Rattle.state.proofs.Accessors.{pending-withoutPending-same, pending-without
 use Rattle.state.proofs.Accessors.{place-withPlace-same, place-withPlace-other, value-withPlace, pending-withPlace, due-withPlace, time-withPlace, count-withPlace, shaped-withPlace}
 use Rattle.state.proofs.Accessors.{due-withDue-same, due-withDue-other, value-withDue, pending-withDue, place-withDue, time-withDue, count-withDue, shaped-withDue}
 use Rattle.soundness.specs.Soundness.{Sound}
-use Rattle.events.specs.Cycle.{variables, codeOf, instrAt, current, wireExpr, anyBelow, allBelow, changed, waitFires, fireBelow, touched, markBelow, react, storeOne, storePending, storeInputs}
+use Rattle.events.specs.Cycle.{variables, codeOf, instrAt, current, wireExpr, anyBelow, allBelow, changed, termsFire, waitFires, fireBelow, touched, markBelow, react, storeOne, storePending, storeInputs}
 use Rattle.events.specs.Steps.{latest}
 
 -- ---- Bool
@@ -51,6 +53,15 @@ or-left false t h = refl
 pub or-right : (s t : Bool) → (s || t) ≡ false → t ≡ false
 or-right true t h = absurd-bool refl h
 or-right false t h = h
+
+-- ---- "Each change of values then fires the waits": no wait fires where the variables that it names keep their values
+
+pub terms-quiet : (f g : ℕ → Value) (ts : List EdgeTerm) (other : EdgeTerm)
+    → ((k : ℕ) → k < length ts → g (getD ts k other .variable) ≡ f (getD ts k other .variable)) → termsFire ts f g ≡ false
+unfolding termsFire
+terms-quiet f g [] other h = refl
+terms-quiet f g (t ∷ ts) other h =
+    rw (h 0 (omega arith), fires-refl (t .edge) (f (t .variable))) (terms-quiet f g ts other (λ k l. h (suc k) (omega arith)))
 
 -- ---- anyBelow, allBelow, as facts both ways
 

@@ -24,7 +24,7 @@ use Rattle.state.specs.State.{Shaped, valueOf, withValue, withPlanes, placeOf, 
 use Rattle.state.proofs.Accessors.{value-withValue-same, value-withValue-other, due-withValue}
 use Rattle.events.specs.Cycle.{variables, codeOf, instrAt, current, wireExpr, anyBelow, changed, waitFires}
 use Rattle.events.specs.Cycle.{fireBelow, touched, react}
-use Rattle.events.proofs.Cycle.{or-left, or-right, any-below, any-same, changed-≡, touched-none, wireExpr-past}
+use Rattle.events.proofs.Cycle.{or-left, or-right, any-below, any-same, changed-≡, touched-none, wireExpr-past, terms-quiet}
 use Rattle.events.proofs.Cycle.{kept-markBelow, shaped-react, due-react}
 use Rattle.changes.specs.Scene.{scene, valuesIn}
 use Rattle.changes.specs.Changes.{Changing, changing, fire, stored, put, finish, store}
@@ -32,7 +32,7 @@ use Rattle.engine.specs.Live.{Plan}
 use Rattle.refinement.specs.Refinement.{readyIn, sceneOf, PlanOf}
 use Rattle.refinement.proofs.Kept.{Kept, kept-withValue}
 use Rattle.refinement.proofs.Ready.{ready-places}
-use Rattle.refinement.proofs.Firing.{seen, terms-quiet, fire-seen}
+use Rattle.refinement.proofs.Firing.{seen, fire-seen}
 
 -- ---- one variable's new value, and what it touches
 

@@ -11,7 +11,6 @@ use borrow.Author.Tests.{lt-ltb, ltb-false}
 use Rattle.values.specs.declared.Value.{Value}
 use Rattle.values.specs.Values.{pick}
 use Rattle.values.specs.Edges.{fires}
-use Rattle.values.proofs.Edges.{fires-refl}
 use Rattle.sheet.specs.declared.EdgeTerm.{EdgeTerm}
 use Rattle.sheet.specs.Expression.{Expr}
 use Rattle.sheet.specs.Module.{Module}
@@ -79,16 +78,6 @@ module _ (f g : ℕ → Value) where
       ap (λ n. anyBelow n (termFires (termsOf ts) f g)) (eight-same (length ts) h)
       ∙ any-same (termFires (termsOf ts) f g) (λ k. fires-on (getD ts k noTerm)) (length ts) (λ k l. rw (term-of ts k h))
       ∙ terms-fire ts noTerm
-
-  -- No wait fires where the variables that it names keep their values.
-  pub terms-quiet :
-      (ts : List EdgeTerm) (other : EdgeTerm) →
-      ((k : ℕ) → k < length ts → g (getD ts k other .variable) ≡ f (getD ts k other .variable)) → termsFire ts f g ≡ false
-  unfolding termsFire
-  terms-quiet [] other h = refl
-  terms-quiet (t ∷ ts) other h =
-      rw (h 0 (omega arith), fires-refl (t .edge) (f (t .variable)))
-      (terms-quiet ts other (λ k l. h (suc k) (omega arith)))
 
 module _ {s ws : List ℕ} where
   pub waiting-fetched : {x : Instr Expr} {y : Instruction} → Fetched s ws x y → waiting y ≡ isWait x
