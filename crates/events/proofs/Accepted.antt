@@ -66,7 +66,7 @@ judged-taken s st call numbered h = by (read s) refl h
     by (no n p) e z = let l = numbered n p e .0 in absurd (omega arith)
 
 -- On a sheet that was read and a state that fits it, a call is the call on the module.
-judged-fits : (s : List ℕ) (m : Module Expr) (st : State) (call : Module Expr → Chosen) → Accepts s st m →
+pub judged-fits : (s : List ℕ) (m : Module Expr) (st : State) (call : Module Expr → Chosen) → Accepts s st m →
     judged (read s) st (refusing st) call ≡ call m
 unfolding judged
 judged-fits s m st call k = rw (k .reads, k .fits) refl

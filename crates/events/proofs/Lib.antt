@@ -1,8 +1,10 @@
 pub mod Cycle
 pub mod Choices
+pub mod Tests
 pub mod Steps
 pub mod Fits
 pub mod Runs
 pub mod Samples
 pub mod Accepted
 pub mod Refused
+pub mod Numbers

@@ -21,6 +21,7 @@ use Rattle.state.specs.declared.State.{State}
 use Rattle.state.specs.State.{withPlanes, withSlots, withPlaces, withMarks, withCounters, valueOf, withValue, pendingOf, withPending, withoutPending, placeOf, withPlace, isDue, withDue}
 use Rattle.events.specs.declared.Inputs.{Inputs}
 use Rattle.events.specs.Cycle.{variables, codeOf, instrAt, current, wireExpr, wireVariable, anyBelow, allBelow, isWait, threadEnabled, items, enabled, anyEnabled, isSome, anyPending, quiet, changed, termsFire, waitFires, fireBelow, touched, markBelow, react, runInstr, runThread, runWire, storeOne, storePending, commit, storeInputs, feed}
+use Rattle.events.specs.Rows.{wholeRows}
 use Rattle.events.specs.Calls.{dueBelow, started, widthOf, answer, spend, counted, timed, refusal, performed, chooseIn, onward, runIn, inputOf, inputsFit, instantRefusal, instantIn}
 
 -- Variable 0 is the clock, and the only input. Register r of width 8 is variable r + 1.
@@ -122,3 +123,17 @@ pub posedge-fires :
     × (instantIn rising (withValue (started 0) 0 (Known 0)) (clock 0 true) .number ≡ 0)
 unfolding fits same becomes fires valueAt numberOf isUnknown size eval reads translate threadCode withPlanes withSlots withPlaces withMarks withCounters valueOf withValue pendingOf withPending withoutPending placeOf withPlace isDue withDue variables codeOf instrAt current wireExpr wireVariable anyBelow allBelow isWait threadEnabled items enabled anyEnabled isSome anyPending quiet changed termsFire waitFires fireBelow touched markBelow react runInstr runThread runWire storeOne storePending commit storeInputs feed dueBelow started widthOf answer spend counted timed refusal performed chooseIn onward runIn inputOf inputsFit instantRefusal instantIn
 posedge-fires = (refl, refl, refl, refl, refl, refl)
+
+-- ---- 25: rows that aren't filled, flags that are too few or too many
+
+pub whole-rows :
+    (wholeRows [] [] ≡ true) × (wholeRows (replicate 16 0) (replicate 16 false) ≡ true)
+    × (wholeRows (replicate 32 7) (replicate 32 true) ≡ true)
+unfolding wholeRows
+whole-rows = (refl, refl, refl)
+
+pub ragged-rows :
+    (wholeRows (replicate 15 0) (replicate 15 false) ≡ false) × (wholeRows (replicate 17 0) (replicate 17 false) ≡ false)
+    × (wholeRows (replicate 32 0) (replicate 16 false) ≡ false) × (wholeRows (replicate 16 0) (replicate 17 false) ≡ false)
+unfolding wholeRows
+ragged-rows = (refl, refl, refl, refl)

@@ -2,6 +2,8 @@ pub mod Cycle
 pub mod Verdict
 pub mod Calls
 pub mod Steps
+pub mod Tests
 pub mod Runs
 pub mod Refused
+pub mod Numbers
 pub mod Rows
