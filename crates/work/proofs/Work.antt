@@ -20,7 +20,7 @@ use Rattle.events.specs.Calls.{stateFits, judged, timed, chooseIn, choose, plai
 use Rattle.events.specs.Steps.{Step, Instant}
 use Rattle.events.proofs.Choices.{number-instantIn, instantIn-accepted, shaped-timed, shaped-feed, shaped-chooseIn}
 use Rattle.events.proofs.Fits.{Fits, fits-state, state-fits, fits-chooseIn, fits-instantIn}
-use Rattle.events.proofs.Accepted.{accepted-choice, accepted-instant}
+use Rattle.events.proofs.Accepted.{demand-2}
 use Rattle.nextstate.proofs.Numbers.{accepted, extracted-rule}
 use Rattle.nextstate.specs.Ruled.{Ruled}
 use Rattle.nextstate.proofs.Ruled.{ruled}
@@ -77,11 +77,11 @@ module _ (s : List ℕ) (m : Module Expr) (r : read s ≡ ok m) (R : Ruled m) wh
 
   exact-instant : (st : State) → Shaped st → (a : Inputs) → instant s st a .number ≡ 0 → Exact s m st (instant s st a .state)
   exact-instant st shaped a h =
-      let A = accepted-instant s st a shaped h in
-      let e : A .0 ≡ m = ok-injective (sym (A .1) ∙ r) in
-      let f : stateFits m st ≡ true = subst (λ (x : Module Expr). stateFits x st ≡ true) e (A .2) in
+      let A = demand-2 .accepted-instant s st a shaped h in
+      let e : A .0 ≡ m = ok-injective (sym (A .1 .reads) ∙ r) in
+      let f : stateFits m st ≡ true = subst (λ (x : Module Expr). stateFits x st ≡ true) e (A .1 .fits) in
       let new = instant s st a .state in
-      let I : Instant m st new (inputOf a) = subst (λ (x : Module Expr). Instant x st new (inputOf a)) e (A .3) in
+      let I : Instant m st new (inputOf a) = subst (λ (x : Module Expr). Instant x st new (inputOf a)) e (A .2) in
       let same = sym (instant-sheet st a f) in
       exact-fresh st new
       (subst (λ (x : Chosen). Shaped (x .state)) same (shaped-instant st a shaped (ap (λ (x : Chosen). x .number) same ∙ h)))
@@ -90,14 +90,14 @@ module _ (s : List ℕ) (m : Module Expr) (r : read s ≡ ok m) (R : Ruled m) wh
 
   exact-commit : (st : State) → Shaped st → choose s st 255 .number ≡ 0 → Exact s m st (choose s st 255 .state)
   exact-commit st shaped h =
-      let A = accepted-choice s st 255 shaped h in
-      let e : A .0 ≡ m = ok-injective (sym (A .1) ∙ r) in
-      let f : stateFits m st ≡ true = subst (λ (x : Module Expr). stateFits x st ≡ true) e (A .2) in
+      let A = demand-2 .accepted-choice s st 255 shaped h in
+      let e : A .0 ≡ m = ok-injective (sym (A .1 .reads) ∙ r) in
+      let f : stateFits m st ≡ true = subst (λ (x : Module Expr). stateFits x st ≡ true) e (A .1 .fits) in
       let new = choose s st 255 .state in
       let same = sym (choose-sheet st 255 f) in
       exact-fresh st new (subst (λ (x : Chosen). Shaped (x .state)) same (shaped-chooseIn m st 255 shaped))
       (subst (λ (x : Chosen). Fits m (x .state)) same (fits-chooseIn m w st shaped (fits-state m st shaped f) 255))
-      (commit-fresh m w st new (subst (λ (x : Module Expr). Step x st new 255) e (A .3)))
+      (commit-fresh m w st new (subst (λ (x : Module Expr). Step x st new 255) e (A .2)))
 
 pub work : Work
 work s ns rs h =
