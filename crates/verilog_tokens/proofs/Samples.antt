@@ -7,7 +7,7 @@ use Prim.Native.Nat.{ℕ}
 use Rattle.hextext.specs.Characters.{digitOf}
 use Rattle.writing.specs.Ascii.{ascii}
 use Rattle.naming.specs.Naming.{sameText}
-use Rattle.verilog_tokens.specs.Characters.{isNewline, isSpace, isLetter, isBelow, isX, isZ, isUnderscore, isDigit, inClass, span, every, withDigit, numeralFrom, numeral}
+use Rattle.verilog_tokens.specs.Characters.{isNewline, isSpace, isLetter, isBelow, isX, isZ, isUnderscore, isDigit, isNamed, isText, inClass, span, every, withDigit, numeralFrom, numeral}
 use Rattle.verilog_tokens.specs.Words.{keywords, isAmong, isKeyword, signs, opensWith, firstOf}
 use Rattle.verilog_tokens.specs.Tokens.{Token, terminal, name, number, known, unknown, broken, either, further, endedBy, lineComment, isSlash, closing, blockComment, comment, blank, onwards, gaps, gap, wordToken, word, opensZero, numberToken, unsigned, baseOf, radixOf, decimalDigits, digitsIn, isKnown, isUnknown, valueToken, valueBehind, value, based, signToken, sign, opening, tokenBy, goesOn, andThen, fromToken, fromGap, located, tokens}
 
@@ -19,7 +19,7 @@ unfoldable pub seen : List ℕ → List Token
 unfolding tokens located fromGap fromToken andThen goesOn tokenBy opening sign signToken based value valueBehind valueToken isUnknown
     isKnown digitsIn decimalDigits radixOf baseOf unsigned numberToken opensZero word wordToken gap gaps onwards blank comment
     blockComment closing isSlash lineComment endedBy further either firstOf opensWith signs isKeyword isAmong keywords numeral
-    numeralFrom withDigit every span inClass isDigit isUnderscore isZ isX isBelow isLetter isSpace isNewline sameText ascii digitOf
+    numeralFrom withDigit every span inClass isNamed isText isDigit isUnderscore isZ isX isBelow isLetter isSpace isNewline sameText ascii digitOf
 seen text = tokens text
 
 abbrev pub sees : List ℕ → List Token → Type 0

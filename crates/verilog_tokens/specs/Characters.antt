@@ -3,6 +3,7 @@ use mathlib.Core.Bool.{Bool, true, false, not, _&&_, _||_}
 use mathlib.Core.List.{List, [], _∷_}
 use Prim.Native.Nat.{ℕ, zero, suc, _+_, _*_}
 use lib.Dec.{ltb, eqb}
+use lib.ListN.{drop}
 use Rattle.values.specs.Values.{pick, _is_then_else_}
 use Rattle.writing.specs.Ascii.{byte}
 use Rattle.hextext.specs.Characters.{_below_then_else_, digitOf}
@@ -44,14 +45,21 @@ isUnderscore b = eqb b (byte "_")
 unfoldable pub isDigit : ℕ → ℕ → Bool
 isDigit radix b = isBelow radix b || isX b || isZ b || isUnderscore b
 
+-- ---- what a word goes on with, what a one-line comment holds (A.9.2: comment_text ::= { Any_ASCII_character })
+
+unfoldable pub isNamed : ℕ → Bool
+isNamed b = isLetter b || isBelow 10 b || eqb b (byte "$")
+
+unfoldable pub isText : ℕ → Bool
+isText b = ltb b 128 && not (isNewline b)
+
 -- ---- inClass
 
 unfoldable pub inClass : Class → ℕ → Bool
 inClass Space b = isSpace b
-inClass Word b = isLetter b || isBelow 10 b || eqb b (byte "$")
--- A.9.2: comment_text ::= { Any_ASCII_character }
-inClass Comment b = ltb b 128 && not (isNewline b)
-inClass Decimal b = isBelow 10 b || isUnderscore b
+inClass Word b = isNamed b
+inClass Comment b = isText b
+inClass Decimal b = isUnderscore b || isBelow 10 b
 inClass Binary b = isDigit 2 b
 inClass Octal b = isDigit 8 b
 inClass Hexadecimal b = isDigit 16 b
@@ -62,6 +70,9 @@ inClass Underscore b = isUnderscore b
 unfoldable pub span : Class → List ℕ → ℕ
 span c [] = zero
 span c (b ∷ bs) = pick (inClass c b) (suc (span c bs)) zero
+
+unfoldable pub runEnd : Class → List ℕ → ℕ → ℕ
+runEnd c text at = at + span c (drop at text)
 
 -- ---- every: are all characters of a list such?
 
