@@ -2,8 +2,9 @@
  * Walbryts for C: the functions of the proved static library libexports.a.
  *
  * A sheet is one module as bytes; every call takes it as a pointer and a length, and may be handed any bytes at all. A
- * call gives document 01's number, 0 where nothing was refused; a refused call alters nothing but what is said below.
- * Every call ends.
+ * call gives document 01's number, 0 where nothing was refused. A refused call alters nothing: every lent byte and word
+ * is as it was. What a call tells beside its number (a place, a length, how many were accepted, a word) is its answer,
+ * and is told in any case. Every call ends.
  *
  * No pointer may be NULL, also with the length 0; what a call writes may not overlap what it reads. A flag (bool) is 0
  * or 1. Nothing is kept between calls: they may run in several threads at once, on arrays of their own.
@@ -49,27 +50,30 @@ extern "C" {
 
 /* ---- numbers and words */
 
-#define WALBRYTS_COMMIT 255   /* the choice that commits all pending values */
-#define WALBRYTS_NO_STATE 255 /* given for bytes that are no saved state; no number of document 01 */
-#define WALBRYTS_QUIET 0      /* how a plain run ended: nothing enabled, nothing pending */
-#define WALBRYTS_SPENT 1      /* as many choices ran as were allowed, and it isn't quiet */
-#define WALBRYTS_STOPPED 2    /* by the number that the call gives */
+#define WALBRYTS_COMMIT 255 /* the choice that commits all pending values */
+#define WALBRYTS_QUIET 0    /* how a plain run ended: nothing enabled, nothing pending */
+#define WALBRYTS_SPENT 1    /* as many choices ran as were allowed, and it isn't quiet */
+#define WALBRYTS_STOPPED 2  /* at a choice, by the number that the call gives */
+#define WALBRYTS_REFUSED 3  /* the call was refused, by the number that it gives */
 
 /* ---- the sheet */
 
 /* Reads the sheet. Gives 0, or a number from 1 to 11; *place takes the byte at which it was met, 0 where it is read. */
 uint8_t walbryts_read(const uint8_t *sheet, size_t sheet_len, size_t *place);
 
-/* Writes what the listing program prints for the sheet, `refused N` included, to the front of text[WALBRYTS_TEXT],
- * without a NUL; what lies behind it stays. Gives its length. */
-size_t walbryts_list(const uint8_t *sheet, size_t sheet_len, uint8_t *text);
+/* Writes the sheet's listing to the front of text[WALBRYTS_TEXT], without a NUL; what lies behind it stays. *length
+ * takes its length, 0 where the sheet is refused. Gives 0, or 1 to 11. */
+uint8_t walbryts_list(const uint8_t *sheet, size_t sheet_len, uint8_t *text, size_t *length);
 
 /* ---- events. A state lies as its saved bytes in state[WALBRYTS_STATE] and becomes the one that the call gives back;
- * keeping a copy of the bytes saves it, copying them back loads it. Each call gives WALBRYTS_NO_STATE, and alters
- * nothing, where the bytes are no saved state. */
+ * keeping a copy of the bytes saves it, copying them back loads it. Bytes that are no saved state are refused as a state
+ * that doesn't fit the sheet, with 31, after the sheet's own numbers. */
+
+/* Are the bytes a saved state: WALBRYTS_STATE of them, of this form, every flag and mark 0 or 1? */
+bool walbryts_is_state(const uint8_t *bytes, size_t bytes_len);
 
 /* The start state: all is x, places and counters 0, every wire due. The bytes in `state` may be any. Gives 0, or 1 to
- * 11 (then no wire is due). */
+ * 11. */
 uint8_t walbryts_start(const uint8_t *sheet, size_t sheet_len, uint8_t *state);
 
 /* One choice: an item, whose instruction or wire is run, or WALBRYTS_COMMIT. Gives 0, or 1 to 11, 31, 22, 33, 34, 35,
@@ -77,12 +81,13 @@ uint8_t walbryts_start(const uint8_t *sheet, size_t sheet_len, uint8_t *state);
 uint8_t walbryts_choose(const uint8_t *sheet, size_t sheet_len, uint8_t *state, uint8_t choice);
 
 /* The choices one after the other, up to the first that is refused. *accepted takes how many were accepted. Gives 0
- * where all were, else the number that stopped it; numbers up to 11 and 31 are a refused call. */
+ * where all were, else the number that stopped it, and the state is the one reached; numbers up to 11 and 31 are a
+ * refused call. */
 uint8_t walbryts_run(const uint8_t *sheet, size_t sheet_len, uint8_t *state, const uint8_t *choices, size_t choices_len,
                      size_t *accepted);
 
 /* The plain run of at most `limit` choices: the lowest enabled item, else the commit. *accepted takes how many were
- * accepted, *word how it ended. Gives 0 where it ended quiet or spent, else 1 to 11, 31, 36. */
+ * accepted, *word how it ended. Gives 0 where it ended quiet or spent, 36 where it was stopped, else 1 to 11, 31. */
 uint8_t walbryts_run_plain(const uint8_t *sheet, size_t sheet_len, uint8_t *state, uint16_t limit, uint16_t *accepted,
                            uint8_t *word);
 
@@ -94,10 +99,12 @@ uint8_t walbryts_instant(const uint8_t *sheet, size_t sheet_len, uint8_t *state,
 
 /* Clock cycles: for each 16 values a row, with two instants, the clock low with the row's inputs and the clock high
  * with nothing else changed, and a plain run of at most 65,535 choices after each. The state must be quiet at first. A
- * row's item 0, the clock's, isn't looked at. *phases takes how many instants were done with the run after them. Gives
- * 0 where all were, else the number that stopped it. */
+ * row's item 0, the clock's, isn't looked at. *phases takes how many instants were done with the run after them;
+ * *running whether it was the run after an instant, and not the instant, that had the number. Gives 0 where all were,
+ * else the number that stopped it, and the state is the one reached. A refused call gives 1 to 11, 31, or 25 where
+ * value_len is no multiple of 16 or unknown_len is another length. */
 uint8_t walbryts_run_cycles(const uint8_t *sheet, size_t sheet_len, uint8_t *state, const uint32_t *value,
-                            size_t value_len, const bool *unknown, size_t unknown_len, size_t *phases);
+                            size_t value_len, const bool *unknown, size_t unknown_len, size_t *phases, bool *running);
 
 /* ---- expressions */
 
@@ -108,15 +115,16 @@ uint8_t walbryts_extract(const uint8_t *sheet, size_t sheet_len, uint16_t *nodes
 
 /* One clock cycle by the tables. value[32], unknown[32] and places[8] hold registers and wait places before it and
  * become those after it; inputs[16] and inputs_unknown[16] the inputs from 1 up, of which `count` says how many there
- * are; wire[32] and unsure[32] take the wires. Gives 0, or 23, 1 to 21, 24, 31, 25; refused, registers and places stay
- * and the wires are x. */
+ * are; wire[32] and unsure[32] take the wires, an x as a raised flag. Gives 0, or 23, 1 to 21, 24, 31, 25; refused, all
+ * five arrays stay. */
 uint8_t walbryts_cycle(const uint8_t *sheet, size_t sheet_len, const uint16_t *nodes, size_t nodes_len,
                        const uint16_t *rows, size_t rows_len, uint32_t *value, bool *unknown, uint8_t *places,
                        uint8_t count, const uint32_t *inputs, const bool *inputs_unknown, uint32_t *wire, bool *unsure);
 
 /* A clock cycle by the tables for each 16 inputs, up to the first that is refused; a row's item 0, the clock's, isn't
- * looked at. *cycles takes how many were accepted; the arrays become what the last of these gave (without one:
- * registers and places as they were, wires x). Gives 0 where all were accepted, else the number. */
+ * looked at. *cycles takes how many were accepted; the arrays become what the last of these gave, and where none was
+ * accepted they stay. Gives 0 where all were accepted, else the number that refused the next. A refused call gives 23,
+ * 1 to 21, 24, 31, or 25 where inputs_len is no multiple of 16 or inputs_unknown_len is another length. */
 uint8_t walbryts_cycles(const uint8_t *sheet, size_t sheet_len, const uint16_t *nodes, size_t nodes_len,
                         const uint16_t *rows, size_t rows_len, uint32_t *value, bool *unknown, uint8_t *places,
                         const uint32_t *inputs, size_t inputs_len, const bool *inputs_unknown,

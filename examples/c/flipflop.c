@@ -48,9 +48,10 @@ static void print_state(const uint8_t *state) {
 
 static void list(void) {
     static uint8_t text[WALBRYTS_TEXT];
-    size_t place;
+    size_t place, length;
     accepted("read", walbryts_read(sheet, sizeof sheet, &place));
-    fwrite(text, 1, walbryts_list(sheet, sizeof sheet, text), stdout);
+    accepted("list", walbryts_list(sheet, sizeof sheet, text, &length));
+    fwrite(text, 1, length, stdout);
     uint8_t number = walbryts_read(sheet, sizeof sheet - 3, &place);
     printf("without its last three bytes: refused %u at byte %zu\n", number, place);
 }
@@ -87,13 +88,14 @@ static void by_rows(void) {
     bool unknown[3 * WALBRYTS_INPUTS] = {false};
     uint8_t state[WALBRYTS_STATE];
     size_t phases;
+    bool running;
     value[1] = 17;
     value[WALBRYTS_INPUTS + 1] = 18;
     value[2 * WALBRYTS_INPUTS + 1] = 256;
     accepted("start", walbryts_start(sheet, sizeof sheet, state));
     uint8_t number = walbryts_run_cycles(sheet, sizeof sheet, state, value, 3 * WALBRYTS_INPUTS, unknown,
-                                         3 * WALBRYTS_INPUTS, &phases);
-    printf("%zu instants, then %u; ", phases, number);
+                                         3 * WALBRYTS_INPUTS, &phases, &running);
+    printf("%zu instants, then %u from the %s; ", phases, number, running ? "run after it" : "next");
     print_state(state);
 }
 

@@ -4,7 +4,14 @@
 unsafe extern "C" {
     pub fn walbryts_read(sheet: *const u8, sheet_len: usize, place: *mut usize) -> u8;
 
-    pub fn walbryts_list(sheet: *const u8, sheet_len: usize, text: *mut u8) -> usize;
+    pub fn walbryts_list(
+        sheet: *const u8,
+        sheet_len: usize,
+        text: *mut u8,
+        length: *mut usize,
+    ) -> u8;
+
+    pub fn walbryts_is_state(bytes: *const u8, bytes_len: usize) -> bool;
 
     pub fn walbryts_start(sheet: *const u8, sheet_len: usize, state: *mut u8) -> u8;
 
@@ -51,6 +58,7 @@ unsafe extern "C" {
         unknown: *const bool,
         unknown_len: usize,
         phases: *mut usize,
+        running: *mut bool,
     ) -> u8;
 
     pub fn walbryts_extract(
@@ -97,4 +105,113 @@ unsafe extern "C" {
         wire: *mut u32,
         unsure: *mut bool,
     ) -> u8;
+}
+
+/// Refused calls on lent bytes that the safe interface never lends: rows that aren't whole, bytes
+/// that are no saved state. Every lent byte is as it was.
+#[cfg(test)]
+mod tests {
+    use super::*;
+
+    const FLIP_FLOP: [u8; 16] = [2, 1, 0, 1, 1, 8, 8, 0x0C, 0x10, 1, 1, 0, 0x23, 2, 2, 1];
+    const SHORT: [u8; 9] = [2, 1, 0, 1, 1, 8, 8, 0x0C, 0x10];
+    const STATE: usize = 641;
+
+    fn started() -> [u8; STATE] {
+        let mut state = [0; STATE];
+        // Safety: pointer and length are those of one slice, the state has its length.
+        let number = unsafe { walbryts_start(FLIP_FLOP.as_ptr(), 16, state.as_mut_ptr()) };
+        assert_eq!(number, 0);
+        state
+    }
+
+    /// Choice, run, plain run and rows on these bytes give this number and leave them.
+    fn refused(sheet: &[u8], bytes: [u8; STATE], expected: u8) {
+        let (at, len) = (sheet.as_ptr(), sheet.len());
+        let mut state = bytes;
+        let lent = state.as_mut_ptr();
+        let (mut accepted, mut few, mut word, mut phases, mut running) = (7, 7, 7, 7, true);
+        let (value, unknown) = ([0; 16], [false; 16]);
+        let (numbers, flags) = (value.as_ptr(), unknown.as_ptr());
+        // Safety: pointers and lengths are those of one slice each, the rest are locals'.
+        let numbers = unsafe {
+            [
+                walbryts_choose(at, len, lent, 0),
+                walbryts_run(at, len, lent, [0].as_ptr(), 1, &mut accepted),
+                walbryts_run_plain(at, len, lent, 9, &mut few, &mut word),
+                walbryts_instant(at, len, lent, 2, numbers, flags),
+                walbryts_run_cycles(
+                    at,
+                    len,
+                    lent,
+                    numbers,
+                    16,
+                    flags,
+                    16,
+                    &mut phases,
+                    &mut running,
+                ),
+            ]
+        };
+        assert_eq!(numbers, [expected; 5]);
+        assert_eq!((accepted, few, word, phases, running), (0, 0, 3, 0, false));
+        assert_eq!(state, bytes);
+    }
+
+    #[test]
+    fn no_saved_state_is_31_after_the_sheet() {
+        for (at, byte) in [(0, 0), (0, 255), (1, 2), (401, 2), (601, 7)] {
+            let mut bytes = started();
+            bytes[at] = byte;
+            // Safety: as above.
+            assert!(!unsafe { walbryts_is_state(bytes.as_ptr(), STATE) });
+            refused(&FLIP_FLOP, bytes, 31);
+            refused(&SHORT, bytes, 2);
+        }
+        refused(&SHORT, started(), 2);
+    }
+
+    #[test]
+    fn a_refused_start_leaves_the_bytes() {
+        let mut state = [0xA5; STATE];
+        // Safety: as above.
+        let number = unsafe { walbryts_start(SHORT.as_ptr(), SHORT.len(), state.as_mut_ptr()) };
+        assert_eq!((number, state), (2, [0xA5; STATE]));
+    }
+
+    #[test]
+    fn a_refused_listing_leaves_the_text() {
+        let (mut text, mut length) = (vec![0xA5; 65_536], 7);
+        // Safety: as above, and the text has the length that a listing is written into.
+        let number = unsafe {
+            walbryts_list(SHORT.as_ptr(), SHORT.len(), text.as_mut_ptr(), &mut length)
+        };
+        assert_eq!((number, length), (2, 0));
+        assert!(text.iter().all(|&byte| byte == 0xA5));
+    }
+
+    #[test]
+    fn rows_are_whole_or_25() {
+        let bytes = started();
+        let (value, unknown) = ([0; 48], [false; 48]);
+        for (values, flags) in [(1, 1), (15, 15), (17, 17), (32, 16), (16, 32), (0, 1)] {
+            let mut state = bytes;
+            let (mut phases, mut running) = (7, true);
+            // Safety: as above.
+            let number = unsafe {
+                walbryts_run_cycles(
+                    FLIP_FLOP.as_ptr(),
+                    16,
+                    state.as_mut_ptr(),
+                    value.as_ptr(),
+                    values,
+                    unknown.as_ptr(),
+                    flags,
+                    &mut phases,
+                    &mut running,
+                )
+            };
+            assert_eq!((number, phases, running, state), (25, 0, false, bytes));
+        }
+    }
 }

@@ -107,9 +107,14 @@ impl Sheet {
 #[must_use]
 pub fn list(bytes: &[u8]) -> String {
     let mut text = vec![0; TEXT];
+    let mut length = 0;
+    let (sheet, len, lent) = (bytes.as_ptr(), bytes.len(), text.as_mut_ptr());
     // Safety: pointer and length are those of one slice, the text has the length that the
-    // library writes into.
-    let length = unsafe { raw::walbryts_list(bytes.as_ptr(), bytes.len(), text.as_mut_ptr()) };
+    // library writes into, the length is a local's.
+    let number = unsafe { raw::walbryts_list(sheet, len, lent, &mut length) };
+    if number != 0 {
+        return format!("refused {number}\n");
+    }
     text.truncate(length);
     String::from_utf8(text).expect("a listing is plain text")
 }

@@ -45,6 +45,8 @@ pub struct CycleRuns {
     pub phases: usize,
     /// What refused the next instant or stopped the run after it; none where all rows ran.
     pub stopped: Option<Refusal>,
+    /// Whether it was the run after an instant that was stopped, and not the instant refused.
+    pub running: bool,
 }
 
 impl Sheet {
@@ -116,11 +118,11 @@ impl Sheet {
                 &mut word,
             )
         };
-        unless_unfit(Refusal::stop(number))?;
         let verdict = match word {
             0 => Verdict::Quiet,
             1 => Verdict::Spent,
-            _ => Verdict::Full,
+            2 => Verdict::Full,
+            _ => return Err(Refusal::of(number)),
         };
         Ok(PlainRun { accepted, verdict })
     }
@@ -157,9 +159,9 @@ impl Sheet {
     pub fn run_cycles(&self, state: &mut State, rows: &Rows) -> Result<CycleRuns, Refusal> {
         let (sheet, len) = self.raw();
         let (value, unknown) = rows.lent(self);
-        let mut phases = 0;
-        // Safety: as in `start`, with pointer and length of two more slices; the number is a
-        // local's.
+        let (mut phases, mut running) = (0, false);
+        // Safety: as in `start`, with pointer and length of two more slices; number and flag are
+        // locals'.
         let number = unsafe {
             raw::walbryts_run_cycles(
                 sheet,
@@ -170,9 +172,10 @@ impl Sheet {
                 unknown.as_ptr(),
                 unknown.len(),
                 &mut phases,
+                &mut running,
             )
         };
-        Ok(CycleRuns { phases, stopped: unless_unfit(rows.stop(self, number))? })
+        Ok(CycleRuns { phases, stopped: unless_unfit(rows.stop(self, number))?, running })
     }
 }
 

@@ -55,13 +55,12 @@ impl State {
     ///
     /// Bytes of another length or form, or with a flag other than 0 and 1, are no saved state.
     pub fn load(saved: &[u8]) -> Result<State, NotSaved> {
-        let mut bytes: [u8; SAVED] = saved.try_into().map_err(|_| NotSaved)?;
-        let sheet: [u8; 0] = [];
-        // The proved library judges the bytes before the sheet, which it refuses here with 2; a
-        // refused call hands back the state it got.
-        // Safety: pointer and length are those of one slice, the state has its length.
-        let number = unsafe { raw::walbryts_choose(sheet.as_ptr(), 0, bytes.as_mut_ptr(), 0) };
-        if number == 255 { Err(NotSaved) } else { Ok(State { bytes }) }
+        // The proved library judges the bytes.
+        // Safety: pointer and length are those of one slice.
+        match unsafe { raw::walbryts_is_state(saved.as_ptr(), saved.len()) } {
+            true => Ok(State { bytes: saved.try_into().map_err(|_| NotSaved)? }),
+            false => Err(NotSaved),
+        }
     }
 
     /// A variable's value.

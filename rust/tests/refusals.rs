@@ -147,6 +147,7 @@ fn of_plain_runs_and_rows() {
     let mut unfit = sheet.start();
     unfit.set_value(2, Value::Known(256));
     let reason = |refusal: Refusal| refusal.reason();
+    let kept = unfit.clone();
     assert_eq!(sheet.run_plain(&mut unfit, 9).map_err(reason), Err(Reason::Unfit));
 
     let mut rows = Rows::new(&sheet);
@@ -155,8 +156,17 @@ fn of_plain_runs_and_rows() {
     assert_eq!(rows.push([1, 2]).map_err(reason), Err(Reason::Inputs));
     assert_eq!(rows.len(), 2);
     assert_eq!(sheet.run_cycles(&mut unfit, &rows).map_err(reason), Err(Reason::Unfit));
+    assert_eq!(unfit, kept);
     let run = sheet.run_cycles(&mut sheet.start(), &rows).unwrap();
     assert_eq!((run.phases, run.stopped.map(reason)), (2, Some(Reason::Inputs)));
+    assert!(!run.running);
+    let mut late = full(&sheet.start(), 637);
+    let run = sheet.run_cycles(&mut late, &rows).unwrap();
+    assert_eq!(
+        (run.phases, run.stopped.map(reason), run.running),
+        (1, Some(Reason::Full), true)
+    );
+    assert_eq!(late.time(), 2);
     let other = common::of_hex(common::WATCHDOG);
     let run = other.run_cycles(&mut other.start(), &rows).unwrap();
     assert_eq!((run.phases, run.stopped.map(reason)), (0, Some(Reason::Inputs)));

@@ -1,4 +1,5 @@
--- What `run_cycles` answers on a sheet that is refused, on a state that doesn't fit, and on one that does. Assumes nothing.
+-- What `run_cycles` answers on a sheet that is refused, on a state that doesn't fit, on rows that aren't whole, and else.
+-- Assumes nothing.
 use mathlib.Core.Path.{_≡_, sym, ap, _∙_}
 use mathlib.Core.Bool.{Bool, true, false}
 use mathlib.Core.List.{List}
@@ -15,6 +16,7 @@ use Rattle.sheet.proofs.Trees.{trees}
 use Rattle.state.specs.declared.State.{State}
 use Rattle.state.specs.State.{Shaped}
 use Rattle.events.specs.Calls.{judged, stateFits}
+use Rattle.events.specs.Rows.{wholeRows}
 use Rattle.events.proofs.Fits.{fits-state}
 use Rattle.fitting.specs.Fitting.{stateFitsAt}
 use Rattle.fitting.proofs.Fitting.{Sizes}
@@ -42,24 +44,30 @@ module _ (s : List ℕ) (st : State) (ns : List ℕ) (xs : List Bool) where
     unfolding runCycles judged
     cycles-misfit f = rw (e, f)
 
+    pub cycles-ragged : stateFits m st ≡ true → wholeRows ns xs ≡ false → cycled 0 25 false st ≡ runCycles s st ns xs
+    unfolding runCycles judged
+    cycles-ragged f h = rw (e, f, h)
+
     abbrev rounds : ℕ
     rounds = 2 * (length ns / 16)
 
-    runs : stateFits m st ≡ true → runCycles s st ns xs ≡ phases s (rowInputs (m .scope .inputs) ns xs) rounds 0 st
+    runs :
+        stateFits m st ≡ true → wholeRows ns xs ≡ true →
+        runCycles s st ns xs ≡ phases s (rowInputs (m .scope .inputs) ns xs) rounds 0 st
     unfolding runCycles judged
-    runs f = rw (e, f)
+    runs f h = rw (e, f, h)
 
     pub cycles-fit :
-        {q : Plan} → PlanOf s m q → Shaped st → stateFits m st ≡ true →
+        {q : Plan} → PlanOf s m q → Shaped st → stateFits m st ≡ true → wholeRows ns xs ≡ true →
         ended (phasesAt q (rowInputs (q .shape .inputs) ns xs) rounds 0 (st .time) (st .count) (unpacked q st))
         ≡ runCycles s st ns xs
-    cycles-fit {q = q} w g f =
+    cycles-fit {q = q} w g f h =
         let k = fits-state m st g f in
         ap (λ (n : ℕ). ended (phasesAt q (rowInputs n ns xs) rounds 0 (st .time) (st .count) (unpacked q st))) (w .inputs)
         ∙ ap (λ (l : Live). ended (phasesAt q (rowInputs (m .scope .inputs) ns xs) rounds 0 (st .time) (st .count) l))
         (unpacked-live w (fits-kept g k))
         ∙ phases-live w e (rowInputs (m .scope .inputs) ns xs) rounds 0 st g k
-        ∙ sym (runs f)
+        ∙ sym (runs f h)
 
 -- ---- a sheet as it was read
 
@@ -112,14 +120,17 @@ module _ {s : List ℕ} {l : Layout} (k : Accepted s l) (st : State) (ns : List 
     pub misfit-answer : fits ≡ false → cycled 0 31 false st ≡ runCycles s st ns xs
     misfit-answer f = cycles-misfit s st ns xs (k .contents) (k .same) (sym fits-same ∙ f)
 
+    pub ragged-answer : fits ≡ true → wholeRows ns xs ≡ false → cycled 0 25 false st ≡ runCycles s st ns xs
+    ragged-answer f h = cycles-ragged s st ns xs (k .contents) (k .same) (sym fits-same ∙ f) h
+
     pub fit-answer :
         (code readers : List ℕ) (watched : List Bool) (shape : Shape) → code ≡ compiled s l .code → readers ≡ readersOf s l →
         watched ≡ watchedBelow s code sizes (atMost 8 (l .threads)) (replicate 80 false) → shape ≡ shapeOf l →
-        fits ≡ true → Shaped st →
+        fits ≡ true → Shaped st → wholeRows ns xs ≡ true →
         ended
         (phasesAt (planOf s widths code readers watched (l .starts) shape) (rowInputs (shape .inputs) ns xs) (2 * (length ns / 16)) 0
         (st .time) (st .count) (unpacked (planOf s widths code readers watched (l .starts) shape) st))
         ≡ runCycles s st ns xs
-    fit-answer code readers watched shape c r v h f g =
+    fit-answer code readers watched shape c r v h f g b =
         rw (v, h, c, r, same-widths, same-sizes)
-        (cycles-fit s st ns xs (k .contents) (k .same) (k .plan) g (sym fits-same ∙ f))
+        (cycles-fit s st ns xs (k .contents) (k .same) (k .plan) g (sym fits-same ∙ f) b)

@@ -14,9 +14,8 @@ use Rattle.sheet.specs.Module.{Module, read}
 use Rattle.state.specs.declared.State.{State}
 use Rattle.state.specs.State.{Shaped}
 use Rattle.events.specs.declared.Inputs.{Inputs}
-use Rattle.events.specs.declared.Verdict.{Verdict}
-use Rattle.events.specs.declared.Verdict.the-variants.{Quiet, Spent, Stopped}
 use Rattle.events.specs.declared.Rested.{Rested}
+use Rattle.events.specs.Verdict.{numberOfVerdict}
 use Rattle.events.specs.Cycle.{quiet}
 use Rattle.events.specs.Cycle as cycle
 use Rattle.events.specs.Calls.{judged, spend, timed, inputOf, inputsFit, instantRefusal, instantIn, instant, plainChoice, runBy}
@@ -27,21 +26,14 @@ use Rattle.events.proofs.Runs.{shaped-runBy, fits-runBy, count-runBy, time-runB
 use Rattle.fitting.proofs.Fitting.{fits-inputs}
 use Rattle.engine.specs.Live.{Plan, Live}
 use Rattle.engine.specs.Running.{runPlain}
-use Rattle.refinement.specs.Refinement.{liveOf, stopOf, restedOf, PlanOf}
+use Rattle.refinement.specs.Refinement.{liveOf, restedOf, PlanOf}
 use Rattle.refinement.proofs.Kept.{Kept, fits-kept}
 use Rattle.refinement.proofs.Choices.{busy-live, feed-timed-live}
 use Rattle.refinement.proofs.Runs.{runPlain-live}
 use Rattle.simulator.specs.Filled.{packed}
 use Rattle.simulator.proofs.Unpacked.{packed-same}
-use Rattle.batch.specs.Cycles.{cycled, stopped, phases}
+use Rattle.batch.specs.Cycles.{cycled, phases}
 use Rattle.batch.specs.Phases.{phase, refusalAt, runAfter, phaseAt, phasesAt, ended}
-
--- The number that stopped a plain run, as each of the two pages has it.
-stopped-same : (v : Verdict) → stopOf v ≡ stopped v
-unfolding stopOf stopped
-stopped-same Quiet = refl
-stopped-same Spent = refl
-stopped-same (Stopped n) = refl
 
 module _ {s : List ℕ} {m : Module Expr} {q : Plan} (w : PlanOf s m q) (e : read s ≡ ok m) where
   -- ---- the single calls on a state that fits
@@ -108,10 +100,10 @@ module _ {s : List ℕ} {m : Module Expr} {q : Plan} (w : PlanOf s m q) (e : rea
     phase-accepted :
         instantRefusal m st a ≡ 0 →
         phaseAt q a (st .time) (st .count) (liveOf m st)
-        ≡ phase (stopped (rested .verdict)) (not (eqb (stopped (rested .verdict)) 0)) (liveOf m (rested .state)) (st .time + 1)
-        (st .count + rested .accepted)
+        ≡ phase (numberOfVerdict (rested .verdict)) (not (eqb (numberOfVerdict (rested .verdict)) 0)) (liveOf m (rested .state))
+        (st .time + 1) (st .count + rested .accepted)
     unfolding phaseAt
-    phase-accepted z = rw (refusal-live, z, run-live z, stopped-same (rested .verdict))
+    phase-accepted z = rw (refusal-live, z, run-live z)
 
     phase-refused :
         (instantRefusal m st a ≡ 0 → ⊥) →
@@ -143,7 +135,7 @@ module _ {s : List ℕ} {m : Module Expr} {q : Plan} (w : PlanOf s m q) (e : rea
           )
           (ap (cycled p (instantRefusal m st a) false) (packed-same m st (st .time) (st .count) refl refl))
 
-      went-on : instantRefusal m st a ≡ 0 → stopped (r .verdict) ≡ 0 → Same n (p + 1) (r .state) → Same (suc n) p st
+      went-on : instantRefusal m st a ≡ 0 → numberOfVerdict (r .verdict) ≡ 0 → Same n (p + 1) (r .state) → Same (suc n) p st
       unfolding phasesAt phases ended
       went-on z o h =
           rw (
@@ -159,7 +151,7 @@ module _ {s : List ℕ} {m : Module Expr} {q : Plan} (w : PlanOf s m q) (e : rea
           (sym (rested-count st g f a))
           ∙ h)
 
-      halted : instantRefusal m st a ≡ 0 → (stopped (r .verdict) ≡ 0 → ⊥) → Same (suc n) p st
+      halted : instantRefusal m st a ≡ 0 → (numberOfVerdict (r .verdict) ≡ 0 → ⊥) → Same (suc n) p st
       unfolding phasesAt phases ended
       halted z d =
           rw (
@@ -167,9 +159,9 @@ module _ {s : List ℕ} {m : Module Expr} {q : Plan} (w : PlanOf s m q) (e : rea
             instant-fits st f a,
             instantIn-accepted m st a z,
             plain-fits (fed st g f a) (fed-fits st g f a z) 65535,
-            ne-eqb (stopped (r .verdict)) 0 d,
+            ne-eqb (numberOfVerdict (r .verdict)) 0 d,
           )
-          (ap (cycled p (stopped (r .verdict)) true) (rested-live st g f a))
+          (ap (cycled p (numberOfVerdict (r .verdict)) true) (rested-live st g f a))
 
     pub phases-live : (n p : ℕ) (st : State) → Shaped st → Fits m st → Same n p st
     unfolding phasesAt phases ended
@@ -183,11 +175,11 @@ module _ {s : List ℕ} {m : Module Expr} {q : Plan} (w : PlanOf s m q) (e : rea
         r : Rested
         r = rested st g f (inputs p)
 
-        on : instantRefusal m st (inputs p) ≡ 0 → Same n (p + 1) (r .state) → Dec (stopped (r .verdict) ≡ 0) → Same (suc n) p st
+        on : instantRefusal m st (inputs p) ≡ 0 → Same n (p + 1) (r .state) → Dec (numberOfVerdict (r .verdict) ≡ 0) → Same (suc n) p st
         on z h (yes o) = went-on n p st g f z o h
         on z h (no d) = halted n p st g f z d
 
         by : Dec (instantRefusal m st (inputs p) ≡ 0) → (instantRefusal m st (inputs p) ≡ 0 → Same n (p + 1) (r .state)) →
             Same (suc n) p st
         by (no d) h = refused n p st g f d
-        by (yes z) h = on z (h z) (ℕ-discrete (stopped (r .verdict)) 0)
+        by (yes z) h = on z (h z) (ℕ-discrete (numberOfVerdict (r .verdict)) 0)

@@ -3,3 +3,4 @@ pub mod Going
 pub mod Course
 pub mod Answers
 pub mod Samples
+pub mod Refused

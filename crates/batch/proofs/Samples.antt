@@ -1,4 +1,4 @@
--- Rows, computed: the clock in the place of a row's first item, two instants to a row, and flags that are too few.
+-- Rows, computed: the clock in the place of a row's first item, two instants to a row.
 use mathlib.Core.Path.{_≡_, refl}
 use mathlib.Core.Bool.{Bool, true, false}
 use mathlib.Core.List.{List, [], _∷_, _++_}
@@ -11,9 +11,9 @@ use Rattle.batch.specs.Cycles.{rowFrom, rowInputs}
 abbrev two-rows : List ℕ
 two-rows = (9 ∷ 1 ∷ 2 ∷ replicate 13 0) ++ (9 ∷ 3 ∷ 4 ∷ replicate 13 0)
 
--- The flags of the first row, and two of the second.
+-- The second row's first two flags are up, that of the clock's item among them.
 abbrev some-flags : List Bool
-some-flags = replicate 16 false ++ (true ∷ true ∷ [])
+some-flags = replicate 16 false ++ (true ∷ true ∷ replicate 14 false)
 
 abbrev instant-of : ℕ → ℕ → ℕ → Bool → Inputs
 instant-of clock a b x =

@@ -9,9 +9,9 @@ use Rattle.values.specs.Values.{pick}
 use Rattle.sheet.specs.Module.{read}
 use Rattle.state.specs.declared.State.{State}
 use Rattle.events.specs.declared.Inputs.{Inputs}
-use Rattle.events.specs.declared.Verdict.{Verdict}
-use Rattle.events.specs.declared.Verdict.the-variants.{Quiet, Spent, Stopped}
+use Rattle.events.specs.Verdict.{numberOfVerdict}
 use Rattle.events.specs.Calls.{judged, instant, runPlain}
+use Rattle.events.specs.Rows.{wholeRows}
 use Rattle.batch.specs.declared.Cycled.{Cycled}
 
 -- ---- rows: the inputs of instant number p, two to a row of 16
@@ -35,12 +35,6 @@ rowInputs inputs ns xs p =
 abbrev pub cycled : ℕ → ℕ → Bool → State → Cycled
 cycled p n running st = record { phases = p; number = n; running = running; state = st }
 
--- Was a plain run stopped? Its number, else 0.
-unfoldable pub stopped : Verdict → ℕ
-stopped Quiet = 0
-stopped Spent = 0
-stopped (Stopped n) = n
-
 module _ (s : List ℕ) (inputs : ℕ → Inputs) where
   -- From instant number p on, n of them: the rest is what the later ones give.
   unfoldable pub phases : ℕ → ℕ → State → Cycled
@@ -48,15 +42,17 @@ module _ (s : List ℕ) (inputs : ℕ → Inputs) where
   phases (suc n) p st =
       let i = instant s st (inputs p) in
       let r = runPlain s (i .state) 65535 in
+      let k = numberOfVerdict (r .verdict) in
       pick (eqb (i .number) 0)
-      (pick (eqb (stopped (r .verdict)) 0) (phases n (p + 1) (r .state)) (cycled p (stopped (r .verdict)) true (r .state)))
+      (pick (eqb k 0) (phases n (p + 1) (r .state)) (cycled p k true (r .state)))
       (cycled p (i .number) false st)
 
--- ---- run_cycles: as many rows as the numbers fill
+-- ---- run_cycles: the rows, one after the other
 
--- A sheet or a state that is refused is refused as in the single calls, at once.
+-- "1 to 11, 31, 25": a sheet, a state or rows that aren't whole are refused at once.
 unfoldable pub runCycles : List ℕ → State → List ℕ → List Bool → Cycled
 runCycles s st ns xs =
     judged (read s) st
     (λ n. cycled 0 n false st)
-    (λ m. phases s (rowInputs (m .scope .inputs) ns xs) (2 * (length ns / 16)) 0 st)
+    (λ m.
+    pick (wholeRows ns xs) (phases s (rowInputs (m .scope .inputs) ns xs) (2 * (length ns / 16)) 0 st) (cycled 0 25 false st))

@@ -13,7 +13,8 @@ ghost use Prim.Native.Nat.{_*_, _/_};
 ghost use lib.ListN.{length};
 ghost use Rattle.engine.specs.Live.{planOf};
 ghost use Rattle.simulator.specs.Filled.{unpacked};
-ghost use Rattle.batch.specs.Cycles.{rowInputs, runCycles};
+ghost use mathlib.Core.Bool.{false};
+ghost use Rattle.batch.specs.Cycles.{cycled, rowInputs, runCycles};
 ghost use Rattle.batch.specs.Phases.{phasesAt, ended};
 
 // What `run_cycles` gives: how many instants were accepted and run to rest or to 65,535 choices; where it was stopped earlier,
@@ -112,18 +113,25 @@ fn run_filled(
     }
 }
 
+// What a refused call gives.
+fn refused_with(number: u8, state: State) -> Cycled
+    ensures { λ r. ⌜ r ≡ cycled 0 number false state ⌝ }
+{
+    Cycled {
+        phases: 0,
+        number,
+        running: false,
+        state,
+    }
+}
+
 // Rows of 16 inputs, for each an instant with the clock low and one with the clock high, a plain run after each.
 pub fn run_cycles(sheet: &[u8], st: State, value: &[u32], unknown: &[bool]) -> Cycled
     ensures { λ r. ⌜ r ≡ runCycles (now (sheet .entry)) st (now (value .entry)) (now (unknown .entry)) ⌝ }
 {
     let read = sheet::read(sheet);
     if read.number != 0 {
-        return Cycled {
-            phases: 0,
-            number: read.number,
-            running: false,
-            state: st,
-        };
+        return refused_with(read.number, st);
     }
     let layout = read.layout;
     let end = planning::widths_end(layout);
@@ -142,12 +150,10 @@ pub fn run_cycles(sheet: &[u8], st: State, value: &[u32], unknown: &[bool]) -> C
         layout.threads,
         st,
     ) {
-        return Cycled {
-            phases: 0,
-            number: 31,
-            running: false,
-            state: st,
-        };
+        return refused_with(31, st);
+    }
+    if !fitting::rows_whole(value, unknown) {
+        return refused_with(25, st);
     }
     run_filled(
         sheet,

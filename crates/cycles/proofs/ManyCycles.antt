@@ -17,6 +17,7 @@ use Rattle.state.specs.Saved.{listOf}
 use Rattle.state.proofs.Rows.{length-listOf, getD-listOf}
 use Rattle.soundness.specs.Soundness.{Sound}
 use Rattle.events.specs.declared.Inputs.{Inputs}
+use Rattle.events.specs.Rows.{wholeRows}
 use Rattle.events.specs.Cycle.{allBelow}
 use Rattle.events.specs.Calls.{widthOf, inputOf}
 use Rattle.events.proofs.Cycle.{all-same}
@@ -145,12 +146,18 @@ module _ (s ws starts code lengths firsts written : List ℕ) (all : List Bool) 
       many-31 r d f o h m c =
           rw (sym (j m starts all c long .0) ∙ e, sym (k m starts firsts written all c) ∙ f) (h ∙ ap (ended 0 31) o)
 
-      pub many-rows :
-          (r : Cycled) → u ≡ true → RowsAnswer s ws starts code lengths firsts written all shape ns rs sizes g value unknown r → Answer r
-      unfolding cyclesIn
-      many-rows r f h m c =
-          rw (sym (j m starts all c long .0) ∙ e, sym (k m starts firsts written all c) ∙ f)
-          (h before long (rw e at j) m c (sym (k m starts firsts written all c) ∙ f) ∙ ap (cyclesOf (clockedIn m (tablesIn ns rs)) g value unknown) (c .inputs))
+      module _ (f : u ≡ true) (w : Bool) (y : w ≡ wholeRows value unknown) where
+        pub many-25 : (r : Cycled) (d : Clocked) → w ≡ false → d ≡ refused 25 g → r ≡ ended 0 25 d → Answer r
+        unfolding cyclesIn
+        many-25 r d q o h m c =
+            rw (sym (j m starts all c long .0) ∙ e, sym (k m starts firsts written all c) ∙ f, sym y ∙ q) (h ∙ ap (ended 0 25) o)
+
+        pub many-rows :
+            (r : Cycled) → w ≡ true → RowsAnswer s ws starts code lengths firsts written all shape ns rs sizes g value unknown r → Answer r
+        unfolding cyclesIn
+        many-rows r q h m c =
+            rw (sym (j m starts all c long .0) ∙ e, sym (k m starts firsts written all c) ∙ f, sym y ∙ q)
+            (h before long (rw e at j) m c (sym (k m starts firsts written all c) ∙ f) ∙ ap (cyclesOf (clockedIn m (tablesIn ns rs)) g value unknown) (c .inputs))
 
 -- ---- what the last cycle gave
 

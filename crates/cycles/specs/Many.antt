@@ -12,6 +12,7 @@ use Rattle.sheet.specs.Expression.{Expr}
 use Rattle.sheet.specs.Module.{Module}
 use Rattle.state.specs.Saved.{listOf}
 use Rattle.events.specs.declared.Inputs.{Inputs}
+use Rattle.events.specs.Rows.{wholeRows}
 use Rattle.nextstate.specs.declared.Registers.{Registers}
 use Rattle.nextstate.specs.declared.Clocked.{Clocked}
 use Rattle.nextstate.specs.Extraction.{Tables, rightLengths}
@@ -61,7 +62,7 @@ module _ (call : Registers → Inputs → Clocked) (inputs : ℕ → Inputs) whe
       let d = call (registersOf c) (inputs r) in
       pick (eqb (d .number) 0) (cyclesFrom n (r + 1) d) (ended r (d .number) c)
 
--- ---- the call: as many rows as the numbers fill. A sheet, tables or registers that are refused are refused at once.
+-- ---- the call: "Cycle run: 23, 1 to 21, 24, 31, 25." A sheet, tables, registers or rows that are refused are refused at once.
 
 abbrev pub atOnce : ℕ → Registers → Cycled
 atOnce n g = ended 0 n (refused n g)
@@ -71,8 +72,14 @@ module _ (call : Registers → Inputs → Clocked) (g : Registers) (value : List
   unfoldable pub cyclesOf : ℕ → Cycled
   cyclesOf inputs = cyclesFrom call (rowInputs inputs value unknown) (length value / 16) 0 (refused 0 g)
 
+  -- ".. 24, 31, 25": rows that aren't whole are input values of wrong number, and no cycle is run.
   unfoldable pub cyclesIn : Module Expr → Tables → Cycled
-  cyclesIn m T = pick (tablesFit m T) (pick (registersFit m g) (cyclesOf (m .scope .inputs)) (atOnce 31 g)) (atOnce 24 g)
+  cyclesIn m T =
+      pick (tablesFit m T)
+      (pick (registersFit m g)
+      (pick (wholeRows value unknown) (cyclesOf (m .scope .inputs)) (atOnce 25 g))
+      (atOnce 31 g))
+      (atOnce 24 g)
 
   unfoldable pub cyclesOr : Res (Module Expr) → Tables → Cycled
   cyclesOr (ok m) T = cyclesIn m T

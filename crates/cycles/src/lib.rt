@@ -90,8 +90,8 @@ pub fn cycle(
     )
 }
 
-// Many cycles: rows of 16 inputs, the clock's in front, as many as `value` fills; a cycle for each, from what the last one left, up
-// to the first that is refused.
+// Many cycles: whole rows of 16 inputs, the clock's in front, each with its flag; a cycle for each row, from what the last one left,
+// up to the first that is refused.
 pub fn run(
     sheet: &[u8],
     nodes: &[u16],

@@ -11,6 +11,7 @@ use clocking::put_value;
 use clocking::reach;
 use clocking::step;
 use engine::Shape;
+use fitting::rows_whole;
 use nextstate::Clocked;
 use nextstate::Registers;
 use nodes::upper;
@@ -292,6 +293,9 @@ pub fn run_filled(
     }
     if !registers_right(sheet, widths, code, lengths, shape, before) {
         return ended(0, 31, refused(31, before));
+    }
+    if !rows_whole(value, unknown) {
+        return ended(0, 25, refused(25, before));
     }
     run_rows(
         sheet,

@@ -5,3 +5,4 @@ pub mod Fits
 pub mod Runs
 pub mod Samples
 pub mod Accepted
+pub mod Refused

@@ -4,7 +4,7 @@
 --   runIn-append, runIn-stopped   a run over two lists, one after the other;
 --   chain-runIn, chain-runBy      the accepted choices, each a step from the state that the one before it left;
 --   runIn-choicesBy               a run that picks its choices is the run over the list of those that it took;
---   plain-lowest, plain-commit    what the plain run picks;
+--   plain-lowest, plain-commit    what the plain run picks, and plainly-runBy: each of its choices is such a one;
 --   ended-plain                   how the plain run ends, and verdict-quiet, verdict-spent, verdict-stopped both ways;
 --   fits-runIn, fits-runBy        the state reached fits the sheet.
 -- Assumes nothing.
@@ -30,9 +30,11 @@ use Rattle.events.specs.declared.Chosen.{Chosen}
 use Rattle.events.specs.declared.Ran.{Ran}
 use Rattle.events.specs.declared.Verdict.the-variants.{Quiet, Spent, Stopped}
 use Rattle.events.specs.declared.Rested.{Rested}
+use Rattle.events.specs.Verdict.{numberOfVerdict}
 use Rattle.events.specs.Cycle.{items, anyBelow, enabled, anyEnabled, anyPending, quiet}
 use Rattle.events.specs.Calls.{spend, refusal, chooseIn, onward, runIn, resting, runBy, choicesBy, lowest, plainChoice}
-use Rattle.events.specs.Steps.{Step}
+pub use Rattle.events.specs.Runs.{Chain, done, after, Over, all-ran, refused, Ended, at-rest, spent, stopped}
+use Rattle.events.specs.Runs.{Plainest, the-lowest, the-commit, Plainly, rests, goes, Says}
 use Rattle.events.proofs.Cycle.{absurd-bool, or-left, or-right, none-below}
 use Rattle.events.proofs.Choices.{full, spend-full, spend-zero, none-enabled, some-pending, Ready, commit-ready, ready-item, refusal-ready, number-chooseIn, state-refused, shaped-chooseIn}
 use Rattle.events.proofs.Steps.{step-chooseIn}
@@ -122,16 +124,6 @@ module _ (m : Module Expr) (ds : List ℕ) where
       by (no z) ih = onward-refused r (runIn m (cs ++ ds) (r .state)) z ∙ sym (onward-refused r rest z)
 
 -- ---- the accepted choices as steps
-
--- Steps one after the other, each from the state that the one before it left.
-pub data Chain (m : Module Expr) : State → List ℕ → State → Type 0 where
-  done : {st : State} → Chain m st [] st
-  after : {old mid new : State} {c : ℕ} {cs : List ℕ} → Step m old mid c → Chain m mid cs new → Chain m old (c ∷ cs) new
-
--- How a run over a list ended: all were accepted, or the next one was refused.
-pub data Over (m : Module Expr) (cs : List ℕ) (r : Ran) : Type 0 where
-  all-ran : r .number ≡ 0 → r .accepted ≡ length cs → Over m cs r
-  refused : r .accepted < length cs → r .number ≢ 0 → r .number ≡ refusal m (r .state) (getD cs (r .accepted) 0) → Over m cs r
 
 module _ (m : Module Expr) where
   pub over-runIn : (cs : List ℕ) (st : State) → Over m cs (runIn m cs st)
@@ -361,12 +353,45 @@ module _ (m : Module Expr) (st : State) where
   pub plain-refusal : Sound m → quiet m st ≡ false → chooseIn m st (plainChoice m st) .number ≡ spend (st .count)
   plain-refusal w h = number-chooseIn m st (plainChoice m st) ∙ refusal-ready m st w (plain-ready h)
 
--- ---- how the plain run ends
+-- ---- the plain run's choices, each the plainest in its state
 
-pub data Ended (m : Module Expr) (n : ℕ) (r : Rested) : Type 0 where
-  at-rest : r .verdict ≡ Quiet → quiet m (r .state) ≡ true → r .accepted ≤ n → Ended m n r
-  spent : r .verdict ≡ Spent → quiet m (r .state) ≡ false → r .accepted ≡ n → Ended m n r
-  stopped : r .verdict ≡ Stopped 36 → quiet m (r .state) ≡ false → r .accepted < n → r .state .count ≡ full → Ended m n r
+module _ (m : Module Expr) where
+  plainest : (st : State) → quiet m st ≡ false → Plainest m st (plainChoice m st)
+  plainest st q = by (anyEnabled m st) refl
+    where
+      by : (t : Bool) → anyEnabled m st ≡ t → Plainest m st (plainChoice m st)
+      by true e = let p = plain-lowest m st e in the-lowest (p .0) (p .1) (p .2)
+      by false e = rw (plain-commit m st e) (the-commit (none-enabled m st e))
+
+  pub plainly-runBy :
+      Sound m → (n : ℕ) (st : State) → Shaped st →
+      Plainly m st (choicesBy m (plainChoice m) n st) (runBy m (plainChoice m) n st .state)
+  unfolding runBy choicesBy
+  plainly-runBy w zero st s = rests
+  plainly-runBy w (suc n) st s =
+      by (quiet m st) refl (ℕ-discrete (r .number) 0) (plainly-runBy w n (r .state) (shaped-chooseIn m st c s))
+    where
+      c : ℕ
+      c = plainChoice m st
+
+      r : Chosen
+      r = chooseIn m st c
+
+      cs : List ℕ
+      cs = choicesBy m (plainChoice m) n (r .state)
+
+      rest : Rested
+      rest = runBy m (plainChoice m) n (r .state)
+
+      by : (q : Bool) → quiet m st ≡ q → Dec (r .number ≡ 0) → Plainly m (r .state) cs (rest .state) →
+          Plainly m st (pick q [] (pick (eqb (r .number) 0) (c ∷ cs) []))
+          ((pick q (record { accepted = 0; verdict = Quiet; state = st }) (resting st r rest)) .state)
+      by true e z ih = rests
+      by false e (yes z) ih =
+          rw (resting-accepted st r rest z, eq-eqb (r .number) 0 z) (goes (plainest st e) (step-chooseIn m w st s c z) ih)
+      by false e (no z) ih = rw (resting-refused st r rest z, ne-eqb (r .number) 0 z) rests
+
+-- ---- how the plain run ends
 
 module _ (m : Module Expr) (w : Sound m) where
   ended-zero :
@@ -427,3 +452,19 @@ module _ (m : Module Expr) (n : ℕ) (r : Rested) where
   verdict-stopped (at-rest v q a) = (λ e. let z : _≡_ {A = ℕ} 0 1 = cc in absurd (omega arith), λ e. absurd-bool q (e .1))
   verdict-stopped (spent v q a) = (λ e. let z : _≡_ {A = ℕ} 0 1 = cc in absurd (omega arith), λ e. absurd (omega (arith, e .0)))
   verdict-stopped (stopped v q a c) = (λ e. (a, q), λ e. v)
+
+  -- The number, 0 if none stopped it.
+  pub number-stopped : Ended m n r → (numberOfVerdict (r .verdict) ≡ 36) ↔ (r .verdict ≡ Stopped 36)
+  unfolding numberOfVerdict
+  number-stopped (at-rest v q a) = (λ e. absurd (omega (arith, rw v at e)), λ e. cc)
+  number-stopped (spent v q a) = (λ e. absurd (omega (arith, rw v at e)), λ e. cc)
+  number-stopped (stopped v q a c) = (λ e. v, λ e. rw v)
+
+  pub says : Ended m n r → Says m n r
+  says e =
+      record {
+        at-rest-exactly = verdict-quiet e;
+        spent-exactly = verdict-spent e;
+        stopped-exactly = verdict-stopped e;
+        gives-36 = number-stopped e;
+      }

@@ -16,7 +16,7 @@ use Rattle.state.specs.State.{withCounters, valueOf, pendingOf, placeOf, isDue}
 use Rattle.events.specs.declared.Inputs.{Inputs}
 use Rattle.events.specs.declared.Chosen.{Chosen}
 use Rattle.events.specs.declared.Ran.{Ran}
-use Rattle.events.specs.declared.Verdict.the-variants.{Quiet, Spent, Stopped}
+use Rattle.events.specs.declared.Verdict.the-variants.{Quiet, Spent, Stopped, Refused}
 use Rattle.events.specs.declared.Rested.{Rested}
 use Rattle.events.specs.Cycle.{codeOf, items, allBelow, enabled, anyEnabled, isSome, anyPending, quiet, runThread, runWire, commit, feed}
 
@@ -177,7 +177,7 @@ plainChoice m st = lowest (items m) (enabled m st) 255
 
 unfoldable pub runPlain : List ℕ → State → ℕ → Rested
 runPlain s st n =
-    judged (read s) st (λ k. record { accepted = 0; verdict = Stopped k; state = st }) (λ m. runBy m (plainChoice m) n st)
+    judged (read s) st (λ k. record { accepted = 0; verdict = Refused k; state = st }) (λ m. runBy m (plainChoice m) n st)
 
 -- ---- an instant: ".. 25, 32, 36"
 

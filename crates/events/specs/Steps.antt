@@ -1,5 +1,8 @@
 -- What a step of the simulation cycle is (document 01, "The simulation cycle"), written from its sentences and through the
--- state's accessors alone, without the functions that compute it: a reviewer holds this page against the paper.
+-- state's accessors alone, without the functions that compute the state left: a reviewer holds this page against the paper.
+-- What it shares with specs/Cycle are the tests of one sentence each: `enabled` ("A thread is enabled off a wait, a wire when
+-- due"), `quiet` ("Quiet: nothing enabled, nothing pending") and `waitFires` (one of the wait's terms fires), and the names of the
+-- module's parts: `current`, `wireExpr`, `wireVariable`, `items`.
 -- proofs/Steps shows that the accepted choices and instants are these steps, and no others.
 use Prim.Native.Nat.{ℕ, _+_, _-_, _≤_, _<_}
 use mathlib.Core.Path.{_≡_}

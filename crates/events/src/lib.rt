@@ -22,11 +22,13 @@ pub struct Ran {
     pub state: State,
 }
 
-// How a plain run ended.
+// How a plain run ended: at rest, with its choices spent, stopped at a choice; or it was a refused call. specs/Verdict has the
+// number and the word of each case.
 pub enum Verdict {
     Quiet,
     Spent,
     Stopped(u8),
+    Refused(u8),
 }
 
 // What a plain run gives.

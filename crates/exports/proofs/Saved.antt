@@ -1,17 +1,13 @@
--- A call on a saved state: what the code answers where a state was loaded, and where none was. Assumes nothing.
+-- A call on a saved state: what `load` found. Assumes nothing.
 use mathlib.Core.Path.{_≡_, refl, sym, ap, _∙_}
-use mathlib.Core.Bool.{true, false, true≢false, false≢true}
+use mathlib.Core.Bool.{Bool, true, false, true≢false, false≢true}
 use mathlib.Core.List.{List}
 use mathlib.Core.Option.{Option, none, some}
 use Prim.Native.Nat.{ℕ}
-use lib.Seq.{sets}
+use Rattle.values.specs.Values.{pick}
 use Rattle.state.specs.declared.State.{State}
 use Rattle.state.specs.declared.Loaded.{Loaded}
-use Rattle.state.specs.Saved.{saved, loaded, loadedAnswer}
-use Rattle.events.specs.declared.Chosen.{Chosen}
-use Rattle.exports.specs.Saved.{numberOn, bytesOn, toldOn}
-
--- ---- what `load` found
+use Rattle.state.specs.Saved.{isSaved, stateIn, loaded, loadedAnswer}
 
 pub found-none : (o : Option State) (l : Loaded) → l ≡ loadedAnswer o → l .found ≡ false → o ≡ none
 unfolding loadedAnswer
@@ -23,31 +19,11 @@ unfolding loadedAnswer
 found-some none l e h = absurd (false≢true (sym (ap (λ (x : Loaded). x .found) e) ∙ h))
 found-some (some st) l e h = ap some (sym (ap (λ (x : Loaded). x .state) e))
 
--- ---- a call on it
-
-module _ (b : List ℕ) (l : Loaded) (e : l ≡ loadedAnswer (loaded b)) (call : State → Chosen) where
-  pub number-none : l .found ≡ false → 255 ≡ numberOn (loaded b) call
-  unfolding numberOn
-  number-none h = rw (found-none (loaded b) l e h) refl
-
-  pub bytes-none : l .found ≡ false → b ≡ bytesOn b (loaded b) call
-  unfolding bytesOn
-  bytes-none h = rw (found-none (loaded b) l e h) refl
-
-  pub number-some : {c : Chosen} → l .found ≡ true → c ≡ call (l .state) → c .number ≡ numberOn (loaded b) call
-  unfolding numberOn
-  number-some h g = rw (found-some (loaded b) l e h, g) refl
-
-  pub bytes-some : {c : Chosen} {b' : List ℕ} → l .found ≡ true → c ≡ call (l .state) → b' ≡ sets b 0 (saved (c .state)) →
-      b' ≡ bytesOn b (loaded b) call
-  unfolding bytesOn
-  bytes-some h g s = s ∙ rw (found-some (loaded b) l e h, g) refl
-
-module _ (b : List ℕ) (l : Loaded) (e : l ≡ loadedAnswer (loaded b)) (tell : State → ℕ) where
-  pub told-none : l .found ≡ false → 0 ≡ toldOn (loaded b) tell
-  unfolding toldOn
-  told-none h = rw (found-none (loaded b) l e h) refl
-
-  pub told-some : {n : ℕ} → l .found ≡ true → n ≡ tell (l .state) → n ≡ toldOn (loaded b) tell
-  unfolding toldOn
-  told-some h g = g ∙ rw (found-some (loaded b) l e h) refl
+-- Something is found exactly where the bytes are a saved state.
+pub found-saved : (b : List ℕ) (l : Loaded) → l ≡ loadedAnswer (loaded b) → l .found ≡ isSaved b
+unfolding loaded loadedAnswer
+found-saved b l e = by (isSaved b) (ap (λ (x : Loaded). x .found) e)
+  where
+    by : (t : Bool) → l .found ≡ loadedAnswer (pick t (some (stateIn b)) none) .found → l .found ≡ t
+    by true h = h
+    by false h = h

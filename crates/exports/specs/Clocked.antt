@@ -1,8 +1,10 @@
--- The cycle run for C and Rust: registers, places, inputs and wires lie in lent arrays, and those of the registers and places become
--- what the call gives back.
+-- The cycle run for C and Rust: registers, places, inputs and wires lie in lent arrays, which become what the call gives back. A
+-- refused call alters none of them.
 use Prim.Native.Nat.{ℕ}
 use mathlib.Core.Bool.{Bool}
 use mathlib.Core.List.{List}
+use lib.Dec.{eqb}
+use Rattle.values.specs.Values.{pick}
 use Rattle.events.specs.declared.Inputs.{Inputs}
 use Rattle.nextstate.specs.declared.Registers.{Registers}
 use Rattle.nextstate.specs.declared.Clocked.{Clocked}
@@ -16,28 +18,28 @@ registersIn value unknown places = record { value = value; unknown = unknown; pl
 unfoldable pub inputsIn : ℕ → List ℕ → List Bool → Inputs
 inputsIn count value unknown = record { count = count; value = value; unknown = unknown }
 
--- ---- what is given back: the number that the call answers with, and what the arrays hold then
+-- ---- the lent arrays: registers, their flags, places, wires, their flags
 
-unfoldable pub clockedAs : ℕ → List ℕ → List Bool → List ℕ → List ℕ → List Bool → Clocked
-clockedAs number value unknown places wire unsure =
-    record {
-      number = number;
-      value = value;
-      unknown = unknown;
-      places = places;
-      wire = wire;
-      unsure = unsure;
-    }
+pub record Arrays : Type 0 where
+  pub value : List ℕ
+  pub unknown : List Bool
+  pub places : List ℕ
+  pub wire : List ℕ
+  pub unsure : List Bool
 
--- Of many cycles: how many were accepted, and the rest as of one.
-unfoldable pub cyclesAs : ℕ → Clocked → Cycled
-cyclesAs cycles last =
-    record {
-      cycles = cycles;
-      number = last .number;
-      value = last .value;
-      unknown = last .unknown;
-      places = last .places;
-      wire = last .wire;
-      unsure = last .unsure;
-    }
+abbrev pub arrays : List ℕ → List Bool → List ℕ → List ℕ → List Bool → Arrays
+arrays value unknown places wire unsure =
+    record { value = value; unknown = unknown; places = places; wire = wire; unsure = unsure }
+
+-- ---- what they hold then
+
+-- One cycle: what it gave, or, where it was refused, what they held.
+unfoldable pub afterCycle : Arrays → Clocked → Arrays
+afterCycle lent c =
+    pick (eqb (c .number) 0) (arrays (c .value) (c .unknown) (c .places) (c .wire) (c .unsure)) lent
+
+-- Many: what the last accepted one gave, or, where none was accepted, what they held. A call that stops at a later row is no refused
+-- call.
+unfoldable pub afterCycles : Arrays → Cycled → Arrays
+afterCycles lent r =
+    pick (eqb (r .cycles) 0) lent (arrays (r .value) (r .unknown) (r .places) (r .wire) (r .unsure))

@@ -1,3 +1,4 @@
 pub mod Clocked
 pub mod Exports
+pub mod Refused
 pub mod Saved

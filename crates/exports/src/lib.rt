@@ -1,21 +1,22 @@
-// The functions that C and Rust call. A slice passes as a pointer and its length, an array or a number as a pointer.
+// The functions that C and Rust call. A slice passes as a pointer and its length, an array or a number as a pointer. A refused call
+// leaves every lent byte and word as it was (specs/Refused); what it tells beside its number is its answer.
 use events::Inputs;
 use events::Verdict;
 use nextstate::Registers;
 ghost use mathlib.Core.Path.{_≡_};
-ghost use lib.ListN.{length};
-ghost use lib.Seq.{sets};
+ghost use mathlib.Core.Bool.{false};
 ghost use Rattle.sheet.specs.Module.{read};
-ghost use Rattle.text.specs.Listing.{output};
-ghost use Rattle.state.specs.Saved.{saved, loaded};
+ghost use Rattle.listings.specs.Listing.{listed, laidIn};
+ghost use Rattle.state.specs.Saved.{isSaved, loaded};
 ghost use Rattle.events.specs.Calls.{start, choose, runList, runPlain, instant};
+ghost use Rattle.events.specs.Verdict.{numberOfVerdict, wordOfVerdict};
 ghost use Rattle.batch.specs.Cycles.{runCycles};
 ghost use Rattle.nextstate.specs.Extraction.{extract};
 ghost use Rattle.nextstate.specs.CycleRun.{cycleRun};
 ghost use Rattle.cycles.specs.Many.{cyclesRun};
 ghost use Rattle.exports.specs.Exports.{numberOf, placeOf};
-ghost use Rattle.exports.specs.Clocked.{registersIn, inputsIn, clockedAs, cyclesAs};
-ghost use Rattle.exports.specs.Saved.{numberOn, bytesOn, toldOn, ran, rested, numberOfVerdict, wordOfVerdict, cycledAs};
+ghost use Rattle.exports.specs.Clocked.{registersIn, inputsIn, arrays, afterCycle, afterCycles};
+ghost use Rattle.exports.specs.Saved.{startedIn, unfit, numberOn, bytesOn, toldOn, ran, rested, verdictOn, cycledAs};
 
 // The number of the sheet's refusal, 0 where it is read; `place` takes the byte at which it was met, 0 where it is read.
 #[no_mangle]
@@ -23,49 +24,80 @@ pub extern "C" fn walbryts_read(sheet: &[u8], place: &mut usize) -> u8
     ensures { λ r. ⌜ r ≡ numberOf (read (now (sheet .entry))) ⌝ }
     ensures { λ r. ⌜ now (place .exit) ≡ placeOf (read (now (sheet .entry))) ⌝ }
 {
-    let r = sheet::read(sheet);
-    *place = r.place;
-    r.number
+    let found = sheet::read(sheet);
+    *place = found.place;
+    found.number
 }
 
-// What the listing program prints for the sheet, at the front of `text`; what lies behind it stays. Gives its length.
+// The sheet's listing, at the front of `text`; what lies behind it stays. `length` takes its length, 0 where the sheet is refused.
 #[no_mangle]
-pub extern "C" fn walbryts_list(sheet: &[u8], text: &mut [u8; 65536]) -> usize
-    ensures { λ r. ⌜ r ≡ length (output (now (sheet .entry))) ⌝ }
-    ensures { λ r. ⌜ now (text .exit) ≡ sets (now (text .entry)) 0 (output (now (sheet .entry))) ⌝ }
+pub extern "C" fn walbryts_list(sheet: &[u8], text: &mut [u8; 65536], length: &mut usize) -> u8
+    ensures { λ r. ⌜ r ≡ listed (read (now (sheet .entry))) .number ⌝ }
+    ensures { λ r. ⌜ now (text .exit) ≡ laidIn (now (text .entry)) (read (now (sheet .entry))) ⌝ }
+    ensures { λ r. ⌜ now (length .exit) ≡ listed (read (now (sheet .entry))) .length ⌝ }
 {
-    listings::list(sheet, text)
+    let listing = listings::list(sheet, text);
+    *length = listing.length;
+    listing.number
 }
 
-// ---- the simulator, on a saved state. Each call gives its number, or 255 where the bytes are no saved state.
+// ---- the simulator, on a saved state. Each call gives its number; bytes that are no saved state are refused with 31.
+
+// Are the bytes a saved state?
+#[no_mangle]
+pub extern "C" fn walbryts_is_state(bytes: &[u8]) -> bool
+    ensures { λ r. ⌜ r ≡ isSaved (now (bytes .entry)) ⌝ }
+{
+    let l = state::load(bytes);
+    l.found
+}
 
 // The state becomes the start state.
 #[no_mangle]
 pub extern "C" fn walbryts_start(sheet: &[u8], state: &mut [u8; 641]) -> u8
     ensures { λ r. ⌜ r ≡ start (now (sheet .entry)) .number ⌝ }
-    ensures { λ r. ⌜ now (state .exit) ≡ sets (now (state .entry)) 0 (saved (start (now (sheet .entry)) .state)) ⌝ }
+    ensures { λ r. ⌜ now (state .exit) ≡ startedIn (now (state .entry)) (start (now (sheet .entry))) ⌝ }
 {
-    let c = simulator::start(sheet);
-    let left = c.state;
+    let first = simulator::start(sheet);
+    if first.number != 0 {
+        return first.number;
+    }
+    let left = first.state;
     state::save(left, state);
-    c.number
+    first.number
+}
+
+// The number of a call on bytes that are no saved state: the sheet's own, else 31.
+fn unfit(sheet: &[u8]) -> u8
+    ensures { λ r. ⌜ r ≡ unfit (read (now (sheet .entry))) ⌝ }
+{
+    let r = sheet::read(sheet);
+    if r.number != 0 {
+        return r.number;
+    }
+    31
 }
 
 // A choice.
 #[no_mangle]
 pub extern "C" fn walbryts_choose(sheet: &[u8], state: &mut [u8; 641], choice: u8) -> u8
-    ensures { λ r. ⌜ r ≡ numberOn (loaded (now (state .entry))) (λ st. choose (now (sheet .entry)) st choice) ⌝ }
-    ensures { λ r. ⌜ now (state .exit) ≡ bytesOn (now (state .entry)) (loaded (now (state .entry))) (λ st. choose (now (sheet .entry)) st choice) ⌝ }
+    ensures { λ r. ⌜
+        r ≡ numberOn (now (sheet .entry)) (loaded (now (state .entry))) (λ st. choose (now (sheet .entry)) st choice)
+        ⌝ }
+    ensures { λ r. ⌜
+        now (state .exit)
+        ≡ bytesOn (now (state .entry)) (loaded (now (state .entry))) (λ st. choose (now (sheet .entry)) st choice)
+        ⌝ }
 {
     let l = state::load(state);
     if !l.found {
-        return 255;
+        return unfit(sheet);
     }
     let st = l.state;
-    let c = simulator::choose(sheet, st, choice);
-    let left = c.state;
+    let chosen = simulator::choose(sheet, st, choice);
+    let left = chosen.state;
     state::save(left, state);
-    c.number
+    chosen.number
 }
 
 // A run over a list of choices; `accepted` takes how many were accepted.
@@ -76,24 +108,35 @@ pub extern "C" fn walbryts_run(
     choices: &[u8],
     accepted: &mut usize,
 ) -> u8
-    ensures { λ r. ⌜ r ≡ numberOn (loaded (now (state .entry))) (λ st. ran (runList (now (sheet .entry)) st (now (choices .entry)))) ⌝ }
-    ensures { λ r. ⌜ now (state .exit) ≡ bytesOn (now (state .entry)) (loaded (now (state .entry))) (λ st. ran (runList (now (sheet .entry)) st (now (choices .entry)))) ⌝ }
-    ensures { λ r. ⌜ now (accepted .exit) ≡ toldOn (loaded (now (state .entry))) (λ st. runList (now (sheet .entry)) st (now (choices .entry)) .accepted) ⌝ }
+    ensures { λ r. ⌜
+        r
+        ≡ numberOn (now (sheet .entry)) (loaded (now (state .entry)))
+        (λ st. ran (runList (now (sheet .entry)) st (now (choices .entry))))
+        ⌝ }
+    ensures { λ r. ⌜
+        now (state .exit)
+        ≡ bytesOn (now (state .entry)) (loaded (now (state .entry)))
+        (λ st. ran (runList (now (sheet .entry)) st (now (choices .entry))))
+        ⌝ }
+    ensures { λ r. ⌜
+        now (accepted .exit)
+        ≡ toldOn 0 (loaded (now (state .entry))) (λ st. runList (now (sheet .entry)) st (now (choices .entry)) .accepted)
+        ⌝ }
 {
     let l = state::load(state);
     if !l.found {
         *accepted = 0;
-        return 255;
+        return unfit(sheet);
     }
     let st = l.state;
-    let r = simulator::run(sheet, st, choices);
-    let left = r.state;
+    let reached = simulator::run(sheet, st, choices);
+    let left = reached.state;
     state::save(left, state);
-    *accepted = r.accepted;
-    r.number
+    *accepted = reached.accepted;
+    reached.number
 }
 
-// A plain run's number, 0 where it came to rest or was spent.
+// A plain run's number.
 fn number_of_verdict(v: Verdict) -> u8
     ensures { λ r. ⌜ r ≡ numberOfVerdict v ⌝ }
 {
@@ -101,10 +144,11 @@ fn number_of_verdict(v: Verdict) -> u8
         Verdict::Quiet => 0,
         Verdict::Spent => 0,
         Verdict::Stopped(n) => n,
+        Verdict::Refused(n) => n,
     }
 }
 
-// A plain run's word: 0 quiet, 1 spent, 2 stopped.
+// A plain run's word.
 fn word_of_verdict(v: Verdict) -> u8
     ensures { λ r. ⌜ r ≡ wordOfVerdict v ⌝ }
 {
@@ -112,10 +156,11 @@ fn word_of_verdict(v: Verdict) -> u8
         Verdict::Quiet => 0,
         Verdict::Spent => 1,
         Verdict::Stopped(_) => 2,
+        Verdict::Refused(_) => 3,
     }
 }
 
-// The plain run; `accepted` takes how many choices were accepted, `word` 0 for quiet, 1 for spent, 2 for stopped.
+// The plain run; `accepted` takes how many choices were accepted, `word` 0 for quiet, 1 for spent, 2 for stopped, 3 for refused.
 #[no_mangle]
 pub extern "C" fn walbryts_run_plain(
     sheet: &[u8],
@@ -124,23 +169,37 @@ pub extern "C" fn walbryts_run_plain(
     accepted: &mut u16,
     word: &mut u8,
 ) -> u8
-    ensures { λ r. ⌜ r ≡ numberOn (loaded (now (state .entry))) (λ st. rested (runPlain (now (sheet .entry)) st limit)) ⌝ }
-    ensures { λ r. ⌜ now (state .exit) ≡ bytesOn (now (state .entry)) (loaded (now (state .entry))) (λ st. rested (runPlain (now (sheet .entry)) st limit)) ⌝ }
-    ensures { λ r. ⌜ now (accepted .exit) ≡ toldOn (loaded (now (state .entry))) (λ st. runPlain (now (sheet .entry)) st limit .accepted) ⌝ }
-    ensures { λ r. ⌜ now (word .exit) ≡ toldOn (loaded (now (state .entry))) (λ st. wordOfVerdict (runPlain (now (sheet .entry)) st limit .verdict)) ⌝ }
+    ensures { λ r. ⌜
+        r
+        ≡ numberOfVerdict
+        (verdictOn (now (sheet .entry)) (loaded (now (state .entry))) (λ st. runPlain (now (sheet .entry)) st limit))
+        ⌝ }
+    ensures { λ r. ⌜
+        now (state .exit)
+        ≡ bytesOn (now (state .entry)) (loaded (now (state .entry))) (λ st. rested (runPlain (now (sheet .entry)) st limit))
+        ⌝ }
+    ensures { λ r. ⌜
+        now (accepted .exit)
+        ≡ toldOn 0 (loaded (now (state .entry))) (λ st. runPlain (now (sheet .entry)) st limit .accepted)
+        ⌝ }
+    ensures { λ r. ⌜
+        now (word .exit)
+        ≡ wordOfVerdict
+        (verdictOn (now (sheet .entry)) (loaded (now (state .entry))) (λ st. runPlain (now (sheet .entry)) st limit))
+        ⌝ }
 {
     let l = state::load(state);
     if !l.found {
         *accepted = 0;
-        *word = 0;
-        return 255;
+        *word = 3;
+        return unfit(sheet);
     }
     let st = l.state;
-    let r = simulator::run_plain(sheet, st, limit);
-    let left = r.state;
+    let rest = simulator::run_plain(sheet, st, limit);
+    let left = rest.state;
     state::save(left, state);
-    *accepted = r.accepted;
-    let v = r.verdict;
+    *accepted = rest.accepted;
+    let v = rest.verdict;
     *word = word_of_verdict(v);
     number_of_verdict(v)
 }
@@ -154,12 +213,20 @@ pub extern "C" fn walbryts_instant(
     value: &[u32; 16],
     unknown: &[bool; 16],
 ) -> u8
-    ensures { λ r. ⌜ r ≡ numberOn (loaded (now (state .entry))) (λ st. instant (now (sheet .entry)) st (record { count = count; value = now (value .entry); unknown = now (unknown .entry) })) ⌝ }
-    ensures { λ r. ⌜ now (state .exit) ≡ bytesOn (now (state .entry)) (loaded (now (state .entry))) (λ st. instant (now (sheet .entry)) st (record { count = count; value = now (value .entry); unknown = now (unknown .entry) })) ⌝ }
+    ensures { λ r. ⌜
+        r
+        ≡ numberOn (now (sheet .entry)) (loaded (now (state .entry)))
+        (λ st. instant (now (sheet .entry)) st (inputsIn count (now (value .entry)) (now (unknown .entry))))
+        ⌝ }
+    ensures { λ r. ⌜
+        now (state .exit)
+        ≡ bytesOn (now (state .entry)) (loaded (now (state .entry)))
+        (λ st. instant (now (sheet .entry)) st (inputsIn count (now (value .entry)) (now (unknown .entry))))
+        ⌝ }
 {
     let l = state::load(state);
     if !l.found {
-        return 255;
+        return unfit(sheet);
     }
     let st = l.state;
     let a = Inputs {
@@ -167,13 +234,14 @@ pub extern "C" fn walbryts_instant(
         value: *value,
         unknown: *unknown,
     };
-    let c = simulator::instant(sheet, st, a);
-    let left = c.state;
+    let entered = simulator::instant(sheet, st, a);
+    let left = entered.state;
     state::save(left, state);
-    c.number
+    entered.number
 }
 
-// Many clock cycles: rows of 16 inputs, the clock's not looked at; `phases` takes how many instants were done.
+// Many clock cycles: rows of 16 inputs, the clock's not looked at; `phases` takes how many instants were done, `running` whether it
+// was the run after an instant that stopped it.
 #[no_mangle]
 pub extern "C" fn walbryts_run_cycles(
     sheet: &[u8],
@@ -181,22 +249,42 @@ pub extern "C" fn walbryts_run_cycles(
     value: &[u32],
     unknown: &[bool],
     phases: &mut usize,
+    running: &mut bool,
 ) -> u8
-    ensures { λ r. ⌜ r ≡ numberOn (loaded (now (state .entry))) (λ st. cycledAs (runCycles (now (sheet .entry)) st (now (value .entry)) (now (unknown .entry)))) ⌝ }
-    ensures { λ r. ⌜ now (state .exit) ≡ bytesOn (now (state .entry)) (loaded (now (state .entry))) (λ st. cycledAs (runCycles (now (sheet .entry)) st (now (value .entry)) (now (unknown .entry)))) ⌝ }
-    ensures { λ r. ⌜ now (phases .exit) ≡ toldOn (loaded (now (state .entry))) (λ st. runCycles (now (sheet .entry)) st (now (value .entry)) (now (unknown .entry)) .phases) ⌝ }
+    ensures { λ r. ⌜
+        r
+        ≡ numberOn (now (sheet .entry)) (loaded (now (state .entry)))
+        (λ st. cycledAs (runCycles (now (sheet .entry)) st (now (value .entry)) (now (unknown .entry))))
+        ⌝ }
+    ensures { λ r. ⌜
+        now (state .exit)
+        ≡ bytesOn (now (state .entry)) (loaded (now (state .entry)))
+        (λ st. cycledAs (runCycles (now (sheet .entry)) st (now (value .entry)) (now (unknown .entry))))
+        ⌝ }
+    ensures { λ r. ⌜
+        now (phases .exit)
+        ≡ toldOn 0 (loaded (now (state .entry)))
+        (λ st. runCycles (now (sheet .entry)) st (now (value .entry)) (now (unknown .entry)) .phases)
+        ⌝ }
+    ensures { λ r. ⌜
+        now (running .exit)
+        ≡ toldOn false (loaded (now (state .entry)))
+        (λ st. runCycles (now (sheet .entry)) st (now (value .entry)) (now (unknown .entry)) .running)
+        ⌝ }
 {
     let l = state::load(state);
     if !l.found {
         *phases = 0;
-        return 255;
+        *running = false;
+        return unfit(sheet);
     }
     let st = l.state;
-    let r = batch::run_cycles(sheet, st, value, unknown);
-    let left = r.state;
+    let done = batch::run_cycles(sheet, st, value, unknown);
+    let left = done.state;
     state::save(left, state);
-    *phases = r.phases;
-    r.number
+    *phases = done.phases;
+    *running = done.running;
+    done.number
 }
 
 // ---- extraction and the cycle run
@@ -228,10 +316,19 @@ pub extern "C" fn walbryts_cycle(
     unsure: &mut [bool; 32],
 ) -> u8
     ensures { λ r. ⌜
-        clockedAs r (now (value .exit)) (now (unknown .exit)) (now (places .exit)) (now (wire .exit)) (now (unsure .exit))
+        r
         ≡ cycleRun (now (sheet .entry)) (now (nodes .entry)) (now (rows .entry))
         (registersIn (now (value .entry)) (now (unknown .entry)) (now (places .entry)))
         (inputsIn count (now (inputs .entry)) (now («inputs_unknown» .entry)))
+        .number
+        ⌝ }
+    ensures { λ r. ⌜
+        arrays (now (value .exit)) (now (unknown .exit)) (now (places .exit)) (now (wire .exit)) (now (unsure .exit))
+        ≡ afterCycle
+        (arrays (now (value .entry)) (now (unknown .entry)) (now (places .entry)) (now (wire .entry)) (now (unsure .entry)))
+        (cycleRun (now (sheet .entry)) (now (nodes .entry)) (now (rows .entry))
+        (registersIn (now (value .entry)) (now (unknown .entry)) (now (places .entry)))
+        (inputsIn count (now (inputs .entry)) (now («inputs_unknown» .entry))))
         ⌝ }
 {
     let before = Registers {
@@ -245,6 +342,9 @@ pub extern "C" fn walbryts_cycle(
         unknown: *inputs_unknown,
     };
     let c = cycles::cycle(sheet, nodes, rows, before, a);
+    if c.number != 0 {
+        return c.number;
+    }
     let registers = c.value;
     *value = registers;
     let flags = c.unknown;
@@ -259,7 +359,7 @@ pub extern "C" fn walbryts_cycle(
 }
 
 // Many clock cycles by lent tables: rows of 16 inputs, the clock's not looked at; `cycles` takes how many were accepted. The
-// arrays become what the last accepted one gave.
+// arrays become what the last accepted one gave; where none was, they stay.
 #[no_mangle]
 pub extern "C" fn walbryts_cycles(
     sheet: &[u8],
@@ -275,11 +375,26 @@ pub extern "C" fn walbryts_cycles(
     unsure: &mut [bool; 32],
 ) -> u8
     ensures { λ r. ⌜
-        cyclesAs (now (cycles .exit))
-        (clockedAs r (now (value .exit)) (now (unknown .exit)) (now (places .exit)) (now (wire .exit)) (now (unsure .exit)))
+        r
         ≡ cyclesRun (now (sheet .entry)) (now (nodes .entry)) (now (rows .entry))
         (registersIn (now (value .entry)) (now (unknown .entry)) (now (places .entry)))
         (now (inputs .entry)) (now («inputs_unknown» .entry))
+        .number
+        ⌝ }
+    ensures { λ r. ⌜
+        now (cycles .exit)
+        ≡ cyclesRun (now (sheet .entry)) (now (nodes .entry)) (now (rows .entry))
+        (registersIn (now (value .entry)) (now (unknown .entry)) (now (places .entry)))
+        (now (inputs .entry)) (now («inputs_unknown» .entry))
+        .cycles
+        ⌝ }
+    ensures { λ r. ⌜
+        arrays (now (value .exit)) (now (unknown .exit)) (now (places .exit)) (now (wire .exit)) (now (unsure .exit))
+        ≡ afterCycles
+        (arrays (now (value .entry)) (now (unknown .entry)) (now (places .entry)) (now (wire .entry)) (now (unsure .entry)))
+        (cyclesRun (now (sheet .entry)) (now (nodes .entry)) (now (rows .entry))
+        (registersIn (now (value .entry)) (now (unknown .entry)) (now (places .entry)))
+        (now (inputs .entry)) (now («inputs_unknown» .entry)))
         ⌝ }
 {
     let before = Registers {
@@ -288,6 +403,10 @@ pub extern "C" fn walbryts_cycles(
         places: *places,
     };
     let r = cycles::run(sheet, nodes, rows, before, inputs, inputs_unknown);
+    *cycles = r.cycles;
+    if r.cycles == 0 {
+        return r.number;
+    }
     let registers = r.value;
     *value = registers;
     let flags = r.unknown;
@@ -298,6 +417,5 @@ pub extern "C" fn walbryts_cycles(
     *wire = wires;
     let doubts = r.unsure;
     *unsure = doubts;
-    *cycles = r.cycles;
     r.number
 }

@@ -1,5 +1,5 @@
-// 31 and 25: does a state fit a sheet of these counts, widths and thread sizes, do an instant's inputs? Each function equals
-// its definition in specs/Fitting, for every argument.
+// 31 and 25: does a state fit a sheet of these counts, widths and thread sizes, do an instant's inputs, are rows of inputs whole?
+// Each function equals its definition in specs/Fitting, or in events' specs/Rows, for every argument.
 use events::Inputs;
 use sheet::byte_at;
 use state::State;
@@ -16,6 +16,7 @@ ghost use Rattle.values.specs.Values.{pick, fits};
 ghost use Rattle.values.specs.Planes.{valueAt};
 ghost use Rattle.events.specs.Cycle.{allBelow};
 ghost use Rattle.events.specs.Calls.{pendingFits};
+ghost use Rattle.events.specs.Rows.{wholeRows};
 ghost use Rattle.fitting.specs.Fitting.{slotsFit, stateFitsAt, inputsFitAt};
 
 // A byte as a number of places.
@@ -140,4 +141,11 @@ pub fn inputs_fit(widths: &[u8], inputs: u8, a: Inputs) -> bool
     ensures { λ r. ⌜ r ≡ inputsFitAt (now (widths .entry)) inputs a ⌝ }
 {
     a.count == inputs && values_fit(widths, wide(inputs), &a.value, &a.unknown)
+}
+
+// 25: do the numbers fill rows of 16, and has each its flag?
+pub fn rows_whole(value: &[u32], unknown: &[bool]) -> bool
+    ensures { λ r. ⌜ r ≡ wholeRows (now (value .entry)) (now (unknown .entry)) ⌝ }
+{
+    value.len() % 16 == 0 && unknown.len() == value.len()
 }

@@ -7,6 +7,6 @@ fn main() {
     let mut sheet = [0u8; 8193];
     let n = io::read_full(STDIN_FILENO, &mut sheet);
     let mut text = [0u8; 65536];
-    let length = listings::list(&sheet[..n], &mut text);
+    let length = listings::print(&sheet[..n], &mut text);
     io::write_all(STDOUT_FILENO, &text[..length]);
 }

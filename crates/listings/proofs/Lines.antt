@@ -1,5 +1,4 @@
--- The lines that the code prints from its table are the listing's, for every sheet that is read; and every other sheet's
--- output is its refusal.
+-- The lines that the code prints from its table are the listing's, for every sheet that is read; of every other the buffer stays.
 use mathlib.Core.Path.{_≡_, refl, sym, ap, _∙_}
 use Prim.Native.Nat.{ℕ, zero, suc, _+_, _-_, _≤_, _<_}
 use native.Mathlib.Omega.{arith}
@@ -11,10 +10,12 @@ use Rattle.sheet.specs.declared.SheetRead.{SheetRead}
 use Rattle.sheet.specs.Reading.{Res, ok, no, _>>=_, _>>_}
 use Rattle.sheet.specs.Expression.{Expr, located}
 use Rattle.sheet.specs.Statement.{Stmt, empty, size, Scope, Body, readStmt}
-use Rattle.sheet.specs.Module.{Listed, readHead, readWires, readThreads, Sheet, readSheet}
+use Rattle.sheet.specs.Module.{Module, readHead, readWires, readThreads, Sheet, readSheet, read}
+use Rattle.sheet.specs.Module as reading
 use Rattle.sheet.specs.Answers.{layoutOf, sheetAnswer}
 use Rattle.sheet.proofs.Reading.{bind-ok, check-ok, ok-injective}
 use Rattle.sheet.proofs.Statements.{ReadsStmt, derive-stmt}
+use Rattle.sheet.proofs.Trees.{mapRes, trees, read-located}
 use Rattle.sheet.proofs.Numbers.{numbered-no, located-numbered, sheet-numbered}
 use Rattle.pseudocode.specs.Translation.{Instr, go, threadCode}
 use Rattle.pseudocode.specs.Instruction.{instructionOf}
@@ -23,12 +24,14 @@ use Rattle.pseudocode.specs.Fetching.{fetchAt}
 use Rattle.pseudocode.proofs.Translation.{threadCode-size}
 use Rattle.pseudocode.proofs.Compiling.{Compiles, compile-law}
 use Rattle.writing.specs.Buffer.{Text, filled, puts}
-use Rattle.text.specs.Listing.{showLine, showCode, showThreads, showHead, showModule, refusal, output}
+use Rattle.text.specs.Listing.{showLine, showCode, showThreads, showHead, showModule, listing, refusal, printed, output}
 use Rattle.text.specs.Printing.{textAt, instrOf, printedAt}
 use Rattle.writing.proofs.Buffer.{puts-append, both, puts-sets}
-use Rattle.text.proofs.Length.{length-output}
+use Rattle.text.proofs.Length.{length-listing}
 use Rattle.text.proofs.Located.{PlacedAll, none, more, instr-of, thread-placed, output-located}
+use Rattle.listings.specs.declared.Listed.{Listed}
 use Rattle.listings.specs.Lines.{codeLines, threadLines, tableListing}
+use Rattle.listings.specs.Listing.{listed, laidIn}
 
 -- ---- the turns of the code's loops: what is still to be put gives the whole
 
@@ -93,7 +96,7 @@ module _ {ws s : List ℕ} (code : List ℕ) (thread : ℕ) where
 abbrev number-of : SheetRead → ℕ
 number-of r = r .number
 
-abbrev items : Listed (Stmt ℕ) → List (Stmt ℕ)
+abbrev items : reading.Listed (Stmt ℕ) → List (Stmt ℕ)
 items l = l .items
 
 module _ (c : Scope) (s code sizes : List ℕ) where
@@ -118,7 +121,7 @@ module _ (c : Scope) (s code sizes : List ℕ) where
       lines-code code thread (thread-placed c s x) (getD sizes thread 0) 0 (k ∙ sym n)
       (λ i h. ap (fetchAt s code thread) (zero-add′ i) ∙ ap (λ (j : ℕ). fetchAt s code j i) (add-zero′ thread) ∙ t .fetched 0 i (omega arith) (omega arith))
 
-  lines-threads : (n p : ℕ) {l : Listed (Stmt ℕ)} → readThreads (located s) c s n p ≡ ok l → (ts : List (Stmt ℕ)) → l .items ≡ ts
+  lines-threads : (n p : ℕ) {l : reading.Listed (Stmt ℕ)} → readThreads (located s) c s n p ≡ ok l → (ts : List (Stmt ℕ)) → l .items ≡ ts
       → (thread : ℕ) → Tabled thread ts → threadLines s code sizes (length ts) thread ≡ showThreads (textAt s) thread ts
   unfolding readThreads threadLines showThreads
   lines-threads zero p {l} h ts q thread t =
@@ -161,36 +164,89 @@ table-listing s r e =
     threads-of : Sheet ℕ → List (Stmt ℕ)
     threads-of q = q .contents .threads
 
--- ---- what `list` prints, by the answer of reading
+-- ---- the listing that is put at the front of the buffer, by the answer of reading
+
+-- A text of so many bytes, put at the front.
+module _ (l x y : List ℕ) {b : List ℕ} {r : ℕ} (h : filled b r ≡ puts (filled l 0) y) (e : x ≡ y) (few : length x ≤ 65536) where
+  same : filled b r ≡ filled (sets l 0 x) (0 + length x)
+  same = h ∙ ap (puts (filled l 0)) (sym e) ∙ puts-sets (filled l 0) x (omega arith)
+
+  pub front-length : r ≡ length x
+  front-length =
+      let n : r ≡ 0 + length x = ap (λ (t : Text). t .at) same in
+      omega arith
+
+  pub front-bytes : b ≡ sets l 0 x
+  front-bytes = ap (λ (t : Text). t .bytes) same
 
 module _ (s : List ℕ) (r : SheetRead) (e : r ≡ sheetAnswer (readSheet (located s) s)) where
-  pub output-refused : (r .number ≡ 0 → ⊥) → output s ≡ refusal (r .number)
-  unfolding sheetAnswer printedAt
-  output-refused h = output-located s ∙ by (readSheet (located s) s) refl
-    where
-      by : (x : Res (Sheet ℕ)) → readSheet (located s) s ≡ x → printedAt s x ≡ refusal (r .number)
-      by (ok q) g = absurd (h (ap number-of e ∙ ap (λ (y : Res (Sheet ℕ)). sheetAnswer y .number) g))
-      by (no n p) g = ap refusal (sym (ap number-of e ∙ ap (λ (y : Res (Sheet ℕ)). sheetAnswer y .number) g))
+  abbrev Listing : Listed → List ℕ → List ℕ → Type 0
+  Listing a l b = (a ≡ listed (read s)) × ((b ≡ laidIn l (read s)) × (a .length ≤ 65536))
 
-  pub output-read : r .number ≡ 0 → output s ≡ tableListing s (r .layout .threads) (r .layout .body)
-  unfolding sheetAnswer printedAt layoutOf
-  output-read h = output-located s ∙ by (readSheet (located s) s) refl
+  number-of-read : {x : Res (Sheet ℕ)} → readSheet (located s) s ≡ x → r .number ≡ sheetAnswer x .number
+  number-of-read g = ap number-of e ∙ ap (λ (y : Res (Sheet ℕ)). sheetAnswer y .number) g
+
+  pub list-refused : (r .number ≡ 0 → ⊥) → (l : List ℕ) → Listing (record { number = r .number; length = 0 }) l l
+  unfolding sheetAnswer mapRes listed laidIn
+  list-refused h l = rw (read-located s) (by (readSheet (located s) s) refl)
     where
-      by : (x : Res (Sheet ℕ)) → readSheet (located s) s ≡ x → printedAt s x ≡ tableListing s (r .layout .threads) (r .layout .body)
+      by : (x : Res (Sheet ℕ)) → readSheet (located s) s ≡ x →
+          (_≡_ {A = Listed} (record { number = r .number; length = 0 }) (listed (mapRes (λ q. trees s q .contents) x)))
+          × ((l ≡ laidIn l (mapRes (λ q. trees s q .contents) x)) × (0 ≤ 65536))
+      by (ok q) g = absurd (h (number-of-read g))
+      by (no n p) g = (ap (λ (k : ℕ). record { number = k; length = 0 }) (number-of-read g), (refl, omega arith))
+
+  -- The table's lines are the listing.
+  listing-table : (q : Sheet ℕ) → readSheet (located s) s ≡ ok q →
+      listing (trees s q .contents) ≡ tableListing s (r .layout .threads) (r .layout .body)
+  unfolding output printed printedAt mapRes sheetAnswer layoutOf
+  listing-table q g =
+      let a : r ≡ sheetAnswer (ok q) = e ∙ ap sheetAnswer g in
+      sym (ap printed (read-located s ∙ ap (mapRes (λ t. trees s t .contents)) g))
+      ∙ output-located s
+      ∙ ap (printedAt s) g
+      ∙ sym (table-listing s q g)
+      ∙ sym (ap (λ (x : SheetRead). tableListing s (x .layout .threads) (x .layout .body)) a)
+
+  pub list-read : r .number ≡ 0 → (l : List ℕ) {b : List ℕ} {n : ℕ} →
+      filled b n ≡ puts (filled l 0) (tableListing s (r .layout .threads) (r .layout .body)) →
+      Listing (record { number = 0; length = n }) l b
+  unfolding sheetAnswer mapRes listed laidIn
+  list-read h l {b} {n} w = by (readSheet (located s) s) refl
+    where
+      by : (x : Res (Sheet ℕ)) → readSheet (located s) s ≡ x → Listing (record { number = 0; length = n }) l b
       by (ok q) g =
-          let l : r ≡ sheetAnswer (ok q) = e ∙ ap sheetAnswer g in
-          sym (table-listing s q g) ∙ sym (ap (λ (a : SheetRead). tableListing s (a .layout .threads) (a .layout .body)) l)
-      by (no n p) g =
-          let k : n ≡ 0 = sym (ap number-of e ∙ ap (λ (y : Res (Sheet ℕ)). sheetAnswer y .number) g) ∙ h in
+          let m = trees s q .contents in
+          let z : read s ≡ ok m = read-located s ∙ ap (mapRes (λ t. trees s t .contents)) g in
+          let few = length-listing s z in
+          let k = front-length l (listing m) _ w (listing-table q g) few in
+          rw (z, k) (refl, (front-bytes l (listing m) _ w (listing-table q g) few, few))
+      by (no k p) g =
+          let o : k ≡ 0 = sym (number-of-read g) ∙ h in
           let z = numbered-no (sheet-numbered (located s) (located-numbered s) s) g in
           absurd (omega arith)
 
--- ---- the output at the front of the buffer
+-- ---- what the program prints: the listing that the buffer holds, or the line of the refusal
 
-pub listed : (l s x : List ℕ) {b : List ℕ} {r : ℕ} → output s ≡ x → filled b r ≡ puts (filled l 0) x
-    → (r ≡ length (output s)) × ((b ≡ sets l 0 (output s)) × (r ≤ 65536))
-listed l s x {b} {r} e h =
-    let few = length-output s in
-    let g : filled b r ≡ filled (sets l 0 (output s)) (0 + length (output s)) = h ∙ ap (puts (filled l 0)) (sym e) ∙ puts-sets (filled l 0) (output s) (omega arith) in
-    let n : r ≡ 0 + length (output s) = ap (λ (t : Text). t .at) g in
-    (omega arith, (ap (λ (t : Text). t .bytes) g, omega arith))
+module _ (s : List ℕ) (l : Listed) (t b : List ℕ) (e : l ≡ listed (read s)) (g : b ≡ laidIn t (read s)) where
+  pub output-refused : (l .number ≡ 0 → ⊥) → (refusal (l .number) ≡ output s) × (b ≡ t)
+  unfolding output printed listed laidIn
+  output-refused h = by (read s) e g
+    where
+      by : (x : Res (Module Expr)) → l ≡ listed x → b ≡ laidIn t x → (refusal (l .number) ≡ printed x) × (b ≡ t)
+      by (ok m) f w = absurd (h (ap (λ (a : Listed). a .number) f))
+      by (no n p) f w = (ap (λ (a : Listed). refusal (a .number)) f, w)
+
+  pub output-listed : l .number ≡ 0 → (l .length ≡ length (output s)) × (b ≡ sets t 0 (output s))
+  unfolding output printed listed laidIn mapRes
+  output-listed h = by (readSheet (located s) s) refl
+    where
+      by : (x : Res (Sheet ℕ)) → readSheet (located s) s ≡ x → (l .length ≡ length (output s)) × (b ≡ sets t 0 (output s))
+      by (ok q) w =
+          let z : read s ≡ ok (trees s q .contents) = read-located s ∙ ap (mapRes (λ a. trees s a .contents)) w in
+          rw z (ap (λ (a : Listed). a .length) (rw z at e), rw z at g)
+      by (no n p) w =
+          let z : read s ≡ no n p = read-located s ∙ ap (mapRes (λ a. trees s a .contents)) w in
+          let k : l .number ≡ n = ap (λ (a : Listed). a .number) (rw z at e) in
+          let o = numbered-no (sheet-numbered (located s) (located-numbered s) s) w in
+          absurd (omega arith)

@@ -4,8 +4,16 @@ ghost use Prim.Native.Nat.{_≤_};
 ghost use lib.ListN.{length, getD};
 ghost use lib.Seq.{sets};
 ghost use Rattle.writing.specs.Buffer.{filled, puts};
+ghost use Rattle.sheet.specs.Module.{read};
 ghost use Rattle.text.specs.Listing.{output};
 ghost use Rattle.listings.specs.Lines.{codeLines, threadLines, tableListing};
+ghost use Rattle.listings.specs.Listing.{listed, laidIn};
+
+// What `list` answers: the number of the sheet's refusal, 0 where it is read, and the listing's length.
+pub struct Listed {
+    pub number: u8,
+    pub length: usize,
+}
 
 // The lines of one thread.
 fn print_code(
@@ -67,18 +75,33 @@ fn print_listing(sheet: &[u8], threads: u8, body: usize, text: &mut [u8; 65536])
     print_threads(sheet, &code, sizes, count, text, p)
 }
 
-// What the listing program prints for the sheet is put at the front of the buffer, and what lies behind it stays. Gives its
-// length.
-pub fn list(sheet: &[u8], text: &mut [u8; 65536]) -> usize
-    ensures { λ r. ⌜ r ≡ length (output (now (sheet .entry))) ⌝ }
-    ensures { λ r. ⌜ now (text .exit) ≡ sets (now (text .entry)) 0 (output (now (sheet .entry))) ⌝ }
-    ensures { λ r. ⌜ r ≤ 65536 ⌝ }
+// The listing of a sheet is put at the front of the buffer, and what lies behind it stays. A refused sheet leaves the buffer as it was.
+pub fn list(sheet: &[u8], text: &mut [u8; 65536]) -> Listed
+    ensures { λ r. ⌜ r ≡ listed (read (now (sheet .entry))) ⌝ }
+    ensures { λ r. ⌜ now (text .exit) ≡ laidIn (now (text .entry)) (read (now (sheet .entry))) ⌝ }
+    ensures { λ r. ⌜ r .length ≤ 65536 ⌝ }
 {
     let read = sheet::read(sheet);
     let number = read.number;
     if number != 0 {
-        return text::print_refusal(number, text, 0);
+        return Listed { number, length: 0 };
     }
     let layout = read.layout;
-    print_listing(sheet, layout.threads, layout.body, text)
+    let length = print_listing(sheet, layout.threads, layout.body, text);
+    Listed { number: 0, length }
+}
+
+// What the listing program prints for a sheet, its listing or `refused` and a number, is put at the front of the buffer. Gives its
+// length.
+pub fn print(sheet: &[u8], text: &mut [u8; 65536]) -> usize
+    ensures { λ r. ⌜ r ≡ length (output (now (sheet .entry))) ⌝ }
+    ensures { λ r. ⌜ now (text .exit) ≡ sets (now (text .entry)) 0 (output (now (sheet .entry))) ⌝ }
+    ensures { λ r. ⌜ r ≤ 65536 ⌝ }
+{
+    let l = list(sheet, text);
+    let number = l.number;
+    if number != 0 {
+        return text::print_refusal(number, text, 0);
+    }
+    l.length
 }

@@ -15,6 +15,7 @@ use Rattle.events.specs.declared.Chosen.{Chosen}
 use Rattle.events.specs.declared.Ran.{Ran}
 use Rattle.events.specs.declared.Verdict.the-variants.{Quiet, Spent, Stopped}
 use Rattle.events.specs.declared.Rested.{Rested}
+use Rattle.events.specs.Verdict.{numberOfVerdict}
 use Rattle.events.specs.Cycle.{quiet}
 use Rattle.events.specs.Calls.{chooseIn, runIn, resting, runBy}
 use Rattle.events.specs.Calls as calls
@@ -23,7 +24,7 @@ use Rattle.events.proofs.Fits.{Fits, fits-chooseIn}
 use Rattle.engine.specs.Live.{Plan, Live}
 use Rattle.engine.specs.Acting.{Taken, take}
 use Rattle.engine.specs.Running.{Run, run, onward, runList, busy, plainChoice, runPlain}
-use Rattle.refinement.specs.Refinement.{liveOf, takenOf, runOf, stopOf, restedOf, PlanOf}
+use Rattle.refinement.specs.Refinement.{liveOf, takenOf, runOf, restedOf, PlanOf}
 use Rattle.refinement.proofs.Kept.{Kept, fits-kept}
 use Rattle.refinement.proofs.Choices.{busy-live, plain-live, take-live}
 
@@ -69,7 +70,7 @@ module _ {s : List ℕ} {m : Module Expr} {q : Plan} (w : PlanOf s m q) where
   resting-live :
       (st : State) (c : ℕ) (a : Run) (b : Rested) → (chooseIn m st c .number ≡ 0 → a ≡ restedOf m b) →
       onward (takenOf m (chooseIn m st c)) a ≡ restedOf m (resting st (chooseIn m st c) b)
-  unfolding onward resting stopOf
+  unfolding onward resting numberOfVerdict
   resting-live st c a b h = by (eqb (r .number) 0) refl
     where
       r : Chosen
@@ -95,7 +96,7 @@ module _ {s : List ℕ} {m : Module Expr} {q : Plan} (w : PlanOf s m q) where
       ≡ restedOf m
       (pick (quiet m st) (record { accepted = 0; verdict = Quiet; state = st })
       (resting st (chooseIn m st (calls.plainChoice m st)) b))
-  unfolding stopOf
+  unfolding numberOfVerdict
   plain-step st k rest b h =
       ap (λ (t : Taken). pick (busy (liveOf m st)) (onward t (rest (st .count + 1) (t .left))) (run 0 0 (liveOf m st)))
       (ap (λ (c : ℕ). take q (st .count) c (liveOf m st)) (plain-live w st k) ∙ take-live w st k c)
@@ -118,7 +119,7 @@ module _ {s : List ℕ} {m : Module Expr} {q : Plan} (w : PlanOf s m q) where
   spent-live :
       (st : State) (t : Bool) →
       run 0 0 (liveOf m st) ≡ restedOf m (record { accepted = 0; verdict = pick t Quiet Spent; state = st })
-  unfolding stopOf
+  unfolding numberOfVerdict
   spent-live st true = refl
   spent-live st false = refl
 

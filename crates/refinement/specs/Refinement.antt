@@ -13,9 +13,8 @@ use Rattle.state.specs.declared.State.{State}
 use Rattle.events.specs.Cycle.{threadEnabled}
 use Rattle.events.specs.declared.Chosen.{Chosen}
 use Rattle.events.specs.declared.Ran.{Ran}
-use Rattle.events.specs.declared.Verdict.{Verdict}
-use Rattle.events.specs.declared.Verdict.the-variants.{Quiet, Spent, Stopped}
 use Rattle.events.specs.declared.Rested.{Rested}
+use Rattle.events.specs.Verdict.{numberOfVerdict}
 use Rattle.tables.specs.Holding.{Holding}
 use Rattle.changes.specs.Scene.{Scene, scene}
 use Rattle.engine.specs.Live.{Plan, Live, live}
@@ -48,14 +47,8 @@ takenOf m r = taken (r .number) (liveOf m (r .state))
 abbrev pub runOf : Module Expr → Ran → Run
 runOf m r = run (r .accepted) (r .number) (liveOf m (r .state))
 
--- The number that stopped a plain run, 0 where none did.
-unfoldable pub stopOf : Verdict → ℕ
-stopOf Quiet = 0
-stopOf Spent = 0
-stopOf (Stopped n) = n
-
 abbrev pub restedOf : Module Expr → Rested → Run
-restedOf m r = run (r .accepted) (stopOf (r .verdict)) (liveOf m (r .state))
+restedOf m r = run (r .accepted) (numberOfVerdict (r .verdict)) (liveOf m (r .state))
 
 -- ---- PlanOf: the tables of a module that was read
 

@@ -309,7 +309,7 @@ fn do_read(sheet: &[u8]) -> bool {
 // `Q`: the listing.
 fn do_list(sheet: &[u8]) -> bool {
     let mut text = [0u8; 65536];
-    let length = listings::list(sheet, &mut text);
+    let length = listings::print(sheet, &mut text);
     say(b"list ");
     say_hex(&text[..length], 0);
     say(b"\n");
@@ -473,19 +473,19 @@ fn ran(r: Ran) -> Next {
     }
 }
 
+// A number, a blank and a word, and the end of the line.
+fn say_line_of(n: u8, word: &[u8]) {
+    say_number(n as u64);
+    say(word);
+}
+
 // How a plain run ended.
 fn say_verdict(v: Verdict) {
     match v {
         Verdict::Quiet => say(b"0 quiet\n"),
         Verdict::Spent => say(b"0 spent\n"),
-        Verdict::Stopped(n) => {
-            say_number(n as u64);
-            if n == 36 {
-                say(b" full\n");
-            } else {
-                say(b" refused\n");
-            }
-        }
+        Verdict::Stopped(n) => say_line_of(n, b" full\n"),
+        Verdict::Refused(n) => say_line_of(n, b" refused\n"),
     }
 }
 

@@ -17,7 +17,7 @@ use Rattle.state.specs.State.{Shaped}
 use Rattle.events.specs.declared.Inputs.{Inputs}
 use Rattle.events.specs.declared.Chosen.{Chosen}
 use Rattle.events.specs.declared.Ran.{Ran}
-use Rattle.events.specs.declared.Verdict.the-variants.{Stopped}
+use Rattle.events.specs.declared.Verdict.the-variants.{Refused}
 use Rattle.events.specs.declared.Rested.{Rested}
 use Rattle.events.specs.Calls.{stateFits, judged, chooseIn, choose, runIn, runList, runBy, plainChoice, runPlain, instantIn, instant}
 use Rattle.fitting.proofs.Fitting.{Sizes}
@@ -69,10 +69,10 @@ module _ (s : List ℕ) (r : SheetRead) (e : r ≡ sheetAnswer (readSheet (locat
       run-refused cs = judged-refused (λ k. record { accepted = 0; number = k; state = st }) (λ m. runIn m cs st)
 
       pub plain-refused :
-          (limit : ℕ) → record { accepted = 0; verdict = Stopped (r .number); state = st } ≡ runPlain s st limit
+          (limit : ℕ) → record { accepted = 0; verdict = Refused (r .number); state = st } ≡ runPlain s st limit
       unfolding runPlain
       plain-refused limit =
-          judged-refused (λ k. record { accepted = 0; verdict = Stopped k; state = st }) (λ m. runBy m (plainChoice m) limit st)
+          judged-refused (λ k. record { accepted = 0; verdict = Refused k; state = st }) (λ m. runBy m (plainChoice m) limit st)
 
       pub instant-refused : (a : Inputs) → record { number = r .number; state = st } ≡ instant s st a
       unfolding instant
@@ -124,7 +124,7 @@ module _ (s : List ℕ) (r : SheetRead) (e : r ≡ sheetAnswer (readSheet (locat
       unfolding runPlain
       plain-accepted limit o q =
           q
-          ∙ judged-accepted (λ k. record { accepted = 0; verdict = Stopped k; state = st })
+          ∙ judged-accepted (λ k. record { accepted = 0; verdict = Refused k; state = st })
           (λ m. runBy m (plainChoice m) limit st) (λ p ns. plainAt p ns st limit) (λ m q w ns z. plain-at w ns z st g limit)
 
       pub instant-accepted : (a : Inputs) (o : Chosen) → o ≡ instantAt made sizes st a → o ≡ instant s st a

@@ -14,8 +14,9 @@ use Rattle.state.specs.State.{Shaped}
 use Rattle.events.specs.declared.Inputs.{Inputs}
 use Rattle.events.specs.declared.Chosen.{Chosen}
 use Rattle.events.specs.declared.Ran.{Ran}
-use Rattle.events.specs.declared.Verdict.the-variants.{Stopped}
+use Rattle.events.specs.declared.Verdict.the-variants.{Refused}
 use Rattle.events.specs.declared.Rested.{Rested}
+use Rattle.events.specs.Verdict.{numberOfVerdict}
 use Rattle.events.specs.Cycle.{quiet, feed}
 use Rattle.events.specs.Calls.{stateFits, inputOf, inputsFit, spend, answer, timed, chooseIn, runIn, runBy, plainChoice, instantRefusal, instantIn}
 use Rattle.events.proofs.Choices.{number-chooseIn, chooseIn-accepted, state-refused, time-performed, count-performed, time-feed, count-feed}
@@ -27,7 +28,7 @@ use Rattle.fitting.proofs.Fitting.{Sizes}
 use Rattle.engine.specs.Live.{Plan}
 use Rattle.engine.specs.Acting as acting
 use Rattle.engine.specs.Running.{runList, runPlain, busy}
-use Rattle.refinement.specs.Refinement.{liveOf, stopOf, PlanOf}
+use Rattle.refinement.specs.Refinement.{liveOf, PlanOf}
 use Rattle.refinement.proofs.Kept.{Kept, fits-kept}
 use Rattle.refinement.proofs.Choices.{busy-live, take-live, feed-timed-live}
 use Rattle.refinement.proofs.Runs.{runList-live, runPlain-live}
@@ -62,8 +63,10 @@ module _ (m : Module Expr) (st : State) (c : ℕ) where
 module _ {s : List ℕ} {m : Module Expr} {q : Plan} (w : PlanOf s m q) where
   -- ---- a plain run's verdict, by the number that stopped it and the marks that are left
 
-  verdict-same : (n : ℕ) (r : Rested) → Kept m (r .state) → Ended m n r → verdictOf (stopOf (r .verdict)) (liveOf m (r .state)) ≡ r .verdict
-  unfolding verdictOf stopOf
+  verdict-same :
+      (n : ℕ) (r : Rested) → Kept m (r .state) → Ended m n r →
+      verdictOf (numberOfVerdict (r .verdict)) (liveOf m (r .state)) ≡ r .verdict
+  unfolding verdictOf numberOfVerdict
   verdict-same n r k (at-rest v h a) = rw (v, busy-live w (r .state) k, h) refl
   verdict-same n r k (spent v h a) = rw (v, busy-live w (r .state) k, h) refl
   verdict-same n r k (stopped v h a c) = rw v refl
@@ -129,7 +132,7 @@ module _ {s : List ℕ} {m : Module Expr} {q : Plan} (w : PlanOf s m q) where
       pub plain-at :
           (n : ℕ) →
           plainAt q sizes st n
-          ≡ pick (stateFits m st) (runBy m (plainChoice m) n st) (record { accepted = 0; verdict = Stopped 31; state = st })
+          ≡ pick (stateFits m st) (runBy m (plainChoice m) n st) (record { accepted = 0; verdict = Refused 31; state = st })
       unfolding plainAt
       plain-at n = rw fits-at (by (stateFits m st) refl)
         where
@@ -141,8 +144,8 @@ module _ {s : List ℕ} {m : Module Expr} {q : Plan} (w : PlanOf s m q) where
                 verdict = verdictOf (u .number) (u .left);
                 state = packed (u .left) (st .time) (st .count + u .accepted);
               })
-              (record { accepted = 0; verdict = Stopped 31; state = st })
-              ≡ pick t (runBy m (plainChoice m) n st) (record { accepted = 0; verdict = Stopped 31; state = st })
+              (record { accepted = 0; verdict = Refused 31; state = st })
+              ≡ pick t (runBy m (plainChoice m) n st) (record { accepted = 0; verdict = Refused 31; state = st })
           by false f = refl
           by true f =
               let r = runBy m (plainChoice m) n st in

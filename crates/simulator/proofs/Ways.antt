@@ -9,7 +9,7 @@ use Rattle.masks.specs.Masks.{bits}
 use Rattle.state.specs.declared.State.{State}
 use Rattle.events.specs.declared.Inputs.{Inputs}
 use Rattle.events.specs.declared.Verdict.{Verdict}
-use Rattle.events.specs.declared.Verdict.the-variants.{Quiet, Spent, Stopped}
+use Rattle.events.specs.declared.Verdict.the-variants.{Quiet, Spent, Stopped, Refused}
 use Rattle.events.specs.Calls.{spend, answer, inputOf}
 use Rattle.fitting.specs.Fitting.{stateFitsAt, inputsFitAt}
 use Rattle.changes.specs.declared.Marks.{Marks}
@@ -69,7 +69,7 @@ module _ (q : Plan) (sizes : List ℕ) (st : State) where
     unfolding runAt
     run-unfit cs = rw f
 
-    pub plain-unfit : (n : ℕ) → record { accepted = 0; verdict = Stopped 31; state = st } ≡ plainAt q sizes st n
+    pub plain-unfit : (n : ℕ) → record { accepted = 0; verdict = Refused 31; state = st } ≡ plainAt q sizes st n
     unfolding plainAt
     plain-unfit n = rw f
 

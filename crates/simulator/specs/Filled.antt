@@ -14,7 +14,7 @@ use Rattle.events.specs.declared.Inputs.{Inputs}
 use Rattle.events.specs.declared.Chosen.{Chosen}
 use Rattle.events.specs.declared.Ran.{Ran}
 use Rattle.events.specs.declared.Verdict.{Verdict}
-use Rattle.events.specs.declared.Verdict.the-variants.{Quiet, Spent, Stopped}
+use Rattle.events.specs.declared.Verdict.the-variants.{Quiet, Spent, Stopped, Refused}
 use Rattle.events.specs.declared.Rested.{Rested}
 use Rattle.events.specs.Calls.{spend, answer, inputOf}
 use Rattle.fitting.specs.Fitting.{stateFitsAt, inputsFitAt}
@@ -118,7 +118,7 @@ module _ (q : Plan) (sizes : List ℕ) (st : State) where
         verdict = verdictOf (t .number) (t .left);
         state = packed (t .left) (st .time) (st .count + t .accepted);
       })
-      (record { accepted = 0; verdict = Stopped 31; state = st })
+      (record { accepted = 0; verdict = Refused 31; state = st })
 
   -- The number of an instant on a state that fits, 0 where it is accepted.
   unfoldable pub instantNumber : Inputs → ℕ

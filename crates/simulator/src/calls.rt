@@ -201,7 +201,7 @@ pub fn run_plain(
     ) {
         return Rested {
             accepted: 0,
-            verdict: Verdict::Stopped(31),
+            verdict: Verdict::Refused(31),
             state: st,
         };
     }

@@ -138,7 +138,7 @@ pub fn run_plain(sheet: &[u8], st: State, limit: u16) -> Rested
     if read.number != 0 {
         return Rested {
             accepted: 0,
-            verdict: Verdict::Stopped(read.number),
+            verdict: Verdict::Refused(read.number),
             state: st,
         };
     }

@@ -78,15 +78,17 @@ fn put_marks(due: &[bool; 32], out: &mut [u8; 641])
     }
 }
 
-// The saved form of a state is put into the buffer.
+// The saved form of a state is put into the buffer, which it fills.
 pub fn save(st: State, out: &mut [u8; 641])
-    ensures { λ r. ⌜ now (out .exit) ≡ sets (now (out .entry)) 0 (saved st) ⌝ }
+    ensures { λ r. ⌜ now (out .exit) ≡ saved st ⌝ }
 {
-    out[0] = 1;
-    put_values(&st.value, &st.unknown, out);
-    put_slots(&st.held, &st.pending, &st.unsure, out);
-    put_places(&st.places, out);
-    put_marks(&st.due, out);
-    put_word(st.time, out, 633);
-    put_word(st.count, out, 637);
+    let mut bytes = [0u8; 641];
+    bytes[0] = 1;
+    put_values(&st.value, &st.unknown, &mut bytes);
+    put_slots(&st.held, &st.pending, &st.unsure, &mut bytes);
+    put_places(&st.places, &mut bytes);
+    put_marks(&st.due, &mut bytes);
+    put_word(st.time, &mut bytes, 633);
+    put_word(st.count, &mut bytes, 637);
+    *out = bytes;
 }

@@ -5,7 +5,7 @@ use crate::machine::number;
 use crate::module::Module;
 use crate::sheet::Refusal;
 use crate::simulator::{Simulator, number_of};
-use crate::state::{MARKS, Slot, State};
+use crate::state::{Slot, State};
 
 /// Each gives its number, 0 where nothing was refused; the state becomes the one that the
 /// call hands back.
@@ -40,12 +40,12 @@ pub trait Calls {
     }
 
     fn extract(&self, nodes: &mut [u16], rows: &mut [u16]) -> u8;
-    /// The inputs from 1 up.
+    /// The inputs from 1 up. A refused one leaves registers, places and wires.
     fn cycle(&self, nodes: &[u16], rows: &[u16], lane: &mut Lane, inputs: &[Slot]) -> u8;
 
     /// Cycle runs one after the other, up to the first that is refused; how many were
     /// accepted, and the number that stopped them. The lane becomes what the last accepted
-    /// one gave; before that its wires are x.
+    /// one gave; where there is none it stays.
     fn cycles(
         &self,
         nodes: &[u16],
@@ -53,17 +53,15 @@ pub trait Calls {
         lane: &mut Lane,
         inputs: &[Vec<Slot>],
     ) -> (usize, u8) {
-        lane.wires = [Slot::X; MARKS];
         if inputs.is_empty() {
             // Inputs are judged last, so with too many of them all else is judged.
             let number = self.cycle(nodes, rows, &mut lane.clone(), &[Slot::ZERO; 17]);
             return (0, if number == number::INPUTS { 0 } else { number });
         }
         for (accepted, inputs) in inputs.iter().enumerate() {
-            let mut next = lane.clone();
-            match self.cycle(nodes, rows, &mut next, inputs) {
-                0 => *lane = next,
-                number => return (accepted, number),
+            let number = self.cycle(nodes, rows, lane, inputs);
+            if number != 0 {
+                return (accepted, number);
             }
         }
         (inputs.len(), 0)
@@ -111,6 +109,12 @@ impl Calls for Reference<'_> {
     }
 
     fn cycle(&self, nodes: &[u16], rows: &[u16], lane: &mut Lane, inputs: &[Slot]) -> u8 {
-        number_of(self.compiler.cycle(nodes, rows, lane, inputs))
+        // By value a refused cycle run gives x for all wires.
+        let mut next = lane.clone();
+        let number = number_of(self.compiler.cycle(nodes, rows, &mut next, inputs));
+        if number == 0 {
+            *lane = next;
+        }
+        number
     }
 }

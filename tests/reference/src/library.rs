@@ -18,12 +18,12 @@ unsafe extern "C" {
     /// The number of the refusal, whose place is stored; both 0 where the sheet is accepted.
     fn walbryts_read(sheet: *const u8, len: usize, place: *mut usize) -> u8;
 
-    /// Writes what the listing program prints at the front of the 65,536 bytes
-    /// of text and returns its length.
-    fn walbryts_list(sheet: *const u8, len: usize, text: *mut u8) -> usize;
+    /// Writes the listing at the front of the 65,536 bytes of text and stores its length; the
+    /// number of a refusal, where the text stays.
+    fn walbryts_list(sheet: *const u8, len: usize, text: *mut u8, length: *mut usize) -> u8;
 
     /// The calls on a saved state, which becomes the one that the call gives back. Each
-    /// returns its number, or 255 where the bytes are no saved state.
+    /// returns its number, 31 where the bytes are no saved state.
     fn walbryts_start(sheet: *const u8, len: usize, state: *mut u8) -> u8;
     fn walbryts_choose(sheet: *const u8, len: usize, state: *mut u8, choice: u8) -> u8;
     fn walbryts_run(
@@ -60,6 +60,7 @@ unsafe extern "C" {
         unknown: *const bool,
         unknowns: usize,
         phases: *mut usize,
+        running: *mut bool,
     ) -> u8;
 
     /// Fills the lent words where the sheet is extractable and there are 16,384 and 1,056.
@@ -73,7 +74,7 @@ unsafe extern "C" {
     ) -> u8;
 
     /// A cycle run: 32 registers and 8 places, which become those that it gives back; 16 inputs,
-    /// from input 1 up; 32 wires, which are given only.
+    /// from input 1 up; 32 wires, which are given only. Refused, all of them stay.
     fn walbryts_cycle(
         sheet: *const u8,
         sheet_len: usize,
@@ -93,7 +94,7 @@ unsafe extern "C" {
 
     /// Cycle runs one after the other, one for each 16 inputs, the first of which is the clock's
     /// and isn't looked at. `cycles` takes how many were accepted; the arrays become what the
-    /// last of these gave.
+    /// last of these gave, and where there is none they stay.
     fn walbryts_cycles(
         sheet: *const u8,
         sheet_len: usize,
@@ -122,10 +123,13 @@ pub fn read(sheet: &[u8]) -> (u8, usize) {
     (number, place)
 }
 
-/// Lists the sheet into the text; the length of what was written.
-pub fn list(sheet: &[u8], text: &mut [u8; TEXT]) -> usize {
+/// Lists the sheet into the text; the number, and the length of what was written.
+pub fn list(sheet: &[u8], text: &mut [u8; TEXT]) -> (u8, usize) {
+    let mut length = usize::MAX;
+    let (at, len, text) = (sheet.as_ptr(), sheet.len(), text.as_mut_ptr());
     // Safety: as above, and the text has the length that the library writes into.
-    unsafe { walbryts_list(sheet.as_ptr(), sheet.len(), text.as_mut_ptr()) }
+    let number = unsafe { walbryts_list(at, len, text, &mut length) };
+    (number, length)
 }
 
 /// The start state, saved, and the number.
@@ -174,7 +178,7 @@ pub fn run_cycles(
     value: &[u32],
     unknown: &[bool],
 ) -> (usize, u8) {
-    let mut phases = 0;
+    let (mut phases, mut running) = (0, false);
     // Safety: as above, with the pointer and the length of each slice.
     let number = unsafe {
         walbryts_run_cycles(
@@ -186,6 +190,7 @@ pub fn run_cycles(
             unknown.as_ptr(),
             unknown.len(),
             &mut phases,
+            &mut running,
         )
     };
     (phases, number)

@@ -1,6 +1,6 @@
 -- `exports::number_of_verdict` meets its contract. Assumes nothing.
 use borrow.Author.Needs.{needs}
-use Rattle.exports.specs.Saved.{numberOfVerdict}
+use Rattle.events.specs.Verdict.{numberOfVerdict}
 use Rattle.exports.proofs.number_of_verdict.Statement.{statement}
 use Rattle.exports.proofs.number_of_verdict.Tie as tie
 
@@ -12,6 +12,9 @@ enum-told-2 c = search needs
 
 enum-known-v : tie.Need-enum-known-v
 enum-known-v c = search needs
+
+enum-known-v-2 : tie.Need-enum-known-v-2
+enum-known-v-2 c = search needs
 
 returns : tie.Need-returns
 unfolding numberOfVerdict
@@ -25,6 +28,10 @@ returns-3 : tie.Need-returns-3
 unfolding numberOfVerdict
 returns-3 c = cc
 
+returns-4 : tie.Need-returns-4
+unfolding numberOfVerdict
+returns-4 c = cc
+
 pub number-of-verdict-spec : {M : Type 1} → statement M
 number-of-verdict-spec =
-    tie.close (tie.spec enum-told enum-told-2 enum-known-v returns returns-2 returns-3)
+    tie.close (tie.spec enum-told enum-told-2 enum-known-v enum-known-v-2 returns returns-2 returns-3 returns-4)

@@ -2,38 +2,38 @@
 use borrow.Author.Needs.{needs}
 use borrow.Author.Tests.{not-true, not-false}
 use mathlib.Core.Path.{refl, ap, _∙_}
-use lib.Seq.{sets}
 use denote.Ref.{now}
 use Rattle.state.specs.Saved.{saved, loaded}
 use Rattle.events.specs.declared.Chosen.{Chosen}
+use Rattle.exports.specs.Clocked.{inputsIn}
 use Rattle.exports.specs.Saved.{numberOn, bytesOn}
 use Rattle.exports.proofs.Saved.{found-none, found-some}
 use Rattle.exports.proofs.walbryts_instant.Statement.{statement}
 use Rattle.exports.proofs.walbryts_instant.Tie as tie
 
-load-requires : tie.Need-load-requires
-load-requires c κs = search needs
-
 returns : tie.Need-returns
-unfolding numberOn bytesOn
+unfolding numberOn bytesOn inputsIn
 returns c =
-    let e = found-none (loaded (now (c .before .before .before .before .before .before .args .state))) (c .before .before .load .result) (c .before .before .load .ensures) (not-true _ (c .if1 .taken)) in
-    (rw e refl, rw e refl)
-
-instant-requires : tie.Need-instant-requires
-instant-requires c κs = search needs
-
-save-requires : tie.Need-save-requires
-save-requires c κs = search needs
+    let at-if = c .before in
+    let at-load = at-if .before .before in
+    let b = now (at-load .before .before .before .before .args .state) in
+    let e = found-none (loaded b) (at-load .load .result) (at-load .load .ensures) (not-true _ (at-if .if1 .taken)) in
+    (rw e (c .unfit .ensures), rw e refl)
 
 returns-2 : tie.Need-returns-2
-unfolding numberOn bytesOn
+unfolding numberOn bytesOn inputsIn
 returns-2 c =
-    let b = now (c .before .before .before .before .before .before .before .before .before .before .before .before .before .args .state) in
-    let e = found-some (loaded b) (c .before .before .before .before .before .before .before .before .before .load .result) (c .before .before .before .before .before .before .before .before .before .load .ensures) (not-false _ (c .before .before .before .before .before .before .before .if1 .left)) in
-    let g = c .before .before .before .instant .ensures in
-    (rw e (ap (λ (x : Chosen). x .number) g), rw e (c .save .ensures ∙ ap (λ (x : Chosen). sets b 0 (saved (x .state))) g))
+    let at-call = c .before .before .before in
+    let at-if = at-call .before .before .before .before in
+    let at-load = at-if .before .before in
+    let b = now (at-load .before .before .before .before .args .state) in
+    let e = found-some (loaded b) (at-load .load .result) (at-load .load .ensures) (not-false _ (at-if .if1 .left)) in
+    let g = at-call .instant .ensures in
+    (rw e (ap (λ (x : Chosen). x .number) g), rw e (c .save .ensures ∙ ap (λ (x : Chosen). saved (x .state)) g))
 
 pub walbryts-instant-spec : {M : Type 1} → statement M
 walbryts-instant-spec =
-    tie.close (tie.spec load-requires returns instant-requires save-requires returns-2)
+    tie.close
+    (tie.spec
+    (λ c κs. search needs) (λ c κs. search needs) returns
+    (λ c κs. search needs) (λ c κs. search needs) returns-2)

@@ -2,7 +2,6 @@
 use borrow.Author.Needs.{needs}
 use borrow.Author.Tests.{not-true, not-false}
 use mathlib.Core.Path.{refl, ap, _∙_}
-use lib.Seq.{sets}
 use denote.Ref.{now}
 use Rattle.state.specs.Saved.{saved, loaded}
 use Rattle.batch.specs.declared.Cycled.{Cycled}
@@ -11,31 +10,34 @@ use Rattle.exports.proofs.Saved.{found-none, found-some}
 use Rattle.exports.proofs.walbryts_run_cycles.Statement.{statement}
 use Rattle.exports.proofs.walbryts_run_cycles.Tie as tie
 
-load-requires : tie.Need-load-requires
-load-requires c κs = search needs
-
 returns : tie.Need-returns
 unfolding numberOn bytesOn toldOn cycledAs
 returns c =
-    let e = found-none (loaded (now (c .before .before .before .before .before .before .before .before .args .state))) (c .before .before .load .result) (c .before .before .load .ensures) (not-true _ (c .if1 .taken)) in
-    (rw e refl, (rw e refl, rw e refl))
-
-run-cycles-requires : tie.Need-run-cycles-requires
-run-cycles-requires c κs = search needs
-
-save-requires : tie.Need-save-requires
-save-requires c κs = search needs
+    let at-if = c .before in
+    let at-load = at-if .before .before in
+    let b = now (at-load .before .before .before .before .before .before .args .state) in
+    let e = found-none (loaded b) (at-load .load .result) (at-load .load .ensures) (not-true _ (at-if .if1 .taken)) in
+    (rw e (c .unfit .ensures), (rw e refl, (rw e refl, rw e refl)))
 
 returns-2 : tie.Need-returns-2
 unfolding numberOn bytesOn toldOn cycledAs
 returns-2 c =
-    let b = now (c .before .before .before .before .before .before .before .before .before .before .before .before .before .args .state) in
-    let e = found-some (loaded b) (c .before .before .before .before .before .before .before .load .result) (c .before .before .before .before .before .before .before .load .ensures) (not-false _ (c .before .before .before .before .before .if1 .left)) in
-    let g = c .before .before .before .run-cycles .ensures in (
+    let at-call = c .before .before .before in
+    let at-if = at-call .before .before in
+    let at-load = at-if .before .before in
+    let b = now (at-load .before .before .before .before .before .before .args .state) in
+    let e = found-some (loaded b) (at-load .load .result) (at-load .load .ensures) (not-false _ (at-if .if1 .left)) in
+    let g = at-call .run-cycles .ensures in (
       rw e (ap (λ (x : Cycled). x .number) g),
-      (rw e (c .save .ensures ∙ ap (λ (x : Cycled). sets b 0 (saved (x .state))) g), rw e (ap (λ (x : Cycled). x .phases) g)),
+      (
+        rw e (c .save .ensures ∙ ap (λ (x : Cycled). saved (x .state)) g),
+        (rw e (ap (λ (x : Cycled). x .phases) g), rw e (ap (λ (x : Cycled). x .running) g)),
+      ),
     )
 
 pub walbryts-run-cycles-spec : {M : Type 1} → statement M
 walbryts-run-cycles-spec =
-    tie.close (tie.spec load-requires returns run-cycles-requires save-requires returns-2)
+    tie.close
+    (tie.spec
+    (λ c κs. search needs) (λ c κs. search needs) returns
+    (λ c κs. search needs) (λ c κs. search needs) returns-2)

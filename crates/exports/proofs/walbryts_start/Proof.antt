@@ -1,24 +1,34 @@
 -- `exports::walbryts_start` meets its contract. Assumes nothing.
 use borrow.Author.Needs.{needs}
-use mathlib.Core.Path.{ap, _∙_}
-use lib.Seq.{sets}
-use denote.Ref.{now}
+use borrow.Author.Tests.{eq-eqb, ne-eqb}
+use mathlib.Core.Path.{refl, sym, ap, _∙_}
+use lib.Dec.{eqb}
 use Rattle.state.specs.Saved.{saved}
 use Rattle.events.specs.declared.Chosen.{Chosen}
+use Rattle.exports.specs.Saved.{startedIn}
 use Rattle.exports.proofs.walbryts_start.Statement.{statement}
 use Rattle.exports.proofs.walbryts_start.Tie as tie
 
-start-requires : tie.Need-start-requires
-start-requires c κs = search needs
-
-save-requires : tie.Need-save-requires
-save-requires c κs = search needs
-
 returns : tie.Need-returns
+unfolding startedIn
 returns c =
-    let b = now (c .before .before .before .before .before .args .state) in
-    let g = c .before .before .before .start .ensures in
-    (ap (λ (x : Chosen). x .number) g, c .save .ensures ∙ ap (λ (x : Chosen). sets b 0 (saved (x .state))) g)
+    let at-start = c .before .before in
+    let g = at-start .start .ensures in
+    let n = ap (λ (x : Chosen). eqb (x .number) 0) (sym g) ∙ ne-eqb (at-start .start .result .number) 0 (c .if1 .taken) in
+    (ap (λ (x : Chosen). x .number) g, rw n refl)
+
+returns-2 : tie.Need-returns-2
+unfolding startedIn
+returns-2 c =
+    let at-if = c .before .before .before in
+    let at-start = at-if .before .before in
+    let g = at-start .start .ensures in
+    let n = ap (λ (x : Chosen). eqb (x .number) 0) (sym g) ∙ eq-eqb (at-start .start .result .number) 0 (at-if .if1 .left) in
+    (ap (λ (x : Chosen). x .number) g, rw n (c .save .ensures ∙ ap (λ (x : Chosen). saved (x .state)) g))
 
 pub walbryts-start-spec : {M : Type 1} → statement M
-walbryts-start-spec = tie.close (tie.spec start-requires save-requires returns)
+walbryts-start-spec =
+    tie.close
+    (tie.spec
+    (λ c κs. search needs) returns
+    (λ c κs. search needs) returns-2)

@@ -1,4 +1,4 @@
--- `listing::main` meets its contract: the part of the buffer that is written out is what `list` filled. Assumes nothing.
+-- `listing::main` meets its contract: the part of the buffer that is written out is what `print` filled. Assumes nothing.
 use mathlib.Core.Path.{_≡_, sym, ap, _∙_}
 use native.Mathlib.Omega.{arith}
 use borrow.Author.Needs.{needs}
@@ -10,16 +10,16 @@ use Rattle.listing.proofs.main.Tie as tie
 -- A text stored into the buffer leaves it as long as it was.
 array-share-prefix-text : tie.Need-array-share-prefix-text
 array-share-prefix-text c =
-    let e = c .list .ensures .1 in
-    let k : length (c .list .last .1 .0) ≡ 65536 = ap length (e .0) ∙ simp (length-sets, length-replicate) in
+    let e = c .print .ensures .1 in
+    let k : length (c .print .last .1 .0) ≡ 65536 = ap length (e .0) ∙ simp (length-sets, length-replicate) in
     omega (arith, e .1)
 
 slice-aggregate-write-all : tie.Need-slice-aggregate-write-all
 slice-aggregate-write-all c =
-    let e = c .before .list .ensures .1 in
-    let l = c .before .list .last .1 .0 in
+    let e = c .before .print .ensures .1 in
+    let l = c .before .print .last .1 .0 in
     let k : length l ≡ 65536 = ap length (e .0) ∙ simp (length-sets, length-replicate) in
-    sym (length-take-le (c .before .list .result) l (omega (arith, e .1)))
+    sym (length-take-le (c .before .print .result) l (omega (arith, e .1)))
 
 pub main-spec : {M : Type 1} → statement M
 main-spec =

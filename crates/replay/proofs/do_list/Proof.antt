@@ -10,13 +10,13 @@ use Rattle.replay.proofs.do_list.Tie as tie
 
 array-share-prefix-text : tie.Need-array-share-prefix-text
 array-share-prefix-text c =
-    let e = c .before .before .list .ensures .1 in
-    let k : length (c .before .before .list .last .1 .0) ≡ 65536 = ap length (e .0) ∙ simp (length-sets, length-replicate) in
+    let e = c .before .before .print .ensures .1 in
+    let k : length (c .before .before .print .last .1 .0) ≡ 65536 = ap length (e .0) ∙ simp (length-sets, length-replicate) in
     omega (arith, e .1)
 
 slice-aggregate-say-hex : tie.Need-slice-aggregate-say-hex
 slice-aggregate-say-hex c =
-    let l = c .before .before .before .list in
+    let l = c .before .before .before .print in
     let k : length (l .last .1 .0) ≡ 65536 = ap length (l .ensures .1 .0) ∙ simp (length-sets, length-replicate) in
     sym (length-take-le (l .result) (l .last .1 .0) (omega (arith, l .ensures .1 .1)))
 

@@ -182,7 +182,10 @@ impl Comparison {
     fn by_library(&mut self, sheet: &[u8]) -> Result<Answer, String> {
         let (number, place) = library::read(sheet);
         let text = (&mut self.buffer[..TEXT]).try_into().expect("so many bytes");
-        let length = library::list(sheet, text);
+        let (listed, length) = library::list(sheet, text);
+        if listed != number {
+            return Err(format!("read gives {number}, list {listed}"));
+        }
         let behind = length.min(TEXT)..;
         if length > TEXT || self.buffer[behind.clone()] != self.unwritten[behind] {
             self.buffer.copy_from_slice(&self.unwritten);
@@ -200,8 +203,7 @@ fn by_reference(bytes: &[u8]) -> Answer {
             Answer { number: 0, place: 0, text: pseudocode::listing(&module).into_bytes() }
         }
         Err(refusal) => {
-            let text = format!("refused {}\n", refusal.number).into_bytes();
-            Answer { number: refusal.number, place: refusal.place, text }
+            Answer { number: refusal.number, place: refusal.place, text: Vec::new() }
         }
     }
 }

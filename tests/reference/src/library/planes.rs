@@ -42,8 +42,8 @@ impl Planes {
     }
 }
 
-/// The inputs from 1 up in rows of 16, and some more. What stands for the clock, past the
-/// inputs and behind the rows isn't looked at.
+/// The inputs from 1 up in rows of 16. What stands for the clock and past the inputs isn't
+/// looked at.
 pub fn rows_of_16(inputs: &[Vec<Slot>]) -> (Vec<u32>, Vec<bool>) {
     let other = Slot { unknown: true, number: 7 };
     let mut slots = Vec::new();
@@ -52,7 +52,6 @@ pub fn rows_of_16(inputs: &[Vec<Slot>]) -> (Vec<u32>, Vec<bool>) {
         slots.extend(row);
         slots.resize(slots.len().next_multiple_of(16), other);
     }
-    slots.extend([other; 9]);
     slots.iter().map(|slot| (slot.number, slot.unknown)).unzip()
 }
 

@@ -1,6 +1,9 @@
 -- `state::saving::save` meets its contract: its stores, one after the other, are those of the saved form. Assumes nothing.
 use mathlib.Core.Path.{_∙_}
+use Prim.Native.Nat.{ℕ}
+use lib.ListN.{replicate, length-replicate}
 use borrow.Author.Needs.{needs}
+use Rattle.state.proofs.Laid.{sets-saved}
 use Rattle.state.proofs.Stores.{saved-sets}
 use Rattle.state.proofs.saving.save.Statement.{statement}
 use Rattle.state.proofs.saving.save.Tie as tie
@@ -11,10 +14,11 @@ returns c =
     let places = marks .before .before .before .before in
     let slots = places .before .before .before .before in
     let values = slots .before .before .before .before .before .before in
-    let a = values .before .before .before .before .before .args in
+    let st = values .before .before .before .before .before .args .t1 in
     c .put-word2 .ensures
     ∙ rw (c .before .before .put-word .ensures, marks .put-marks .ensures, places .put-places .ensures)
-    (rw (slots .put-slots .ensures, values .put-values .ensures) (saved-sets (a .t1) (a .out .now)))
+    (rw (slots .put-slots .ensures, values .put-values .ensures) (saved-sets st (replicate 641 0)))
+    ∙ sets-saved st (replicate 641 0) (length-replicate {A = ℕ} 641 0)
 
 pub save-spec : {M : Type 1} → statement M
 save-spec =

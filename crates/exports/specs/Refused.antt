@@ -1,0 +1,114 @@
+-- "A refused call alters nothing": for each call, as C and Rust make it, that every lent byte and word is as it was. What a call tells
+-- beside its number (a place, a length, how many were accepted, a word) is its answer, told in any case. proofs/Refused has the proofs.
+use mathlib.Core.Path.{_≡_}
+use mathlib.Core.Logic.{_≢_}
+use mathlib.Core.Bool.{Bool, false}
+use mathlib.Core.List.{List}
+use mathlib.Core.Option.{Option, none, some}
+use Prim.Native.Nat.{ℕ}
+use Rattle.values.specs.Values.{pick}
+use Rattle.sheet.specs.Reading.{Res, ok, no}
+use Rattle.sheet.specs.Expression.{Expr}
+use Rattle.sheet.specs.Module.{Module, read}
+use Rattle.listings.specs.Listing.{listed, laidIn}
+use Rattle.state.specs.declared.State.{State}
+use Rattle.state.specs.Saved.{Bytes, loaded}
+use Rattle.events.specs.declared.Inputs.{Inputs}
+use Rattle.events.specs.declared.Chosen.{Chosen}
+use Rattle.events.specs.declared.Verdict.the-variants.{Refused}
+use Rattle.events.specs.Calls.{judged, start, choose, runList, runPlain, instant}
+use Rattle.events.specs.Rows.{wholeRows}
+use Rattle.batch.specs.Cycles.{runCycles}
+use Rattle.nextstate.specs.declared.Registers.{Registers}
+use Rattle.nextstate.specs.Extraction.{rightLengths, extract}
+use Rattle.nextstate.specs.CycleRun.{tablesFit, tablesIn, registersFit, extractable, cycleRun}
+use Rattle.cycles.specs.Many.{cyclesRun}
+use Rattle.exports.specs.Clocked.{Arrays, afterCycle, afterCycles}
+use Rattle.exports.specs.Saved.{startedIn, unfit, numberOn, bytesOn, toldOn, ran, rested, verdictOn, cycledAs}
+
+-- ---- the sheet: the buffer of a listing
+
+abbrev pub ListKeeps : Type 0
+ListKeeps = (s text : List ℕ) → listed (read s) .number ≢ 0 → laidIn text (read s) ≡ text
+
+-- ---- start, choice, instant: the saved state
+
+abbrev pub StartKeeps : Type 0
+StartKeeps = (s b : List ℕ) → start s .number ≢ 0 → startedIn b (start s) ≡ b
+
+-- A call on a sheet and a saved state: what C and Rust lend are bytes.
+abbrev pub Keeps : (List ℕ → State → Chosen) → Type 0
+Keeps call =
+    (s b : List ℕ) → Bytes b → numberOn s (loaded b) (call s) ≢ 0 → bytesOn b (loaded b) (call s) ≡ b
+
+abbrev pub ChooseKeeps : Type 0
+ChooseKeeps = (c : ℕ) → Keeps (λ s st. choose s st c)
+
+abbrev pub InstantKeeps : Type 0
+InstantKeeps = (a : Inputs) → Keeps (λ s st. instant s st a)
+
+-- ---- the runs: "a run stopped at a choice isn't a refused call"
+
+-- The number that refuses a run as a call, 0 where none does: "Runs: 1 to 11, 31, then choice by choice."
+unfoldable pub runRefused : List ℕ → Option State → ℕ
+runRefused s none = unfit (read s)
+runRefused s (some st) = judged (read s) st (λ n. n) (λ m. 0)
+
+-- It is the run's number then, nothing was accepted, and the state stays.
+abbrev pub RunKeeps : Type 0
+RunKeeps =
+    (s b cs : List ℕ) → Bytes b → runRefused s (loaded b) ≢ 0 →
+    (numberOn s (loaded b) (λ st. ran (runList s st cs)) ≡ runRefused s (loaded b))
+    × (toldOn 0 (loaded b) (λ st. runList s st cs .accepted) ≡ 0)
+    × (bytesOn b (loaded b) (λ st. ran (runList s st cs)) ≡ b)
+
+abbrev pub PlainRunKeeps : Type 0
+PlainRunKeeps =
+    (s b : List ℕ) (limit : ℕ) → Bytes b → runRefused s (loaded b) ≢ 0 →
+    (verdictOn s (loaded b) (λ st. runPlain s st limit) ≡ Refused (runRefused s (loaded b)))
+    × (toldOn 0 (loaded b) (λ st. runPlain s st limit .accepted) ≡ 0)
+    × (bytesOn b (loaded b) (λ st. rested (runPlain s st limit)) ≡ b)
+
+-- Rows of inputs that aren't whole are refused after the state.
+unfoldable pub cyclesRefused : List ℕ → Option State → List ℕ → List Bool → ℕ
+cyclesRefused s none ns xs = unfit (read s)
+cyclesRefused s (some st) ns xs = judged (read s) st (λ n. n) (λ m. pick (wholeRows ns xs) 0 25)
+
+abbrev pub RunCyclesKeeps : Type 0
+RunCyclesKeeps =
+    (s b ns : List ℕ) (xs : List Bool) → Bytes b → cyclesRefused s (loaded b) ns xs ≢ 0 →
+    (numberOn s (loaded b) (λ st. cycledAs (runCycles s st ns xs)) ≡ cyclesRefused s (loaded b) ns xs)
+    × (toldOn 0 (loaded b) (λ st. runCycles s st ns xs .phases) ≡ 0)
+    × (toldOn false (loaded b) (λ st. runCycles s st ns xs .running) ≡ false)
+    × (bytesOn b (loaded b) (λ st. cycledAs (runCycles s st ns xs)) ≡ b)
+
+-- ---- extraction: "lent words keep their contents"
+
+abbrev pub ExtractKeeps : Type 0
+ExtractKeeps =
+    (s ns rs : List ℕ) → extract s ns rs .number ≢ 0 → (extract s ns rs .nodes ≡ ns) × (extract s ns rs .rows ≡ rs)
+
+-- ---- the cycle run: registers, places and wires
+
+abbrev pub CycleKeeps : Type 0
+CycleKeeps =
+    (s ns rs : List ℕ) (g : Registers) (a : Inputs) (lent : Arrays) → cycleRun s ns rs g a .number ≢ 0 →
+    afterCycle lent (cycleRun s ns rs g a) ≡ lent
+
+-- The number that refuses many cycles as a call, 0 where none does: "23, 1 to 21, 24, 31, 25".
+module _ (ns rs : List ℕ) (g : Registers) (value : List ℕ) (unknown : List Bool) where
+  unfoldable pub refusedIn : Res (Module Expr) → ℕ
+  refusedIn (no n p) = n
+  refusedIn (ok m) =
+      pick (tablesFit m (tablesIn ns rs)) (pick (registersFit m g) (pick (wholeRows value unknown) 0 25) 31) 24
+
+  unfoldable pub manyRefused : List ℕ → ℕ
+  manyRefused s = pick (rightLengths ns rs) (refusedIn (extractable s)) 23
+
+abbrev pub CyclesKeep : Type 0
+CyclesKeep =
+    (s ns rs : List ℕ) (g : Registers) (value : List ℕ) (unknown : List Bool) (lent : Arrays) →
+    manyRefused ns rs g value unknown s ≢ 0 →
+    (cyclesRun s ns rs g value unknown .number ≡ manyRefused ns rs g value unknown s)
+    × (cyclesRun s ns rs g value unknown .cycles ≡ 0)
+    × (afterCycles lent (cyclesRun s ns rs g value unknown) ≡ lent)

@@ -1,0 +1,333 @@
+/*
+ * A refused call alters nothing: each call of include/walbryts.h is refused, with several numbers, on lent bytes and words that
+ * are held to what they were; what it tells beside its number is held to what the header says.
+ */
+#include <stdio.h>
+#include <string.h>
+
+#include "walbryts.h"
+
+enum { LONG = 8193, ROWS = 3 * WALBRYTS_INPUTS, GUARD = 64 };
+
+/* ---- sheets */
+
+typedef struct {
+    const uint8_t *bytes;
+    size_t len;
+    uint8_t number;
+} Sheet;
+
+static const uint8_t too_long[LONG];
+static const uint8_t no_input[] = {0, 1, 0, 1};
+static const uint8_t wide_clock[] = {1, 1, 0, 1, 2, 8};
+static const uint8_t bad_map[] = {2, 1, 0, 1, 1, 8, 8, 0x0D};
+static const uint8_t flip_flop[] = {2, 1, 0, 1, 1, 8, 8, 0x0C, 0x10, 1, 1, 0, 0x23, 2, 2, 1, 0};
+/* the clock read in an expression, and a thread that doesn't start with a wait */
+static const uint8_t clock_read[] = {2, 1, 0, 1, 1, 8, 8, 0x0C, 0x10, 1, 1, 0, 6, 2, 0, 0x23, 2, 2, 1};
+static const uint8_t late_wait[] = {2, 1, 0, 1, 1, 8, 8, 0x0C, 0x23, 2, 2, 1, 0x10, 1, 1, 0};
+
+static const Sheet unread[] = {
+    {too_long, LONG, 1},     {flip_flop, 13, 2},  {no_input, sizeof no_input, 3}, {wide_clock, sizeof wide_clock, 4},
+    {bad_map, sizeof bad_map, 5}, {flip_flop, 17, 10},
+};
+static const Sheet good = {flip_flop, 16, 0};
+static const Sheet unextracted[] = {{clock_read, sizeof clock_read, 18}, {late_wait, sizeof late_wait, 16}};
+
+#define COUNT(a) (sizeof(a) / sizeof *(a))
+
+/* ---- what is lent, and a copy of it */
+
+typedef struct {
+    uint8_t text[WALBRYTS_TEXT];
+    uint8_t state[WALBRYTS_STATE];
+    uint8_t guard[GUARD];
+    uint16_t nodes[WALBRYTS_NODE_WORDS + 1];
+    uint16_t rows[WALBRYTS_ROW_WORDS + 1];
+    uint32_t value[WALBRYTS_REGISTERS];
+    bool unknown[WALBRYTS_REGISTERS];
+    uint8_t places[WALBRYTS_THREADS];
+    uint32_t wire[WALBRYTS_WIRES];
+    bool unsure[WALBRYTS_WIRES];
+    uint32_t inputs[ROWS];
+    bool inputs_unknown[ROWS];
+} Lent;
+
+static Lent lent, kept;
+static unsigned refused, failed;
+
+static void keep(void) {
+    memcpy(&kept, &lent, sizeof lent);
+}
+
+/* The call gave the number that it should, told nothing but what it should, and altered nothing. */
+static void hold(const char *call, uint8_t number, uint8_t expected, bool told) {
+    refused++;
+    if (number != expected || !told || memcmp(&kept, &lent, sizeof lent) != 0) {
+        failed++;
+        printf("FAILED %s: %u where %u is due, told %s, lent bytes %s\n", call, number, expected, told ? "right" : "wrong",
+               memcmp(&kept, &lent, sizeof lent) == 0 ? "as they were" : "altered");
+        memcpy(&lent, &kept, sizeof lent);
+    }
+}
+
+/* A fresh state, tables of the flip-flop, registers at their start, and marks in everything that a call only writes to. */
+static void lend(void) {
+    memset(&lent, 0, sizeof lent);
+    memset(lent.text, 0xA5, sizeof lent.text);
+    memset(lent.guard, 0x5A, sizeof lent.guard);
+    for (size_t i = 0; i < WALBRYTS_WIRES; i++) {
+        lent.wire[i] = 0xA5A5A5A5u ^ (uint32_t)i;
+        lent.unsure[i] = i % 3 == 0;
+        lent.value[i] = (uint32_t)i;
+        lent.unknown[i] = i % 2 == 0;
+    }
+    if (walbryts_start(good.bytes, good.len, lent.state) != 0 ||
+        walbryts_extract(good.bytes, good.len, lent.nodes, WALBRYTS_NODE_WORDS, lent.rows, WALBRYTS_ROW_WORDS) != 0) {
+        failed++;
+        printf("FAILED the flip-flop isn't read and extracted\n");
+    }
+    keep();
+}
+
+/* ---- the calls, each held */
+
+static void list(Sheet s, uint8_t expected) {
+    size_t length = 77;
+    uint8_t number = walbryts_list(s.bytes, s.len, lent.text, &length);
+    hold("list", number, expected, length == 0);
+}
+
+static void start(Sheet s, uint8_t expected) {
+    hold("start", walbryts_start(s.bytes, s.len, lent.state), expected, true);
+}
+
+/* A choice, and a run that it opens. */
+static void choose(Sheet s, uint8_t choice, uint8_t expected) {
+    const uint8_t choices[] = {choice, 0};
+    size_t accepted = 77;
+    hold("choose", walbryts_choose(s.bytes, s.len, lent.state, choice), expected, true);
+    uint8_t number = walbryts_run(s.bytes, s.len, lent.state, choices, sizeof choices, &accepted);
+    hold("run", number, expected, accepted == 0);
+}
+
+static void run_plain(Sheet s, uint8_t expected, uint8_t expected_word) {
+    uint16_t accepted = 77;
+    uint8_t word = 77;
+    uint8_t number = walbryts_run_plain(s.bytes, s.len, lent.state, 9, &accepted, &word);
+    hold("run_plain", number, expected, accepted == 0 && word == expected_word);
+}
+
+static void instant(Sheet s, uint8_t count, uint8_t expected) {
+    uint8_t number = walbryts_instant(s.bytes, s.len, lent.state, count, lent.inputs, lent.inputs_unknown);
+    hold("instant", number, expected, true);
+}
+
+static void run_cycles(Sheet s, size_t values, size_t flags, uint8_t expected) {
+    size_t phases = 77;
+    bool running = true;
+    uint8_t number =
+        walbryts_run_cycles(s.bytes, s.len, lent.state, lent.inputs, values, lent.inputs_unknown, flags, &phases, &running);
+    hold("run_cycles", number, expected, phases == 0 && !running);
+}
+
+static void extract(Sheet s, size_t nodes, size_t rows, uint8_t expected) {
+    hold("extract", walbryts_extract(s.bytes, s.len, lent.nodes, nodes, lent.rows, rows), expected, true);
+}
+
+static void cycle(Sheet s, size_t nodes, uint8_t count, uint8_t expected) {
+    uint8_t number = walbryts_cycle(s.bytes, s.len, lent.nodes, nodes, lent.rows, WALBRYTS_ROW_WORDS, lent.value, lent.unknown,
+                                    lent.places, count, lent.inputs, lent.inputs_unknown, lent.wire, lent.unsure);
+    hold("cycle", number, expected, true);
+}
+
+static void cycles(Sheet s, size_t nodes, size_t values, size_t flags, uint8_t expected) {
+    size_t accepted = 77;
+    uint8_t number = walbryts_cycles(s.bytes, s.len, lent.nodes, nodes, lent.rows, WALBRYTS_ROW_WORDS, lent.value, lent.unknown,
+                                     lent.places, lent.inputs, values, lent.inputs_unknown, flags, &accepted, lent.wire,
+                                     lent.unsure);
+    hold("cycles", number, expected, accepted == 0);
+}
+
+/* ---- sheets that aren't read: 1 to 11 before all else but 23 */
+
+static void every_call(Sheet s) {
+    choose(s, 0, s.number);
+    run_plain(s, s.number, WALBRYTS_REFUSED);
+    instant(s, 2, s.number);
+    run_cycles(s, ROWS, ROWS, s.number);
+    run_cycles(s, 15, 1, s.number);
+}
+
+static void sheets(void) {
+    for (size_t i = 0; i < COUNT(unread); i++) {
+        Sheet s = unread[i];
+        lend();
+        list(s, s.number);
+        start(s, s.number);
+        every_call(s);
+        extract(s, WALBRYTS_NODE_WORDS, WALBRYTS_ROW_WORDS, s.number);
+        cycle(s, WALBRYTS_NODE_WORDS, 1, s.number);
+        cycles(s, WALBRYTS_NODE_WORDS, 15, 1, s.number);
+        lent.state[0] = 7; /* no saved state, which is judged after the sheet */
+        keep();
+        start(s, s.number);
+        every_call(s);
+    }
+}
+
+/* ---- 31: bytes that are no saved state, and a state that doesn't fit */
+
+static void no_state(size_t at, uint8_t byte, bool saved) {
+    lend();
+    lent.state[at] = byte;
+    keep();
+    if (walbryts_is_state(lent.state, WALBRYTS_STATE) != saved) {
+        failed++;
+        printf("FAILED is_state, with byte %zu changed\n", at);
+    }
+    choose(good, WALBRYTS_COMMIT, 31);
+    choose(good, 200, 31);
+    run_plain(good, 31, WALBRYTS_REFUSED);
+    instant(good, 3, 31);
+    run_cycles(good, ROWS, ROWS, 31);
+    run_cycles(good, 15, 15, 31);
+    run_cycles(good, 0, 0, 31);
+}
+
+static void states(void) {
+    no_state(0, 2, false);
+    no_state(WALBRYTS_VALUE_AT(79), 2, false);
+    no_state(WALBRYTS_PENDING_AT(0), 255, false);
+    no_state(WALBRYTS_DUE_AT(31), 2, false);
+    no_state(WALBRYTS_PLACE_AT(0), 3, true);
+    no_state(WALBRYTS_DUE_AT(0), 1, true);
+    if (walbryts_is_state(lent.state, WALBRYTS_STATE - 1) || walbryts_is_state(lent.text, WALBRYTS_STATE)) {
+        failed++;
+        printf("FAILED is_state on other bytes\n");
+    }
+}
+
+/* ---- choices and instants */
+
+static void drive(uint32_t clock) {
+    uint32_t value[WALBRYTS_INPUTS] = {clock, 5};
+    bool unknown[WALBRYTS_INPUTS] = {false};
+    if (walbryts_instant(good.bytes, good.len, lent.state, 2, value, unknown) != 0) {
+        failed++;
+        printf("FAILED an instant that is in order\n");
+    }
+    keep();
+}
+
+static void full(size_t at) {
+    memset(lent.state + at, 0xFF, 4);
+    keep();
+}
+
+static void choices(void) {
+    lend();
+    choose(good, 1, 22);
+    choose(good, 254, 22);
+    choose(good, 0, 33);
+    choose(good, WALBRYTS_COMMIT, 35);
+    instant(good, 1, 25);
+    instant(good, 17, 25);
+    run_cycles(good, 15, 15, 25);
+    run_cycles(good, 17, 17, 25);
+    run_cycles(good, 32, 31, 25);
+    run_cycles(good, 32, 48, 25);
+    run_cycles(good, 0, 1, 25);
+    lent.inputs[1] = 256;
+    keep();
+    instant(good, 2, 25);
+    run_cycles(good, 32, 32, 25);
+    full(WALBRYTS_TIME_AT);
+    lent.inputs[1] = 5;
+    keep();
+    instant(good, 2, 36);
+    run_cycles(good, 32, 32, 36);
+    lend();
+    drive(0);
+    drive(1);
+    choose(good, WALBRYTS_COMMIT, 34);
+    instant(good, 2, 32);
+    run_cycles(good, 32, 32, 32);
+    full(WALBRYTS_COUNT_AT);
+    choose(good, 0, 36);
+    run_plain(good, 36, WALBRYTS_STOPPED);
+}
+
+/* ---- tables, registers and inputs of cycles by expressions */
+
+static void tables(void) {
+    lend();
+    for (size_t i = 0; i < COUNT(unextracted); i++) {
+        Sheet s = unextracted[i];
+        extract(s, WALBRYTS_NODE_WORDS, WALBRYTS_ROW_WORDS, s.number);
+        cycle(s, WALBRYTS_NODE_WORDS, 1, s.number);
+        cycles(s, WALBRYTS_NODE_WORDS, 32, 32, s.number);
+    }
+    extract(good, WALBRYTS_NODE_WORDS - 1, WALBRYTS_ROW_WORDS, 23);
+    extract(good, WALBRYTS_NODE_WORDS, WALBRYTS_ROW_WORDS + 1, 23);
+    extract(unread[0], 0, WALBRYTS_ROW_WORDS, 23);
+    cycle(good, WALBRYTS_NODE_WORDS + 1, 1, 23);
+    cycle(unread[0], 0, 1, 23);
+    cycles(good, 0, 32, 32, 23);
+    cycle(good, WALBRYTS_NODE_WORDS, 2, 25);
+    cycles(good, WALBRYTS_NODE_WORDS, 31, 31, 25);
+    cycles(good, WALBRYTS_NODE_WORDS, 33, 33, 25);
+    cycles(good, WALBRYTS_NODE_WORDS, 32, 16, 25);
+    cycles(good, WALBRYTS_NODE_WORDS, 0, 2, 25);
+    cycles(good, WALBRYTS_NODE_WORDS, 0, 0, 0); /* no rows: nothing is refused, and nothing run */
+    lent.inputs[0] = lent.inputs[1] = 256;
+    keep();
+    cycle(good, WALBRYTS_NODE_WORDS, 1, 25);
+    cycles(good, WALBRYTS_NODE_WORDS, 32, 32, 25);
+    lent.value[0] = 256;
+    lent.unknown[0] = false;
+    keep();
+    cycle(good, WALBRYTS_NODE_WORDS, 1, 31);
+    cycles(good, WALBRYTS_NODE_WORDS, 31, 1, 31);
+    lent.nodes[4 * 4095] = 99;
+    keep();
+    cycle(good, WALBRYTS_NODE_WORDS, 1, 24);
+    cycles(good, WALBRYTS_NODE_WORDS, 31, 1, 24);
+}
+
+/* ---- accepted calls are seen to alter what is lent: the comparison isn't blind */
+
+static void seen(const char *call, uint8_t number) {
+    if (number != 0 || memcmp(&kept, &lent, sizeof lent) == 0) {
+        failed++;
+        printf("FAILED %s: %u, and nothing altered\n", call, number);
+    }
+    keep();
+}
+
+static void accepted(void) {
+    size_t length, phases, done;
+    bool running;
+    lend();
+    seen("list", walbryts_list(good.bytes, good.len, lent.text, &length));
+    seen("instant", walbryts_instant(good.bytes, good.len, lent.state, 2, lent.inputs, lent.inputs_unknown));
+    seen("run_cycles", walbryts_run_cycles(good.bytes, good.len, lent.state, lent.inputs, 16, lent.inputs_unknown, 16, &phases,
+                                           &running));
+    lent.inputs[0] = 9;
+    keep();
+    seen("cycle", walbryts_cycle(good.bytes, good.len, lent.nodes, WALBRYTS_NODE_WORDS, lent.rows, WALBRYTS_ROW_WORDS,
+                                 lent.value, lent.unknown, lent.places, 1, lent.inputs, lent.inputs_unknown, lent.wire,
+                                 lent.unsure));
+    seen("cycles", walbryts_cycles(good.bytes, good.len, lent.nodes, WALBRYTS_NODE_WORDS, lent.rows, WALBRYTS_ROW_WORDS,
+                                   lent.value, lent.unknown, lent.places, lent.inputs, 16, lent.inputs_unknown, 16, &done,
+                                   lent.wire, lent.unsure));
+}
+
+int main(void) {
+    sheets();
+    states();
+    choices();
+    tables();
+    accepted();
+    printf("%u refused calls, %u failed\n", refused, failed);
+    return failed != 0;
+}
