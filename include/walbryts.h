@@ -51,6 +51,7 @@ extern "C" {
 /* ---- numbers and words */
 
 #define WALBRYTS_COMMIT 255 /* the choice that commits all pending values */
+#define WALBRYTS_NOBODY 255 /* what the dispatcher picks where no module is busy, or the call is refused */
 #define WALBRYTS_QUIET 0    /* how a plain run ended: nothing enabled, nothing pending */
 #define WALBRYTS_SPENT 1    /* as many choices ran as were allowed, and it isn't quiet */
 #define WALBRYTS_STOPPED 2  /* at a choice, by the number that the call gives */
@@ -129,6 +130,15 @@ uint8_t walbryts_cycles(const uint8_t *sheet, size_t sheet_len, const uint16_t *
                         const uint16_t *rows, size_t rows_len, uint32_t *value, bool *unknown, uint8_t *places,
                         const uint32_t *inputs, size_t inputs_len, const bool *inputs_unknown,
                         size_t inputs_unknown_len, size_t *cycles, uint32_t *wire, bool *unsure);
+
+/* ---- many modules, run side by side */
+
+/* The dispatcher, on the turn records of up to eight modules: busy[n] and turns[n] are module n's. Picks the next busy
+ * one in the circle after `last`, the number served by the call before, that one itself last, and adds one to its
+ * turns. *picked takes its number, or WALBRYTS_NOBODY. Gives 0, or 48 (no record, more than eight, or another number of
+ * flags than of turns), 49 (`last` is outside the list), 36 (the picked one's turns are at 4,294,967,295). */
+uint8_t walbryts_dispatch(const bool *busy, size_t busy_len, uint32_t *turns, size_t turns_len, uint8_t last,
+                          uint8_t *picked);
 
 #ifdef __cplusplus
 }

@@ -46,7 +46,9 @@ mod inputs;
 mod state;
 mod simulation;
 mod expressions;
+mod dispatcher;
 
+pub use dispatcher::{Record, dispatch};
 pub use expressions::{Cycles, NODE_WORDS, ROW_WORDS, Registers, Tables, Wires};
 pub use inputs::{Inputs, Rows};
 pub use refusal::{Reason, Refusal};

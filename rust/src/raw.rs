@@ -105,6 +105,15 @@ unsafe extern "C" {
         wire: *mut u32,
         unsure: *mut bool,
     ) -> u8;
+
+    pub fn walbryts_dispatch(
+        busy: *const bool,
+        busy_len: usize,
+        turns: *mut u32,
+        turns_len: usize,
+        last: u8,
+        picked: *mut u8,
+    ) -> u8;
 }
 
 /// Refused calls on lent bytes that the safe interface never lends: rows that aren't whole, bytes

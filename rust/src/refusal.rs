@@ -117,7 +117,9 @@ reasons! {
     NotEnabled = 33, "the item isn't enabled";
     CommitTooEarly = 34, "a commit while an item is enabled";
     NothingPending = 35, "a commit with nothing pending";
-    Full = 36, "the time or the count is full";
+    Full = 36, "the time, the count or a module's turns are full";
+    ListLength = 48, "the list has no record, or more than eight";
+    LastServed = 49, "the last-served number is outside the list";
 }
 
 impl Reason {

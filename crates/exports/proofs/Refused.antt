@@ -7,6 +7,7 @@ use mathlib.Core.Option.{Option, none, some}
 use Prim.Native.Nat.{ℕ}
 use borrow.Author.Tests.{ne-eqb}
 use lib.Dec.{eqb}
+use Rattle.dispatch.proofs.Claims.{planes-kept}
 use Rattle.values.specs.Values.{pick}
 use Rattle.sheet.specs.Reading.{Res, ok, no}
 use Rattle.sheet.specs.Expression.{Expr}
@@ -32,7 +33,7 @@ use Rattle.cycles.specs.declared.Cycled as many
 use Rattle.cycles.specs.Many.{ended, atOnce, cyclesOf, cyclesIn, cyclesOr, cyclesRun}
 use Rattle.exports.specs.Clocked.{Arrays, afterCycle, afterCycles}
 use Rattle.exports.specs.Saved.{startedIn, numberOn, bytesOn, toldOn, ran, rested, verdictOn, cycledAs}
-use Rattle.exports.specs.Refused.{ListKeeps, StartKeeps, Keeps, ChooseKeeps, InstantKeeps, ExtractKeeps, CycleKeeps, CyclesKeep}
+use Rattle.exports.specs.Refused.{ListKeeps, StartKeeps, Keeps, ChooseKeeps, InstantKeeps, ExtractKeeps, CycleKeeps, CyclesKeep, DispatchKeeps}
 use Rattle.exports.specs.Refused.{runRefused, RunKeeps, PlainRunKeeps, cyclesRefused, RunCyclesKeeps, refusedIn, manyRefused}
 
 -- ---- the sheet
@@ -215,3 +216,6 @@ cycles-keep s ns rs g value unknown lent h =
       ap (λ (x : many.Cycled). x .cycles) q,
       ap (afterCycles lent) q,
     )
+
+pub dispatch-keeps : DispatchKeeps
+dispatch-keeps = planes-kept

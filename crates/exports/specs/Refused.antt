@@ -7,6 +7,7 @@ use mathlib.Core.List.{List}
 use mathlib.Core.Option.{Option, none, some}
 use Prim.Native.Nat.{ℕ}
 use Rattle.values.specs.Values.{pick}
+use Rattle.dispatch.specs.Claims.{PlanesKept}
 use Rattle.sheet.specs.Reading.{Res, ok, no}
 use Rattle.sheet.specs.Expression.{Expr}
 use Rattle.sheet.specs.Module.{Module, read}
@@ -112,3 +113,8 @@ CyclesKeep =
     (cyclesRun s ns rs g value unknown .number ≡ manyRefused ns rs g value unknown s)
     × (cyclesRun s ns rs g value unknown .cycles ≡ 0)
     × (afterCycles lent (cyclesRun s ns rs g value unknown) ≡ lent)
+
+-- ---- the dispatcher: the turns
+
+abbrev pub DispatchKeeps : Type 0
+DispatchKeeps = PlanesKept

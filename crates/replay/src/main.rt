@@ -1,5 +1,6 @@
 // The replay program: a script of calls on standard input, a line for each of its records on standard output. Everything that
 // matters is in the library; a script of any bytes is run as far as it goes.
+use dispatch::Dispatched;
 use events::Chosen;
 use events::Inputs;
 use events::Ran;
@@ -164,6 +165,27 @@ fn say_values(value: [u32; 32], unknown: [bool; 32]) {
         r += 1;
     }
     say_text(&text, n);
+}
+
+// The turn records in hexadecimal: each has the form of a value.
+fn say_turns(turns: [u32; 16], busy: [bool; 16], count: usize) {
+    let mut text = [0u8; 1024];
+    let mut n = 0;
+    let mut r = 0;
+    while r < 16 && r < count {
+        n = put_value(turns[r], busy[r], &mut text, n);
+        r += 1;
+    }
+    say_text(&text, n);
+}
+
+// The number picked, or that none is.
+fn say_picked(picked: u8) {
+    if picked == 255 {
+        say(b"none");
+    } else {
+        say_number(picked as u64);
+    }
 }
 
 // A saved state in hexadecimal, without its form byte.
@@ -412,6 +434,40 @@ fn do_cycle(sheet: &[u8], nodes: &[u16], rows: &[u16]) -> bool {
     run_cycle(sheet, &nodes[..a], &rows[..b])
 }
 
+// The dispatcher on the first `n` records.
+fn dispatch_first(busy: &[bool], turns: &mut [u32], n: usize, last: u8) -> Dispatched {
+    if n > busy.len() {
+        return Dispatched::Refused(48);
+    }
+    if n > turns.len() {
+        return Dispatched::Refused(48);
+    }
+    dispatch::slices::dispatch_planes(&busy[..n], &mut turns[..n], last)
+}
+
+// `B`: the dispatcher. A turn record has the form of a value: busy is its flag, turns its number.
+fn do_dispatch() -> bool {
+    let g = read_given();
+    let mut last = [0u8; 1];
+    let whole = take(&mut last);
+    let given = g.inputs;
+    let n = given.count as usize;
+    if !g.found || !whole || n > 16 {
+        return broken();
+    }
+    let busy = given.unknown;
+    let mut turns = given.value;
+    let answer = dispatch_first(&busy, &mut turns, n, last[0]);
+    say(b"dispatch ");
+    say_number(dispatch::number_of(answer) as u64);
+    say(b" ");
+    say_picked(dispatch::picked_of(answer));
+    say(b" ");
+    say_turns(turns, busy, n);
+    say(b"\n");
+    true
+}
+
 // ---- the records that change it
 
 // The line of a call that answers with a number, and the state that it gave back.
@@ -550,6 +606,7 @@ fn told_of(letter: u8, sheet: &[u8], st: State, nodes: &mut [u16], rows: &mut [u
         b'T' => do_tables(nodes, rows),
         b'W' => do_word(nodes, rows),
         b'K' => do_cycle(sheet, nodes, rows),
+        b'B' => do_dispatch(),
         _ => broken(),
     }
 }
