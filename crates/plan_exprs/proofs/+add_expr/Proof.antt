@@ -52,16 +52,16 @@ calls t = (
   binary-width-reads.Learnt,
 )
 
-returns : (t : ℕ) → lts.Need-returns (calls t) (here t) add-expr.Post
-returns t c =
+add-expr-returns : (t : ℕ) → lts.Need-returns (calls t) (here t) add-expr.Post
+add-expr-returns t c =
     rw (c .nothing .ensures) (sym (add-none _ _ _ _ _ (c .before .if1 .taken)))
 
-returns-2 : (t : ℕ) → lts.Need-returns-2 (calls t) (here t) add-expr.Post
-returns-2 t c =
+add-expr-returns-2 : (t : ℕ) → lts.Need-returns-2 (calls t) (here t) add-expr.Post
+add-expr-returns-2 t c =
     rw (c .nothing2 .ensures) (sym (add-far _ _ _ _ _ (c .before .if2 .taken)))
 
-returns-3 : (t : ℕ) → lts.Need-returns-3 (calls t) (here t) add-expr.Post
-returns-3 t c =
+add-expr-returns-3 : (t : ℕ) → lts.Need-returns-3 (calls t) (here t) add-expr.Post
+add-expr-returns-3 t c =
     let at-match = c .before .before .before in
     let b2 = at-match .before in
     let b1 = b2 .before in
@@ -69,8 +69,8 @@ returns-3 t c =
     rw (c .width-of .ensures, c .before .before .widen .ensures)
     (sym (add-variable _ _ _ _ _ _ (if2 .before .if1 .left) (if2 .if2 .left) (sym (b2 .byte-at2 .ensures)) (sym (b1 .byte-at .ensures) ∙ at-match .match .keys1)))
 
-returns-4 : (t : ℕ) → lts.Need-returns-4 (calls t) (here t) add-expr.Post
-returns-4 t c =
+add-expr-returns-4 : (t : ℕ) → lts.Need-returns-4 (calls t) (here t) add-expr.Post
+add-expr-returns-4 t c =
     let at-match = c .before .before .before in
     let b2 = at-match .before in
     let b1 = b2 .before in
@@ -79,8 +79,8 @@ returns-4 t c =
     ∙ sym (add-constant _ _ _ _ _ _ (if2 .before .if1 .left) (if2 .if2 .left) (sym (b2 .byte-at2 .ensures)) _
     (sym (b1 .byte-at .ensures) ∙ at-match .match .keys2) (sym (c .before .word-at .ensures)))
 
-returns-5 : (t : ℕ) → lts.Need-returns-5 (calls t) (here t) add-expr.Post
-returns-5 t c =
+add-expr-returns-5 : (t : ℕ) → lts.Need-returns-5 (calls t) (here t) add-expr.Post
+add-expr-returns-5 t c =
     let at-widen2 = c .before .before .before in
     let at-a = at-widen2 .before .before in
     let at-match = at-a .before .before in
@@ -92,8 +92,8 @@ returns-5 t c =
     (sym (add-unary _ _ _ _ _ _ (if2 .before .if1 .left) (if2 .if2 .left) (sym (b2 .byte-at2 .ensures)) _ _ (at-a .add-expr .ensures)
     (sym (b1 .byte-at .ensures) ∙ at-match .match .keys3)))
 
-returns-6 : (t : ℕ) → lts.Need-returns-6 (calls t) (here t) add-expr.Post
-returns-6 t c =
+add-expr-returns-6 : (t : ℕ) → lts.Need-returns-6 (calls t) (here t) add-expr.Post
+add-expr-returns-6 t c =
     let at-widen4 = c .before .before .before in
     let at-b = at-widen4 .before .before in
     let at-a = at-b .before .before in
@@ -106,8 +106,8 @@ returns-6 t c =
     (sym (add-binary _ _ _ _ _ _ (if2 .before .if1 .left) (if2 .if2 .left) (sym (b2 .byte-at2 .ensures)) _ _ (at-a .add-expr2 .ensures)
     _ _ (at-b .add-expr3 .ensures) (sym (b1 .byte-at .ensures) ∙ at-match .match .keys4)))
 
-returns-7 : (t : ℕ) → lts.Need-returns-7 (calls t) (here t) add-expr.Post
-returns-7 t c =
+add-expr-returns-7 : (t : ℕ) → lts.Need-returns-7 (calls t) (here t) add-expr.Post
+add-expr-returns-7 t c =
     let at-b = c .before .before in
     let at-a = at-b .before .before in
     let at-c = at-a .before .before in
@@ -119,8 +119,8 @@ returns-7 t c =
     ∙ sym (add-conditional _ _ _ _ _ _ (if2 .before .if1 .left) (if2 .if2 .left) refl _ _ (at-c .add-expr4 .ensures)
     _ _ (at-a .add-expr5 .ensures) _ _ (at-b .add-expr6 .ensures) (sym (b1 .byte-at .ensures) ∙ at-match .match .keys5))
 
-returns-8 : (t : ℕ) → lts.Need-returns-8 (calls t) (here t) add-expr.Post
-returns-8 t c =
+add-expr-returns-8 : (t : ℕ) → lts.Need-returns-8 (calls t) (here t) add-expr.Post
+add-expr-returns-8 t c =
     let at-match = c .before .before .before in
     let b2 = at-match .before in
     let b1 = b2 .before in
@@ -136,20 +136,11 @@ pub +add-expr-spec : {M : Type 1} → statement M
     close μ
     (λ t. lts.spec (calls t) (here t) add-expr.Post
     (λ c κs. search needs)
-    (returns t)
+    (add-expr-returns t)
     (λ c κs. search needs)
-    (returns-2 t)
-    (λ c κs. search needs)
-    (λ c. search needs)
+    (add-expr-returns-2 t)
     (λ c κs. search needs)
     (λ c. search needs)
-    (λ c κs. search needs)
-    (λ c κs. search needs)
-    (λ c κs. search needs)
-    (λ c. search needs)
-    (λ c κs. search needs)
-    (λ c. search needs)
-    (λ c κs. search needs)
     (λ c κs. search needs)
     (λ c. search needs)
     (λ c κs. search needs)
@@ -168,14 +159,23 @@ pub +add-expr-spec : {M : Type 1} → statement M
     (λ c κs. search needs)
     (λ c. search needs)
     (λ c κs. search needs)
+    (λ c κs. search needs)
+    (λ c. search needs)
+    (λ c κs. search needs)
+    (λ c κs. search needs)
+    (λ c κs. search needs)
+    (λ c. search needs)
+    (λ c κs. search needs)
+    (λ c. search needs)
+    (λ c κs. search needs)
     (λ c. search needs)
     (λ c κs. search needs)
     (λ c κs. search needs)
     (λ c κs. search needs)
     (λ c κs. search needs)
-    (returns-3 t)
-    (returns-4 t)
-    (returns-5 t)
-    (returns-6 t)
-    (returns-7 t)
-    (returns-8 t))
+    (add-expr-returns-3 t)
+    (add-expr-returns-4 t)
+    (add-expr-returns-5 t)
+    (add-expr-returns-6 t)
+    (add-expr-returns-7 t)
+    (add-expr-returns-8 t))
