@@ -91,7 +91,7 @@ module _ {s : List ℕ} {m : Module Expr} {q : Plan} (w : PlanOf s m q) where
       choose-at c = rw fits-at (by (stateFits m st) refl)
         where
           by : (t : Bool) → stateFits m st ≡ t →
-              let u = acting.take q (st .count) c (unpacked q st) in
+              let u = acting.takeChoice q (st .count) c (unpacked q st) in
               pick {A = Chosen} t (record { number = u .number; state = packed (u .left) (st .time) (counting (u .number) (st .count)) })
               (record { number = 31; state = st })
               ≡ pick t (chooseIn m st c) (record { number = 31; state = st })

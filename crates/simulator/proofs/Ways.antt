@@ -82,7 +82,7 @@ module _ (q : Plan) (sizes : List ℕ) (st : State) where
       -- ---- a choice, a run over a list, a plain run
 
       pub choose-fit :
-          (c n count : ℕ) → taken n u ≡ acting.take q (st .count) c l → count ≡ counting n (st .count) → v ≡ packed u (st .time) count →
+          (c n count : ℕ) → taken n u ≡ acting.takeChoice q (st .count) c l → count ≡ counting n (st .count) → v ≡ packed u (st .time) count →
           record { number = n; state = v } ≡ chooseAt q sizes st c
       unfolding chooseAt
       choose-fit c n count t g p = rw (f, ← e, ← t, p, g) refl

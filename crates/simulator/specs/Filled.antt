@@ -97,7 +97,7 @@ module _ (q : Plan) (sizes : List ℕ) (st : State) where
 
   unfoldable pub chooseAt : ℕ → Chosen
   chooseAt c =
-      let t = acting.take q (st .count) c (unpacked q st) in
+      let t = acting.takeChoice q (st .count) c (unpacked q st) in
       pick fitsAt
       (record { number = t .number; state = packed (t .left) (st .time) (counting (t .number) (st .count)) })
       (record { number = 31; state = st })
