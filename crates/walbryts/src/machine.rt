@@ -3,8 +3,8 @@
 use crate::display;
 use crate::feed::Row;
 use crate::report;
+use driving::Rest;
 use events::Inputs;
-use events::Verdict;
 use nextstate::Clocked;
 use nextstate::Registers;
 use options::Way;
@@ -24,96 +24,7 @@ pub struct Plan {
     pub wave: i32,
 }
 
-// A state, and how it is run: by which of the three ways, the number that refused a call, whether it came to rest, and the generator's
-// next seed.
-pub struct Rest {
-    pub way: Way,
-    pub number: u8,
-    pub rested: bool,
-    pub state: State,
-    pub seed: u64,
-}
-
-// The same way on: what a call has left.
-fn left(r: Rest, number: u8, rested: bool, state: State) -> Rest {
-    let way = r.way;
-    Rest {
-        way,
-        number,
-        rested,
-        state,
-        seed: r.seed,
-    }
-}
-
 // ---- events
-
-fn is_quiet(v: Verdict) -> bool {
-    match v {
-        Verdict::Quiet => true,
-        Verdict::Spent => false,
-        Verdict::Stopped(_) => false,
-        Verdict::Refused(_) => false,
-    }
-}
-
-// The plain run.
-fn plainly(sheet: &[u8], r: Rest) -> Rest {
-    let st = r.state;
-    let p = simulator::run_plain(sheet, st, 65535);
-    let v = p.verdict;
-    let after = p.state;
-    left(r, 0, is_quiet(v), after)
-}
-
-// The generator's next seed.
-fn next_seed(seed: u64) -> u64 {
-    (seed % 4294967296 * 1664525 + 1013904223) % 4294967296
-}
-
-// A choice among the items and the commit.
-fn drawn_choice(seed: u64, items: u64) -> u8 {
-    let k = seed / 65536 % (items % 64 + 1);
-    if k < items % 64 { k as u8 } else { 255 }
-}
-
-// A choice that is drawn. A commit that is refused with 35 says that nothing is enabled and nothing pending; a refused choice changes
-// nothing.
-fn draw(sheet: &[u8], items: u64, r: Rest) -> Rest {
-    let st = r.state;
-    let seed = next_seed(r.seed);
-    let c = simulator::choose(sheet, st, drawn_choice(seed, items));
-    let state = c.state;
-    let way = r.way;
-    Rest {
-        way,
-        number: 0,
-        rested: c.number == 35,
-        state,
-        seed,
-    }
-}
-
-// Choices until there is none.
-fn by_draw(sheet: &[u8], items: u64, r: Rest) -> Rest {
-    let mut e = r;
-    let mut turns: u32 = 4000000;
-    while turns > 0 && !e.rested {
-        e = draw(sheet, items, e);
-        turns -= 1;
-    }
-    e
-}
-
-// A run to rest.
-fn to_rest(p: Plan, sheet: &[u8], r: Rest) -> Rest {
-    let way = r.way;
-    match way {
-        Way::Drawn(_) => by_draw(sheet, p.threads as u64 + p.wires as u64, r),
-        Way::Plain => plainly(sheet, r),
-        Way::Expressed => plainly(sheet, r),
-    }
-}
 
 // Is it by the extracted expressions?
 pub fn is_expressed(way: Way) -> bool {
@@ -124,47 +35,22 @@ pub fn is_expressed(way: Way) -> bool {
     }
 }
 
-// The seed that choices are drawn by.
-fn seed_of(way: Way) -> u64 {
-    match way {
-        Way::Plain => 0,
-        Way::Drawn(seed) => seed as u64,
-        Way::Expressed => 0,
-    }
+// What can be chosen in a state beside a commit: threads and wires.
+fn items(p: Plan) -> u64 {
+    p.threads as u64 + p.wires as u64
 }
 
 // The state at the start, at rest.
 pub fn begin(p: Plan, sheet: &[u8], way: Way) -> Rest {
-    let c = simulator::start(sheet);
-    let state = c.state;
-    let r = Rest {
-        way,
-        number: 0,
-        rested: false,
-        state,
-        seed: seed_of(way),
-    };
-    to_rest(p, sheet, r)
+    driving::begin(sheet, items(p), way)
 }
 
 // An instant of a row, and the run after it.
 fn by_events(p: Plan, sheet: &[u8], before: Rest, clock: u32, row: Row) -> Rest {
-    let mut value = row.value;
-    value[0] = clock;
+    let value = row.value;
     let unknown = row.unknown;
-    let a = Inputs {
-        count: p.inputs,
-        value,
-        unknown,
-    };
-    let st = before.state;
-    let c = simulator::instant(sheet, st, a);
-    let state = c.state;
-    let r = left(before, c.number, false, state);
-    if c.number != 0 {
-        return r;
-    }
-    to_rest(p, sheet, r)
+    let fed = driving::Row { value, unknown };
+    driving::by_events(sheet, items(p), before, p.inputs, clock, fed)
 }
 
 // ---- the extracted expressions
@@ -287,10 +173,10 @@ fn by_expressions(
     let st = before.state;
     let fed = with_inputs(p.inputs, st, clock, row);
     if clock == 0 {
-        return left(before, 0, true, fed);
+        return driving::left(before, 0, true, fed);
     }
     let c = cycled(p, sheet, nodes, rows, fed, row);
-    left(before, c.number, c.number == 0, with_cycled(p, fed, c))
+    driving::left(before, c.number, c.number == 0, with_cycled(p, fed, c))
 }
 
 // ---- cycles

@@ -1,0 +1,18 @@
+-- `driving::next_seed` meets its contract. Assumes nothing.
+use borrow.Author.Needs.{needs}
+use mathlib.Core.Path.{refl}
+use Rattle.driving.specs.Driving.{nextSeed}
+use Rattle.driving.proofs.next_seed.Statement.{statement}
+use Rattle.driving.proofs.next_seed.Tie as tie
+
+returns : tie.Need-returns
+unfolding nextSeed
+returns c = refl
+
+pub next-seed-spec : {M : Type 1} → statement M
+next-seed-spec =
+    tie.close
+    (tie.spec
+    (λ c. search needs)
+    (λ c. search needs)
+    returns)

@@ -1,0 +1,188 @@
+// A module driven by events through the halves of clock cycles: an instant, and then the plain run, or choices drawn by a seed until
+// nothing is left to choose. Each function equals its definition in specs/.
+use events::Inputs;
+use events::Verdict;
+use options::Way;
+use state::State;
+ghost use mathlib.Core.Path.{_≡_};
+ghost use Rattle.driving.specs.Driving.{left, isQuiet, plainly, nextSeed, drawnChoice, draw, drawn, seedOf, toRest, begun, inputsOf};
+ghost use Rattle.driving.specs.Driving.{byEvents};
+
+// A state, and how it is run: by which way, the number that refused a call, whether it came to rest, and the generator's next seed.
+pub struct Rest {
+    pub way: Way,
+    pub number: u8,
+    pub rested: bool,
+    pub state: State,
+    pub seed: u64,
+}
+
+// A cycle's inputs, the clock's slot in front.
+pub struct Row {
+    pub value: [u32; 16],
+    pub unknown: [bool; 16],
+}
+
+// The same way on: what a call has left.
+pub fn left(r: Rest, number: u8, rested: bool, state: State) -> Rest
+    ensures { λ e. ⌜ e ≡ left r number rested state ⌝ }
+{
+    let way = r.way;
+    Rest {
+        way,
+        number,
+        rested,
+        state,
+        seed: r.seed,
+    }
+}
+
+// ---- to rest
+
+// Did the plain run end quiet?
+fn is_quiet(v: Verdict) -> bool
+    ensures { λ r. ⌜ r ≡ isQuiet v ⌝ }
+{
+    match v {
+        Verdict::Quiet => true,
+        Verdict::Spent => false,
+        Verdict::Stopped(_) => false,
+        Verdict::Refused(_) => false,
+    }
+}
+
+// The plain run.
+fn plainly(sheet: &[u8], r: Rest) -> Rest
+    ensures { λ e. ⌜ e ≡ plainly (now (sheet .entry)) r ⌝ }
+{
+    let st = r.state;
+    let p = simulator::run_plain(sheet, st, 65535);
+    let v = p.verdict;
+    let after = p.state;
+    left(r, 0, is_quiet(v), after)
+}
+
+// The generator's next seed.
+fn next_seed(seed: u64) -> u64
+    ensures { λ r. ⌜ r ≡ nextSeed seed ⌝ }
+{
+    (seed % 4294967296 * 1664525 + 1013904223) % 4294967296
+}
+
+// A choice among the items and the commit.
+fn drawn_choice(seed: u64, items: u64) -> u8
+    ensures { λ r. ⌜ r ≡ drawnChoice seed items ⌝ }
+{
+    let n = items % 64;
+    let k = seed / 65536 % (n + 1);
+    if k < n {
+        return k as u8;
+    }
+    255
+}
+
+// A choice that is drawn. A commit that is refused with 35 says that nothing is enabled and nothing pending; a refused choice changes
+// nothing.
+fn draw(sheet: &[u8], items: u64, r: Rest) -> Rest
+    ensures { λ e. ⌜ e ≡ draw (now (sheet .entry)) items r ⌝ }
+{
+    let st = r.state;
+    let seed = next_seed(r.seed);
+    let c = simulator::choose(sheet, st, drawn_choice(seed, items));
+    let state = c.state;
+    let way = r.way;
+    Rest {
+        way,
+        number: 0,
+        rested: c.number == 35,
+        state,
+        seed,
+    }
+}
+
+// Choices until there is none, at most 4,000,000.
+fn by_draw(sheet: &[u8], items: u64, r: Rest) -> Rest
+    ensures { λ e. ⌜ e ≡ drawn (now (sheet .entry)) items 4000000 r ⌝ }
+{
+    let mut e = r;
+    let mut turns: usize = 4000000;
+    while turns > 0 {
+        if e.rested {
+            return e;
+        }
+        e = draw(sheet, items, e);
+        turns -= 1;
+    }
+    e
+}
+
+// A run to rest.
+fn to_rest(sheet: &[u8], items: u64, r: Rest) -> Rest
+    ensures { λ e. ⌜ e ≡ toRest (now (sheet .entry)) items r ⌝ }
+{
+    let way = r.way;
+    match way {
+        Way::Drawn(_) => by_draw(sheet, items, r),
+        Way::Plain => plainly(sheet, r),
+        Way::Expressed => plainly(sheet, r),
+    }
+}
+
+// ---- halves of cycles
+
+// The seed that choices are drawn by.
+fn seed_of(way: Way) -> u64
+    ensures { λ r. ⌜ r ≡ seedOf way ⌝ }
+{
+    match way {
+        Way::Plain => 0,
+        Way::Drawn(seed) => seed as u64,
+        Way::Expressed => 0,
+    }
+}
+
+// The state at the start, at rest.
+pub fn begin(sheet: &[u8], items: u64, way: Way) -> Rest
+    ensures { λ e. ⌜ e ≡ begun (now (sheet .entry)) items way ⌝ }
+{
+    let c = simulator::start(sheet);
+    let state = c.state;
+    let seed = seed_of(way);
+    let r = Rest {
+        way,
+        number: 0,
+        rested: false,
+        state,
+        seed,
+    };
+    to_rest(sheet, items, r)
+}
+
+// The inputs of an instant: a row, and the clock.
+fn inputs_of(count: u8, clock: u32, row: Row) -> Inputs
+    ensures { λ a. ⌜ a ≡ inputsOf count clock row ⌝ }
+{
+    let mut value = row.value;
+    value[0] = clock;
+    let unknown = row.unknown;
+    Inputs {
+        count,
+        value,
+        unknown,
+    }
+}
+
+// An instant of a row, and the run after it.
+pub fn by_events(sheet: &[u8], items: u64, before: Rest, count: u8, clock: u32, row: Row) -> Rest
+    ensures { λ e. ⌜ e ≡ byEvents (now (sheet .entry)) items before count clock row ⌝ }
+{
+    let st = before.state;
+    let c = simulator::instant(sheet, st, inputs_of(count, clock, row));
+    let state = c.state;
+    let number = c.number;
+    let r = left(before, number, false, state);
+    if number != 0 {
+        return r;
+    }
+    to_rest(sheet, items, r)
+}
