@@ -41,6 +41,10 @@ pub then-yes : (a : Put) (bs : List ℕ) (f : Step) → a .ok ≡ true → andTh
 unfolding andThen
 then-yes a bs f e = rw e refl
 
+pub then-refused : (w : Wrote) (f : Step) → w .put .ok ≡ false → andThen w f ≡ refused (w .put .next) (w .put .pos) (w .bytes)
+unfolding andThen
+then-refused w f e = rw e refl
+
 pub passed-is : (a : Put) (bs : List ℕ) → a .ok ≡ true → wrote a bs ≡ passed (a .next) (a .pos) bs
 passed-is a bs e = ap (λ t. wrote (answer t (a .next) (a .pos)) bs) e
 
