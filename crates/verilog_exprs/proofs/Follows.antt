@@ -1,14 +1,12 @@
 -- Laws of following: a reader of the table behind another, as the grammar's readers are bound.
 -- Assumes nothing.
-use mathlib.Core.Path.{_≡_, refl, sym, ap, _∙_, subst}
-use mathlib.Core.Bool.{Bool, true, false, _&&_}
+use mathlib.Core.Path.{_≡_, refl, sym, ap, _∙_}
+use mathlib.Core.Bool.{Bool, true, false}
 use mathlib.Core.List.{List, [], _∷_, _++_, map}
 use Prim.Native.Nat.{ℕ, zero, suc, _+_, _≤_, _<_}
-use native.Mathlib.Numerals.{add-one}
-use native.Mathlib.Nat.{suc-add}
 use native.Mathlib.Omega.{arith}
-use lib.Dec.{ltb, eqb}
-use lib.ListN.{length, drop, getD, length-append}
+use lib.Dec.{eqb}
+use lib.ListN.{length, drop, getD}
 use lib.Seq.{drop-drop}
 use borrow.Author.Tests.{lt-ltb}
 use Rattle.values.specs.Values.{pick}
@@ -17,10 +15,10 @@ use Rattle.verilog_tokens.specs.Table.{kindOf, numberIn}
 use Rattle.verilog_grammar.specs.Reader.{Res, ok, no, Reader, bind, give, starts, ifNext, expect}
 use Rattle.verilog_bytes.specs.Held.{Held}
 use Rattle.verilog_exprs.specs.declared.Put.{Put}
-use Rattle.verilog_exprs.specs.Rows.{rowAt, answer, Wrote, wrote, Step, passed, refused, andThen, isAt, expected}
-use Rattle.verilog_exprs.specs.Following.{Tabled, From, Passed, Stopped, Follows}
+use Rattle.verilog_exprs.specs.Rows.{rowAt, Wrote, wrote, Step, refused, andThen, isAt, expected}
+use Rattle.verilog_exprs.specs.Following.{Tabled, From, Follows}
 use Rattle.verilog_exprs.proofs.Table.{row-in, then-yes, then-refused, expected-no}
-use Rattle.verilog_exprs.proofs.Marks.{Numbered, mark-is, starts-is, kindFront}
+use Rattle.verilog_exprs.proofs.Marks.{Numbered, starts-is, kindFront}
 
 -- ---- places
 
@@ -94,7 +92,8 @@ module _ (ts : List Token) where
   -- One reader behind another.
   pub bind-follows : {A B : Type 0} (l m : List ℕ) (bytesA : A → List ℕ) (bytesB : B → List ℕ) (w : Wrote) (r : Res A) (g : Step)
       (f : A → Reader B) → Follows ts l bytesA w r
-      → ((a : A) (us : List Token) (j q : ℕ) (cs : List ℕ) → From ts j us → Held cs q (l ++ bytesA a) → Follows ts m bytesB (g j q cs) (f a us))
+      → ((a : A) (us : List Token) (j q : ℕ) (cs : List ℕ) → From ts j us → Held cs q (l ++ bytesA a) → Follows ts m bytesB (g j q cs)
+      (f a us))
       → Follows ts m bytesB (andThen w g) (bind r f)
   unfolding Follows
   bind-follows l m bytesA bytesB w (ok a us) g f h k =
@@ -120,7 +119,8 @@ module _ (index : List ℕ → ℕ) (ts : List Token) (kinds numbers : List ℕ)
     (mark : Numbered s k) (one : 1 ≤ k) where
   -- Which of two readers, by the mark in front.
   pub next-follows : {B : Type 0} (m : List ℕ) (bytesB : B → List ℕ) (x y : Step) (a b : Reader B) (i p : ℕ) (bs : List ℕ) (us : List Token)
-      → From ts i us → (starts s us ≡ true → Follows ts m bytesB (x i p bs) (a us)) → (starts s us ≡ false → Follows ts m bytesB (y i p bs) (b us))
+      → From ts i us → (starts s us ≡ true → Follows ts m bytesB (x i p bs) (a us)) →
+      (starts s us ≡ false → Follows ts m bytesB (y i p bs) (b us))
       → Follows ts m bytesB (pick (eqb (rowAt kinds i) k) x y i p bs) (ifNext s a b us)
   unfolding ifNext
   next-follows m bytesB x y a b i p bs us f g h = rw (mark-at index ts kinds numbers tab s k mark one i us f) (by (starts s us) g h)
@@ -139,7 +139,8 @@ module _ (index : List ℕ → ℕ) (ts : List Token) (kinds numbers : List ℕ)
       by : (vs : List Token) → From ts (a .next) vs → (b : Bool) → starts s vs ≡ b
           → Follows ts m bytesB (wrote (expected kinds k a) cs) (bind (expect s vs) (λ u. give y))
       by vs g false q =
-          rw (expect-other s vs q, e, mark-raw index ts kinds numbers tab s k mark one (a .next) vs g, q) (record { not = refl; at = g .count })
+          rw (expect-other s vs q, e, mark-raw index ts kinds numbers tab s k mark one (a .next) vs g, q)
+          (record { not = refl; at = g .count })
       by [] g true q = absurd (starts-none s q)
       by (t ∷ vs) g true q =
           rw (expect-first s t vs q, e, mark-raw index ts kinds numbers tab s k mark one (a .next) (t ∷ vs) g, q)

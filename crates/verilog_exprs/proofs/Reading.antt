@@ -5,7 +5,7 @@ use mathlib.Core.Path.{_≡_, refl, sym, ap, _∙_, subst, fun-ext}
 use mathlib.Core.Bool.{Bool, true, false}
 use mathlib.Core.List.{List, [], _∷_, _++_, append-assoc}
 use mathlib.Core.Option.{Option, none as nothing, some as just}
-use Prim.Native.Nat.{ℕ, zero, suc, _+_, _%_, _≤_, _<_}
+use Prim.Native.Nat.{ℕ, zero, suc, _+_, _%_, _<_}
 use native.Mathlib.Nat.{mod-eq-of-lt}
 use native.Mathlib.Omega.{arith}
 use lib.Dec.{leb, eqb}
@@ -13,28 +13,33 @@ use lib.ListN.{length}
 use borrow.Author.Tests.{ne-eqb}
 use Rattle.values.specs.Values.{pick}
 use Rattle.writing.specs.Ascii.{ascii}
-use Rattle.writing.specs.Buffer.{Text, filled, puts}
-use Rattle.sheet.specs.Expression.{Expr}
 use Rattle.encoding.specs.Encoding.{encodeExpr}
 use Rattle.verilog_tokens.specs.Tokens.{Token, terminal, name, number, known, unknown, broken}
-use Rattle.verilog_tokens.specs.Table.{numberFrom, terminals, kindOf, upTo255, numberIn}
-use Rattle.verilog_grammar.specs.AnnexA.{Unary, negation, complement, Binary, plus, minus, equals, less, conjunction, disjunction, exclusive, unarySign, binarySign, Number, sized, sizedX, Expression, Primary, only, prefixed, joined, chosen, identified, numbered, bracketed}
+use Rattle.verilog_tokens.specs.Table.{kindOf, upTo255, numberIn}
+use Rattle.verilog_grammar.specs.AnnexA.{Unary, negation, complement, Binary, plus, minus, equals, less, conjunction, disjunction}
+use Rattle.verilog_grammar.specs.AnnexA.{exclusive, unarySign, binarySign, Number, Expression, Primary, only, prefixed, joined, chosen}
+use Rattle.verilog_grammar.specs.AnnexA.{numbered, bracketed}
 use Rattle.verilog_grammar.specs.Conditions.{precedence}
 use Rattle.verilog_grammar.specs.Meaning.{upTo, cut, numberExpr, unaryNumber, binaryNumber, exprOf, primaryOf}
-use Rattle.verilog_grammar.specs.Reader.{Res, ok, no, Reader, bind, give, refuse, starts, ifNext, expect, isName, ident, size, valued, identifier, constant, brackets, atom, primary, prefix, plain, operand, operator, join, turn, climb, choice, arms, start, reader, expression}
+use Rattle.verilog_grammar.specs.Reader.{no, Reader, bind, give, refuse, starts, ifNext, isName, ident, size, valued, identifier}
+use Rattle.verilog_grammar.specs.Reader.{constant, brackets, atom, primary, prefix, plain, operand, operator, join, turn, climb, choice}
+use Rattle.verilog_grammar.specs.Reader.{arms, start, reader, expression}
 use Rattle.verilog_grammar.proofs.Operators.{precedence-from}
-use Rattle.verilog_bytes.specs.Turning.{fronted}
 use Rattle.verilog_bytes.specs.Held.{placeOf, Held}
 use Rattle.verilog_bytes.proofs.Held.{held-puts, held-fronted}
-use Rattle.verilog_exprs.specs.Rows.{rowAt, Wrote, wrote, Step, passed, refused, written, andThen, expected}
+use Rattle.verilog_exprs.specs.Rows.{rowAt, Step, passed}
 use Rattle.verilog_exprs.specs.Constants.{constantBytes}
-use Rattle.verilog_exprs.specs.Exprs.{precedenceOf, operatorOf, binds, valueAt, atomAt, bracketsAt, primaryAt, prefixAt, operandAt, joinAt, climbAt, choiceAt, armsAt, exprAt}
-use Rattle.verilog_exprs.specs.Following.{Tabled, byteOf, From, Passed, Stopped, Follows}
+use Rattle.verilog_exprs.specs.Exprs.{precedenceOf, operatorOf, binds, valueAt, atomAt, bracketsAt, primaryAt, prefixAt, operandAt}
+use Rattle.verilog_exprs.specs.Exprs.{joinAt, climbAt, choiceAt, armsAt, exprAt}
+use Rattle.verilog_exprs.specs.Following.{Tabled, byteOf, From, Follows}
 use Rattle.verilog_exprs.specs.Claims.{bytesOf, LevelsFollow, ExpressionsFollow}
 use Rattle.verilog_exprs.proofs.Values.{width-capped, cut-width, cut-remainder}
 use Rattle.verilog_exprs.proofs.Exprs.{value-known, value-unknown, value-none, atom-name, atom-size, atom-none}
-use Rattle.verilog_exprs.proofs.Marks.{terminal-other, kindFront, starts-is, open-mark, close-mark, colon-mark, query-mark, tilde-mark, bang-mark, plus-mark, minus-mark, less-mark, equals-mark, and-mark, caret-mark, bar-mark}
-use Rattle.verilog_exprs.proofs.Follows.{from-next, kind-is, number-is, starts-none, expect-first, bind-follows, map-follows, refused-follows, next-follows, closed-follows, rebind}
+use Rattle.verilog_exprs.proofs.Marks.{terminal-other, kindFront, starts-is, open-mark, close-mark, colon-mark, query-mark}
+use Rattle.verilog_exprs.proofs.Marks.{tilde-mark, bang-mark, plus-mark, minus-mark, less-mark, equals-mark, and-mark, caret-mark}
+use Rattle.verilog_exprs.proofs.Marks.{bar-mark}
+use Rattle.verilog_exprs.proofs.Follows.{from-next, kind-is, number-is, starts-none, expect-first, bind-follows, map-follows}
+use Rattle.verilog_exprs.proofs.Follows.{refused-follows, next-follows, closed-follows, rebind}
 
 -- ---- operators: the sign in front, by the reader and by its kind
 
@@ -107,7 +112,8 @@ module _ (index : List ℕ → ℕ) (ts : List Token) (kinds numbers : List ℕ)
       value-refused (upTo 32 w) i p bs l (number false n ∷ us) f (λ e. omega arith) (λ e. omega arith)
   value-follows w i p bs l (known v ∷ us) f h =
       let cuts : cut (upTo 32 w) (v % 4294967296) ≡ cut w v = cut-width w (v % 4294967296) ∙ cut-remainder w v in
-      rw (← value-known kinds numbers 67 i p bs (sym (kind-is index ts kinds numbers tab i (known v ∷ us) f)) (upTo 32 w) (v % 4294967296) _ refl
+      rw (← value-known kinds numbers 67 i p bs (sym (kind-is index ts kinds numbers tab i (known v ∷ us) f)) (upTo 32 w)
+      (v % 4294967296) _ refl
       (sym (number-is index ts kinds numbers tab i (known v) us f)) refl)
       (record { yes = refl; to = from-next ts i (known v) us f; holds = rw cuts (held-puts _ h) })
   value-follows w i p bs l (unknown ∷ us) f h =
@@ -127,7 +133,8 @@ module _ (index : List ℕ → ℕ) (ts : List Token) (kinds numbers : List ℕ)
   unfolding atom isName identifier ident constant size kindFront kindOf numberIn Follows primaryOf encodeExpr byteOf
   atom-follows i p bs l [] f h = atom-refused i p bs l [] f (λ e. omega arith) (λ e. omega arith)
   atom-follows i p bs l (terminal s ∷ us) f h =
-      atom-refused i p bs l (terminal s ∷ us) f (terminal-other s 64 (omega arith) (omega arith)) (terminal-other s 65 (omega arith) (omega arith))
+      atom-refused i p bs l (terminal s ∷ us) f (terminal-other s 64 (omega arith) (omega arith))
+      (terminal-other s 65 (omega arith) (omega arith))
   atom-follows i p bs l (name n ∷ us) f h =
       rw (← atom-name kinds numbers 64 i p bs (sym (kind-is index ts kinds numbers tab i (name n ∷ us) f)) (index (n .spelled)) _
       (sym (number-is index ts kinds numbers tab i (name n) us f)) refl refl)
@@ -146,7 +153,8 @@ module _ (index : List ℕ → ℕ) (ts : List Token) (kinds numbers : List ℕ)
   -- ---- over readers of an expression of each level that follow each other
 
   module _ (inner : ℕ → Step) (expr : ℕ → Reader Expression)
-      (follow : (k i p : ℕ) (bs l : List ℕ) (us : List Token) → From ts i us → Held bs p l → Follows ts l bytesOfExpression (inner k i p bs) (expr k us))
+      (follow : (k i p : ℕ) (bs l : List ℕ) (us : List Token) → From ts i us → Held bs p l → Follows ts l bytesOfExpression
+      (inner k i p bs) (expr k us))
     where
       -- ---- brackets
 
@@ -156,7 +164,8 @@ module _ (index : List ℕ → ℕ) (ts : List Token) (kinds numbers : List ℕ)
       brackets-follow i p bs l [] f h q = absurd (starts-none (ascii "(") q)
       brackets-follow i p bs l (t ∷ us) f h q =
           rw (expect-first (ascii "(") t us q)
-          (closed-follows index ts kinds numbers tab (ascii ")") 21 close-mark (omega arith) l l bytesOfExpression bytesOfPrimary _ (expr 1 us) bracketed
+          (closed-follows index ts kinds numbers tab (ascii ")") 21 close-mark (omega arith) l l bytesOfExpression bytesOfPrimary _
+          (expr 1 us) bracketed
           (follow 1 (i + 1) p bs l us (from-next ts i t us f) h) (λ e. refl))
 
       primary-follows : (i p : ℕ) (bs l : List ℕ) (us : List Token) → From ts i us → Held bs p l
@@ -188,15 +197,18 @@ module _ (index : List ℕ → ℕ) (ts : List Token) (kinds numbers : List ℕ)
           → Follows ts l bytesOfExpression (operandAt kinds numbers inner i p bs) (operand (expr 1) us)
       unfolding operand operandAt unarySign unaryNumber
       operand-follows i p bs l us f h =
-          next-follows index ts kinds numbers tab (ascii "~") 33 tilde-mark (omega arith) l bytesOfExpression (prefixAt kinds numbers inner 1) _
+          next-follows index ts kinds numbers tab (ascii "~") 33 tilde-mark (omega arith) l bytesOfExpression
+          (prefixAt kinds numbers inner 1) _
           (prefix complement (expr 1)) _ i p bs us f (prefix-follows complement i p bs l us f h)
-          (λ q. next-follows index ts kinds numbers tab (ascii "!") 34 bang-mark (omega arith) l bytesOfExpression (prefixAt kinds numbers inner 2)
+          (λ q. next-follows index ts kinds numbers tab (ascii "!") 34 bang-mark (omega arith) l bytesOfExpression
+          (prefixAt kinds numbers inner 2)
           (primaryAt kinds numbers inner) (prefix negation (expr 1)) (plain (expr 1)) i p bs us f (prefix-follows negation i p bs l us f h)
           (λ r. plain-follows i p bs l us f h))
 
       -- ---- binary operators; `again` reads what follows
 
-      join-follows : (o : Binary) (again : Step) (more : Expression → Reader Expression) (from : ℕ) (e : Expression) (i p : ℕ) (bs l : List ℕ)
+      join-follows : (o : Binary) (again : Step) (more : Expression → Reader Expression) (from : ℕ) (e : Expression) (i p : ℕ)
+          (bs l : List ℕ)
           (us : List Token) → from ≡ placeOf l → From ts i us → Held bs p (l ++ bytesOfExpression e)
           → Agrees us (just o) (precedenceOf (kindFront us)) (operatorOf (kindFront us))
           → ((x : Expression) (j q : ℕ) (cs : List ℕ) (vs : List Token) → From ts j vs → Held cs q (l ++ bytesOfExpression x)
@@ -208,7 +220,8 @@ module _ (index : List ℕ → ℕ) (ts : List Token) (kinds numbers : List ℕ)
           let x : List ℕ = 0x31 ∷ binaryNumber o ∷ [] in
           let front : List ℕ = x ++ bytesOfExpression e in
           rw (kind-is index ts kinds numbers tab i (t ∷ us) f, a .0, a .1, expect-first (binarySign o) t us (a .2))
-          (bind-follows ts (l ++ front) l bytesOfExpression bytesOfExpression _ (expr (precedence o + 1) us) again (λ r. more (joined e o r))
+          (bind-follows ts (l ++ front) l bytesOfExpression bytesOfExpression _ (expr (precedence o + 1) us) again
+          (λ r. more (joined e o r))
           (follow (precedence o + 1) (i + 1) _ _ (l ++ front) us (from-next ts i t us f) (held-fronted from l (bytesOfExpression e) x w h))
           (λ r vs j q cs g m. k (joined e o r) j q cs vs g (rw (append-assoc l front (bytesOfExpression r)) at m)))
 
@@ -230,12 +243,14 @@ module _ (index : List ℕ → ℕ) (ts : List Token) (kinds numbers : List ℕ)
           by false = record { yes = refl; to = f; holds = h }
 
       climb-follows : (g k from : ℕ) (e : Expression) (i p : ℕ) (bs l : List ℕ) (us : List Token) → from ≡ placeOf l → From ts i us
-          → Held bs p (l ++ bytesOfExpression e) → Follows ts l bytesOfExpression (climbAt kinds numbers inner g k from i p bs) (climb expr g k e us)
+          → Held bs p (l ++ bytesOfExpression e) → Follows ts l bytesOfExpression (climbAt kinds numbers inner g k from i p bs)
+          (climb expr g k e us)
       unfolding climb climbAt refuse
       climb-follows zero k from e i p bs l us w f h = refused-follows ts l bytesOfExpression i p bs us f
       climb-follows (suc g) k from e i p bs l us w f h =
           rw (kind-is index ts kinds numbers tab i us f)
-          (turn-follows (operator us) (climbAt kinds numbers inner g k from) (climb expr g k) k from e i p bs l us w f h (operator-agrees us)
+          (turn-follows (operator us) (climbAt kinds numbers inner g k from) (climb expr g k) k from e i p bs l us w f h
+          (operator-agrees us)
           (λ x j q cs vs c m. climb-follows g k from x j q cs l vs w c m))
 
       -- ---- the arms of ?:
@@ -248,18 +263,22 @@ module _ (index : List ℕ → ℕ) (ts : List Token) (kinds numbers : List ℕ)
       choice-follows from c i p bs l (t ∷ us) w f h q =
           let x : List ℕ = 0x71 ∷ 10 ∷ [] in
           let front : List ℕ = x ++ bytesOfExpression c in
-          let arm = closed-follows index ts kinds numbers tab (ascii ":") 24 colon-mark (omega arith) (l ++ front) (l ++ front) bytesOfExpression
+          let arm = closed-follows index ts kinds numbers tab (ascii ":") 24 colon-mark (omega arith) (l ++ front)
+          (l ++ front) bytesOfExpression
           bytesOfExpression _ (expr 1 us) (λ a. a)
           (follow 1 (i + 1) _ _ (l ++ front) us (from-next ts i t us f) (held-fronted from l (bytesOfExpression c) x w h)) (λ a. refl) in
           rw (expect-first (ascii "?") t us q, ← rebind (expr 1 us) (ascii ":") (λ a vs. bind (expr 1 vs) (λ b. give (chosen c a b))))
-          (bind-follows ts (l ++ front) l bytesOfExpression bytesOfExpression _ _ (inner 1) (λ a vs. bind (expr 1 vs) (λ b. give (chosen c a b))) arm
-          (λ a vs j r cs g m. map-follows ts ((l ++ front) ++ bytesOfExpression a) l bytesOfExpression bytesOfExpression _ (expr 1 vs) (chosen c a)
+          (bind-follows ts (l ++ front) l bytesOfExpression bytesOfExpression _ _ (inner 1)
+          (λ a vs. bind (expr 1 vs) (λ b. give (chosen c a b))) arm
+          (λ a vs j r cs g m. map-follows ts ((l ++ front) ++ bytesOfExpression a) l bytesOfExpression bytesOfExpression _ (expr 1 vs)
+          (chosen c a)
           (follow 1 j r cs ((l ++ front) ++ bytesOfExpression a) vs g m)
           (λ b. ap (λ z. z ++ bytesOfExpression b) (append-assoc l front (bytesOfExpression a))
           ∙ append-assoc l (front ++ bytesOfExpression a) (bytesOfExpression b))))
 
       arms-follow : (k from : ℕ) (c : Expression) (i p : ℕ) (bs l : List ℕ) (us : List Token) → from ≡ placeOf l → From ts i us
-          → Held bs p (l ++ bytesOfExpression c) → Follows ts l bytesOfExpression (armsAt kinds numbers inner k from i p bs) (arms (expr 1) k c us)
+          → Held bs p (l ++ bytesOfExpression c) → Follows ts l bytesOfExpression (armsAt kinds numbers inner k from i p bs)
+          (arms (expr 1) k c us)
       unfolding arms armsAt Follows
       arms-follow k from c i p bs l us w f h = by (leb k 1)
         where
@@ -270,7 +289,8 @@ module _ (index : List ℕ → ℕ) (ts : List Token) (kinds numbers : List ℕ)
               (pick a (pick (eqb (rowAt kinds i) 32) (choiceAt kinds numbers inner from) passed) passed i p bs)
               (pick a (ifNext (ascii "?") (choice (expr 1) c) (give c)) (give c) us)
           by true =
-              next-follows index ts kinds numbers tab (ascii "?") 32 query-mark (omega arith) l bytesOfExpression (choiceAt kinds numbers inner from) passed
+              next-follows index ts kinds numbers tab (ascii "?") 32 query-mark (omega arith) l bytesOfExpression
+              (choiceAt kinds numbers inner from) passed
               (choice (expr 1) c) (give c) i p bs us f (choice-follows from c i p bs l us w f h) (λ q. stays)
           by false = stays
 

@@ -1,5 +1,4 @@
 -- What is claimed of the expressions' code beside its contracts. `proofs/Reading.antt` shows it.
-use mathlib.Core.Path.{_≡_}
 use mathlib.Core.List.{List}
 use Prim.Native.Nat.{ℕ, _<_}
 use lib.ListN.{length}
