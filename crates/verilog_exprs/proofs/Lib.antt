@@ -4,3 +4,4 @@ pub mod Exprs
 pub mod Marks
 pub mod Follows
 pub mod Reading
+pub mod Samples
