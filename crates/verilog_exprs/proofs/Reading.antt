@@ -89,12 +89,20 @@ module _ (index : List ℕ → ℕ) (ts : List Token) (kinds numbers : List ℕ)
   abbrev bytesOfExpression : Expression → List ℕ
   bytesOfExpression e = bytesOf (byteOf index) e
 
+  -- ---- the table's rows
+
+  kind-at : (i : ℕ) (us : List Token) → From ts i us → kindFront us ≡ rowAt kinds i
+  kind-at i us f = sym (kind-is index ts kinds numbers tab i us f)
+
+  number-at : (i : ℕ) (t : Token) (us : List Token) → From ts i (t ∷ us) → numberIn index t ≡ rowAt numbers i
+  number-at i t us f = sym (number-is index ts kinds numbers tab i t us f)
+
   -- ---- primaries
 
   value-refused : (w i p : ℕ) (bs l : List ℕ) (us : List Token) → From ts i us → (kindFront us ≡ 67 → ⊥) → (kindFront us ≡ 68 → ⊥)
       → Follows ts l bytesOfNumber (valueAt kinds numbers w i p bs) (no (length us))
   value-refused w i p bs l us f a b =
-      rw (← value-none kinds numbers (kindFront us) i p bs (sym (kind-is index ts kinds numbers tab i us f)) w a b)
+      rw (← value-none kinds numbers (kindFront us) i p bs (kind-at i us f) w a b)
       (refused-follows ts l bytesOfNumber i p bs us f)
 
   value-follows : (w i p : ℕ) (bs l : List ℕ) (us : List Token) → From ts i us → Held bs p l
@@ -112,12 +120,12 @@ module _ (index : List ℕ → ℕ) (ts : List Token) (kinds numbers : List ℕ)
       value-refused (upTo 32 w) i p bs l (number false n ∷ us) f (λ e. omega arith) (λ e. omega arith)
   value-follows w i p bs l (known v ∷ us) f h =
       let cuts : cut (upTo 32 w) (v % 4294967296) ≡ cut w v = cut-width w (v % 4294967296) ∙ cut-remainder w v in
-      rw (← value-known kinds numbers 67 i p bs (sym (kind-is index ts kinds numbers tab i (known v ∷ us) f)) (upTo 32 w)
+      rw (← value-known kinds numbers 67 i p bs (kind-at i (known v ∷ us) f) (upTo 32 w)
       (v % 4294967296) _ refl
-      (sym (number-is index ts kinds numbers tab i (known v) us f)) refl)
+      (number-at i (known v) us f) refl)
       (record { yes = refl; to = from-next ts i (known v) us f; holds = rw cuts (held-puts _ h) })
   value-follows w i p bs l (unknown ∷ us) f h =
-      rw (← value-unknown kinds numbers 68 i p bs (sym (kind-is index ts kinds numbers tab i (unknown ∷ us) f)) (upTo 32 w) _ refl refl)
+      rw (← value-unknown kinds numbers 68 i p bs (kind-at i (unknown ∷ us) f) (upTo 32 w) _ refl refl)
       (record { yes = refl; to = from-next ts i unknown us f; holds = held-puts _ h })
   value-follows w i p bs l (broken ∷ us) f h =
       value-refused (upTo 32 w) i p bs l (broken ∷ us) f (λ e. omega arith) (λ e. omega arith)
@@ -125,7 +133,7 @@ module _ (index : List ℕ → ℕ) (ts : List Token) (kinds numbers : List ℕ)
   atom-refused : (i p : ℕ) (bs l : List ℕ) (us : List Token) → From ts i us → (kindFront us ≡ 64 → ⊥) → (kindFront us ≡ 65 → ⊥)
       → Follows ts l bytesOfPrimary (atomAt kinds numbers i p bs) (no (length us))
   atom-refused i p bs l us f a b =
-      rw (← atom-none kinds numbers (kindFront us) i p bs (sym (kind-is index ts kinds numbers tab i us f)) a b)
+      rw (← atom-none kinds numbers (kindFront us) i p bs (kind-at i us f) a b)
       (refused-follows ts l bytesOfPrimary i p bs us f)
 
   atom-follows : (i p : ℕ) (bs l : List ℕ) (us : List Token) → From ts i us → Held bs p l
@@ -136,12 +144,12 @@ module _ (index : List ℕ → ℕ) (ts : List Token) (kinds numbers : List ℕ)
       atom-refused i p bs l (terminal s ∷ us) f (terminal-other s 64 (omega arith) (omega arith))
       (terminal-other s 65 (omega arith) (omega arith))
   atom-follows i p bs l (name n ∷ us) f h =
-      rw (← atom-name kinds numbers 64 i p bs (sym (kind-is index ts kinds numbers tab i (name n ∷ us) f)) (index (n .spelled)) _
-      (sym (number-is index ts kinds numbers tab i (name n) us f)) refl refl)
+      rw (← atom-name kinds numbers 64 i p bs (kind-at i (name n ∷ us) f) (index (n .spelled)) _
+      (number-at i (name n) us f) refl refl)
       (record { yes = refl; to = from-next ts i (name n) us f; holds = held-puts _ h })
   atom-follows i p bs l (number true w ∷ us) f h =
-      rw (← atom-size kinds numbers 65 i p bs (sym (kind-is index ts kinds numbers tab i (number true w ∷ us) f)) (upTo255 w) (upTo 32 w)
-      (sym (number-is index ts kinds numbers tab i (number true w) us f)) refl (sym (width-capped w)))
+      rw (← atom-size kinds numbers 65 i p bs (kind-at i (number true w ∷ us) f) (upTo255 w) (upTo 32 w)
+      (number-at i (number true w) us f) refl (sym (width-capped w)))
       (map-follows ts l l bytesOfNumber bytesOfPrimary _ (valued w us) numbered
       (value-follows w (i + 1) p bs l us (from-next ts i (number true w) us f) h) (λ n. refl))
   atom-follows i p bs l (number false n ∷ us) f h =
