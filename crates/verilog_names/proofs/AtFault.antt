@@ -104,7 +104,7 @@ module _ (ids : List ℕ) where
   missing-append ms [] ys = refl
   missing-append ms (t ∷ xs) ys =
       ap (λ l. pick (isAmong ids ms (getD ids t 0)) [] (t ∷ []) ++ l) (missing-append ms xs ys)
-          ∙ sym (append-assoc (pick (isAmong ids ms (getD ids t 0)) [] (t ∷ [])) (missing ids xs ms) (missing ids ys ms))
+      ∙ sym (append-assoc (pick (isAmong ids ms (getD ids t 0)) [] (t ∷ [])) (missing ids xs ms) (missing ids ys ms))
 
   -- The tokens before and behind are named alike.
   pub repeated-same : (seen others ts : List ℕ) → ((x : ℕ) → isAmong ids seen x ≡ isAmong ids others x)
@@ -116,6 +116,7 @@ module _ (ids : List ℕ) where
     where
       same : (x : ℕ) → isAmong ids (t ∷ seen) x ≡ isAmong ids (t ∷ others) x
       same x = rw (e x)
+
       ap2 : {a b : Bool} {l m : List ℕ} → a ≡ b → l ≡ m → pick a (t ∷ []) [] ++ l ≡ pick b (t ∷ []) [] ++ m
       ap2 p q = cc
 
@@ -154,7 +155,7 @@ module _ (ids : List ℕ) where
 
     pub missing-step : (ms : List ℕ) (n i best : ℕ) → i < n
         → lower (lower best (nearest places (missing ids (here test i) ms)))
-            (nearest places (missing ids (chosen test (n - (i + 1)) (i + 1)) ms))
+        (nearest places (missing ids (chosen test (n - (i + 1)) (i + 1)) ms))
         ≡ lower best (nearest places (missing ids (chosen test (n - i) i) ms))
     missing-step ms n i best h = rw (chosen-step test n i h, missing-append, nearest-append, lower-assoc)
 
@@ -171,19 +172,22 @@ module _ (ids : List ℕ) where
 
     pub repeated-step : (n i best : ℕ) → i < n
         → lower (lower best (nearest places (repeated ids (chosen test i 0) (here test i))))
-            (nearest places (repeated ids (chosen test (i + 1) 0) (chosen test (n - (i + 1)) (i + 1))))
+        (nearest places (repeated ids (chosen test (i + 1) 0) (chosen test (n - (i + 1)) (i + 1))))
         ≡ lower best (nearest places (repeated ids (chosen test i 0) (chosen test (n - i) i)))
     unfolding repeated nearest isAmong
     repeated-step n i best h = by (test i) refl
       where
         rest : List ℕ
         rest = chosen test (n - (i + 1)) (i + 1)
+
         seen : List ℕ
         seen = chosen test i 0
+
         Goal : Type 0
         Goal = lower (lower best (nearest places (repeated ids (chosen test i 0) (here test i))))
             (nearest places (repeated ids (chosen test (i + 1) 0) (chosen test (n - (i + 1)) (i + 1))))
             ≡ lower best (nearest places (repeated ids (chosen test i 0) (chosen test (n - i) i)))
+
         snoc : (x : ℕ) → isAmong ids (seen ++ i ∷ []) x ≡ isAmong ids (i ∷ seen) x
         snoc x = among-append ids x seen (i ∷ []) ∙ turn (isAmong ids seen x) (eqb (getD ids i 0) x)
           where
@@ -192,10 +196,12 @@ module _ (ids : List ℕ) where
             turn true false = refl
             turn false true = refl
             turn false false = refl
+
         join : (p r : List ℕ)
             → lower (lower best (nearest places (p ++ []))) (nearest places r) ≡ lower best (nearest places (p ++ r))
         join p r =
             rw (append-nil p, nearest-append places p r) (sym (lower-assoc best (nearest places p) (nearest places r)))
+
         by : (t : Bool) → test i ≡ t → Goal
         by false e =
             rw (chosen-step test n i h, chosen-next test i, here-out test i e, append-nil seen) (join [] (repeated ids seen rest))
@@ -238,7 +244,7 @@ module _ (kinds ids places roles : List ℕ) where
   unfolding faultOf faultAt
   fault-all count n a b c d e w x y z m p q r s t f g h k =
       ap faultAt {x = z} (k ∙ ap (lower a) (h ∙ ap (lower b) (g ∙ ap (lower c) f)) ∙ parts p q r s t ∙ nearest-faults n)
-          ∙ ap (λ j. faultOf kinds ids places roles j) m
+      ∙ ap (λ j. faultOf kinds ids places roles j) m
     where
       parts : {a b c d e a' b' c' d' e' : ℕ} → a ≡ a' → b ≡ b' → c ≡ c' → d ≡ d' → e ≡ e'
           → lower a (lower b (lower c (lower d e))) ≡ lower a' (lower b' (lower c' (lower d' e')))

@@ -1,2 +1,5 @@
 pub mod Chosen
 pub mod AtFault
+pub mod Numbering
+pub mod Heading
+pub mod Ordering

@@ -3,7 +3,7 @@ use mathlib.Core.Bool.{Bool, true, false, _&&_}
 use mathlib.Core.List.{List, [], _∷_, _++_}
 use Prim.Native.Nat.{ℕ, zero, suc, _+_}
 use lib.Dec.{ltb, eqb}
-use lib.ListN.{getD}
+use lib.ListN.{length, getD}
 use Rattle.values.specs.Values.{pick}
 use Rattle.verilog_names.specs.declared.Class.{Class}
 use Rattle.verilog_names.specs.declared.Class.the-variants.{Used, Declared, Wire, Target}
@@ -39,3 +39,7 @@ isIn kinds roles Used i = isUsed kinds i
 isIn kinds roles Declared i = isDeclared roles i
 isIn kinds roles Wire i = hasRole roles 3 i
 isIn kinds roles Target i = hasRole roles 4 i
+
+-- How many of the first n tokens have a role.
+abbrev pub countOf : List ℕ → ℕ → ℕ → ℕ
+countOf roles n r = length (chosen (hasRole roles r) n 0)

@@ -1,2 +1,5 @@
 pub mod Chosen
 pub mod Faults
+pub mod Numbers
+pub mod Head
+pub mod Order

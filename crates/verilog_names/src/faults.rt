@@ -26,7 +26,14 @@ fn spot(p: u16) -> usize
 }
 
 // Is the token of that class, and such a name?
-fn is_such(kinds: &[u8; 16385], numbers: &[u32; 16385], roles: &[u8; 16385], class: Class, id: u32, i: usize) -> bool
+fn is_such(
+    kinds: &[u8; 16385],
+    numbers: &[u32; 16385],
+    roles: &[u8; 16385],
+    class: Class,
+    id: u32,
+    i: usize,
+) -> bool
     requires { ⌜ i < 16385 ⌝ }
     ensures { λ r. ⌜ r ≡ isAmong (now (numbers .entry)) (here (isIn (now (kinds .entry)) (now (roles .entry)) class) i) id ⌝ }
 {
@@ -37,7 +44,14 @@ fn is_such(kinds: &[u8; 16385], numbers: &[u32; 16385], roles: &[u8; 16385], cla
 }
 
 // Is one of the first so many tokens of that class such a name?
-fn is_among(kinds: &[u8; 16385], numbers: &[u32; 16385], roles: &[u8; 16385], count: usize, class: Class, id: u32) -> bool
+fn is_among(
+    kinds: &[u8; 16385],
+    numbers: &[u32; 16385],
+    roles: &[u8; 16385],
+    count: usize,
+    class: Class,
+    id: u32,
+) -> bool
     requires { ⌜ count ≤ 16385 ⌝ }
     ensures { λ r. ⌜ r ≡ isAmong (now (numbers .entry)) (chosen (isIn (now (kinds .entry)) (now (roles .entry)) class) count 0) id ⌝ }
 {
@@ -97,7 +111,10 @@ fn missing(
     let mut best = 65536;
     let mut i = 0;
     while i < count {
-        best = lower(best, missing_at(kinds, numbers, places, roles, count, a, b, i));
+        best = lower(
+            best,
+            missing_at(kinds, numbers, places, roles, count, a, b, i),
+        );
         i += 1;
     }
     best
@@ -106,7 +123,14 @@ fn missing(
 // ---- tokens of a class that are named as one before
 
 // The place of a token that is one of these; 65,536 of another.
-fn repeated_at(kinds: &[u8; 16385], numbers: &[u32; 16385], places: &[u16; 16385], roles: &[u8; 16385], a: Class, i: usize) -> usize
+fn repeated_at(
+    kinds: &[u8; 16385],
+    numbers: &[u32; 16385],
+    places: &[u16; 16385],
+    roles: &[u8; 16385],
+    a: Class,
+    i: usize,
+) -> usize
     requires { ⌜ i < 16385 ⌝ }
     ensures { λ r. ⌜ r ≡ nearest (now (places .entry)) (repeated (now (numbers .entry))
         (chosen (isIn (now (kinds .entry)) (now (roles .entry)) a) i 0)
@@ -122,7 +146,14 @@ fn repeated_at(kinds: &[u8; 16385], numbers: &[u32; 16385], places: &[u16; 16385
 }
 
 // The first place of such a token.
-fn repeated(kinds: &[u8; 16385], numbers: &[u32; 16385], places: &[u16; 16385], roles: &[u8; 16385], count: usize, a: Class) -> usize
+fn repeated(
+    kinds: &[u8; 16385],
+    numbers: &[u32; 16385],
+    places: &[u16; 16385],
+    roles: &[u8; 16385],
+    count: usize,
+    a: Class,
+) -> usize
     requires { ⌜ count ≤ 16385 ⌝ }
     ensures { λ r. ⌜ r ≡ nearest (now (places .entry)) (repeated (now (numbers .entry))
         []
@@ -141,11 +172,25 @@ fn repeated(kinds: &[u8; 16385], numbers: &[u32; 16385], places: &[u16; 16385], 
 
 // Is a name at fault, and where is the first that is: a name undeclared or declared a second time, an `assign` to no wire or to one
 // that has its own, a wire without `assign`.
-pub fn first_fault(kinds: &[u8; 16385], numbers: &[u32; 16385], places: &[u16; 16385], roles: &[u8; 16385], count: usize) -> Fault
+pub fn first_fault(
+    kinds: &[u8; 16385],
+    numbers: &[u32; 16385],
+    places: &[u16; 16385],
+    roles: &[u8; 16385],
+    count: usize,
+) -> Fault
     ensures { λ r. ⌜ r ≡ faultOf (now (kinds .entry)) (now (numbers .entry)) (now (places .entry)) (now (roles .entry)) (capped count) ⌝ }
 {
     let n = capped(count);
-    let a = missing(kinds, numbers, places, roles, n, Class::Used, Class::Declared);
+    let a = missing(
+        kinds,
+        numbers,
+        places,
+        roles,
+        n,
+        Class::Used,
+        Class::Declared,
+    );
     let b = repeated(kinds, numbers, places, roles, n, Class::Declared);
     let c = missing(kinds, numbers, places, roles, n, Class::Target, Class::Wire);
     let d = repeated(kinds, numbers, places, roles, n, Class::Target);

@@ -3,9 +3,16 @@
 // an `assign`, 5 the word `always`) and a declared name's width. Each function equals its definition in specs/, for tables of any
 // contents.
 mod faults;
+mod head;
+mod numbers;
+mod order;
 mod tokens;
 
 pub use faults::first_fault;
+pub use head::put_head;
+pub use numbers::number;
+pub use order::next_of;
+pub use order::target_of;
 
 // Kinds of tokens: a name in use; a declared name; a declared wire; the target of an `assign`.
 pub enum Class {

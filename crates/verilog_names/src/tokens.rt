@@ -2,9 +2,8 @@
 use crate::Class;
 ghost use mathlib.Core.Path.{_≡_};
 ghost use Prim.Native.Nat.{_≤_, _<_};
-ghost use lib.ListN.{length};
 ghost use Rattle.verilog_grammar.specs.Meaning.{upTo};
-ghost use Rattle.verilog_names.specs.Chosen.{capped, chosen, hasRole, isUsed, isDeclared, isIn};
+ghost use Rattle.verilog_names.specs.Chosen.{capped, countOf, hasRole, isUsed, isDeclared, isIn};
 
 // A table has 16,385 entries.
 pub fn capped(count: usize) -> usize
@@ -59,7 +58,7 @@ pub fn is_in(kinds: &[u8; 16385], roles: &[u8; 16385], class: Class, i: usize) -
 // How many tokens of a role there are.
 pub fn count_of(roles: &[u8; 16385], count: usize, role: u8) -> usize
     requires { ⌜ count ≤ 16385 ⌝ }
-    ensures { λ r. ⌜ r ≡ length (chosen (hasRole (now (roles .entry)) role) count 0) ⌝ }
+    ensures { λ r. ⌜ r ≡ countOf (now (roles .entry)) count role ⌝ }
 {
     let mut n = 0;
     let mut i = 0;

@@ -15,18 +15,17 @@ use Rattle.verilog_names.proofs.faults.missing.Tie as tie
 abbrev Inv-loop : tie.InvT-loop
 Inv-loop kinds numbers places roles count a b best₀ i₀ best i =
     (best ≤ 65536)
-        × (lower best (nearest places (missing numbers (chosen (isIn kinds roles a) (count - i) i) (chosen (isIn kinds roles b) count 0)))
-        ≡ nearest places (missing numbers (chosen (isIn kinds roles a) count 0) (chosen (isIn kinds roles b) count 0)))
+    × (lower best (nearest places (missing numbers (chosen (isIn kinds roles a) (count - i) i) (chosen (isIn kinds roles b) count 0)))
+    ≡ nearest places (missing numbers (chosen (isIn kinds roles a) count 0) (chosen (isIn kinds roles b) count 0)))
 
 abbrev μ-loop : tie.MeasureT-loop
 μ-loop kinds numbers places roles count a b best₀ i₀ best i = count - i
 
 loop-again : tie.Need-loop-again Inv-loop μ-loop
-loop-again c =
-    (
-      lower-kept _ _ _ _ (c .lower .ensures) (c .before .before .before .loop .inv .0),
-      missing-turn _ _ _ _ _ _ _ _ _ _ (c .before .before .loop-test .taken) (c .before .missing-at .ensures) (c .lower .ensures) (c .before .before .before .loop .inv .1),
-    )
+loop-again c = (
+  lower-kept _ _ _ _ (c .lower .ensures) (c .before .before .before .loop .inv .0),
+  missing-turn _ _ _ _ _ _ _ _ _ _ (c .before .before .loop-test .taken) (c .before .missing-at .ensures) (c .lower .ensures) (c .before .before .before .loop .inv .1),
+)
 
 returns : tie.Need-returns Inv-loop μ-loop
 returns c =

@@ -13,10 +13,8 @@ returns-2 c =
 
 returns-3 : tie.Need-returns-3
 returns-3 c =
-    let f = c .before .before .before .is-among in
-    let g = c .before .before .before .before .before .before .is-in in
     c .spot .ensures .0
-        ∙ missing-not _ _ _ _ _ (sym (g .ensures) ∙ not-false _ (c .before .before .before .before .before .if1 .left)) (sym (f .ensures) ∙ c .before .before .if2 .left) (omega (arith, c .spot .ensures .0, c .spot .ensures .1))
+    ∙ missing-not _ _ _ _ _ (sym (c .before .before .before .before .before .before .is-in .ensures) ∙ not-false _ (c .before .before .before .before .before .if1 .left)) (sym (c .before .before .before .is-among .ensures) ∙ c .before .before .if2 .left) (omega (arith, c .spot .ensures .0, c .spot .ensures .1))
 
 pub missing-at-spec : {M : Type 1} → statement M
 missing-at-spec =

@@ -9,10 +9,8 @@ use Rattle.verilog_names.proofs.faults.repeated_at.Tie as tie
 
 returns-2 : tie.Need-returns-2
 returns-2 c =
-    let f = c .before .before .before .is-among in
-    let g = c .before .before .before .before .before .before .is-in in
     c .spot .ensures .0
-        ∙ repeated-among _ _ _ _ _ (sym (g .ensures) ∙ not-false _ (c .before .before .before .before .before .if1 .left)) (sym (f .ensures) ∙ c .before .before .if2 .taken) (omega (arith, c .spot .ensures .0, c .spot .ensures .1))
+    ∙ repeated-among _ _ _ _ _ (sym (c .before .before .before .before .before .before .is-in .ensures) ∙ not-false _ (c .before .before .before .before .before .if1 .left)) (sym (c .before .before .before .is-among .ensures) ∙ c .before .before .if2 .taken) (omega (arith, c .spot .ensures .0, c .spot .ensures .1))
 
 returns-3 : tie.Need-returns-3
 returns-3 c =
