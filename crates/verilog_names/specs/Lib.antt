@@ -3,3 +3,4 @@ pub mod Faults
 pub mod Numbers
 pub mod Head
 pub mod Order
+pub mod Tables
