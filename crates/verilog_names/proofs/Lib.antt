@@ -3,3 +3,5 @@ pub mod AtFault
 pub mod Numbering
 pub mod Heading
 pub mod Ordering
+pub mod Standing
+pub mod Claims

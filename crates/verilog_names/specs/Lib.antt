@@ -4,3 +4,4 @@ pub mod Numbers
 pub mod Head
 pub mod Order
 pub mod Tables
+pub mod Claims
