@@ -129,10 +129,16 @@ module _ (ts : List Token) (kinds ids places : List ℕ) (sc : Scanned ts kinds 
   nearest-lowest t n s (next {a = u} {b = m} {xs = xs} {ys = ms} r p) =
       rw (sc .placed t n s) (ap (lower (n .place)) (nearest-lowest u m {xs = xs} {ns = ms} r p))
 
+  lowest-below : (n : Name) (ns : List Name) → n .place < 65536 → lowest n ns < 65536
+  unfolding lowest
+  lowest-below n [] h = h
+  lowest-below n (m ∷ ms) h = omega (arith, lower-few (n .place) (lowest m ms) (n .place) (omega arith))
+
   nearest-along : {xs : List ℕ} {ns : List Name} → Along (Stands ts) xs ns → faultAt (nearest places xs) ≡ faultBy ns
-  unfolding nearest faultBy
+  unfolding nearest faultBy faultAt
   nearest-along none = refl
-  nearest-along (next {a = t} {b = n} {xs = xs} {ys = ns} s p) = ap faultAt (nearest-lowest t n {xs = xs} {ns = ns} s p)
+  nearest-along (next {a = t} {b = n} {xs = xs} {ys = ns} s p) =
+      rw (nearest-lowest t n {xs = xs} {ns = ns} s p, lt-ltb (lowest n ns) 65536 (lowest-below n ns (sc .below t n s)))
 
   -- ---- names in use
 

@@ -5,3 +5,4 @@ pub mod Heading
 pub mod Ordering
 pub mod Standing
 pub mod Claims
+pub mod Scanning
