@@ -6,3 +6,4 @@ pub mod Ordering
 pub mod Standing
 pub mod Claims
 pub mod Scanning
+pub mod Samples
