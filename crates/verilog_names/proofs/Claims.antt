@@ -30,18 +30,10 @@ use Rattle.verilog_names.specs.Tables.{Along, none, next, Stands, Declar
 use Rattle.verilog_names.specs.Claims.{SameIds, faultBy, SameFaults, SameNumbers, SameHead, Found, SameTarget}
 use Rattle.verilog_names.proofs.Chosen.{here-in, here-out, chosen-none, chosen-suc}
 use Rattle.verilog_names.proofs.AtFault.{lower-most, lower-few}
+use Rattle.verilog_names.proofs.Kept.{kept, kept-chosen}
 use Rattle.verilog_names.proofs.Standing.{along-append, along-length, along-map, entry-at, same-ids, terminal-kind}
 
--- ---- those of some tokens that a test takes
-
-unfoldable kept : (ℕ → Bool) → List ℕ → List ℕ
-kept test [] = []
-kept test (t ∷ ts) = here test t ++ kept test ts
-
-kept-append : (test : ℕ → Bool) (xs ys : List ℕ) → kept test (xs ++ ys) ≡ kept test xs ++ kept test ys
-unfolding kept
-kept-append test [] ys = refl
-kept-append test (t ∷ xs) ys = ap (λ l. here test t ++ l) (kept-append test xs ys) ∙ sym (append-assoc (here test t) (kept test xs) (kept test ys))
+-- ---- the first of some tokens that a test takes
 
 first-same : (test : ℕ → Bool) (n t : ℕ) (xs : List ℕ) → test t ≡ true → firstOr n (kept test (t ∷ xs)) ≡ t
 unfolding kept firstOr
@@ -50,19 +42,6 @@ first-same test n t xs e = rw (here-in test t e)
 first-other : (test : ℕ → Bool) (n t : ℕ) (xs : List ℕ) → test t ≡ false → firstOr n (kept test (t ∷ xs)) ≡ firstOr n (kept test xs)
 unfolding kept
 first-other test n t xs e = rw (here-out test t e)
-
--- Two tests one after the other.
-kept-chosen : (a b : ℕ → Bool) (n i : ℕ) → chosen (λ k. pick (a k) (b k) false) n i ≡ kept b (chosen a n i)
-unfolding here chosen kept
-kept-chosen a b zero i = refl
-kept-chosen a b (suc n) i =
-    ap (λ l. here (λ k. pick (a k) (b k) false) i ++ l) (kept-chosen a b n (i + 1))
-    ∙ ap (λ l. l ++ kept b (chosen a n (i + 1))) (by (a i) refl)
-    ∙ sym (kept-append b (here a i) (chosen a n (i + 1)))
-  where
-    by : (t : Bool) → a i ≡ t → here (λ k. pick (a k) (b k) false) i ≡ kept b (here a i)
-    by true e = rw e (sym (append-nil (here b i)))
-    by false e = rw e
 
 -- ---- over the tables of tokens
 
