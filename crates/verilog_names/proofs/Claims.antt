@@ -17,7 +17,8 @@ use Rattle.verilog_tokens.specs.Table.{kindOf, nameIn, namesIn, idOf, numberIn}
 use Rattle.verilog_tokens.specs.Table as Table
 use Rattle.verilog_grammar.specs.Meaning.{upTo, anInput, aRegister, aWire, Driven, Part}
 use Rattle.verilog_source.specs.Names as Source
-use Rattle.verilog_source.specs.Names.{Variable, variables, inOrder, declared, driven, threads, nameOf, used, faults, lower, lowest, numberOf}
+use Rattle.verilog_source.specs.Names.{Variable, variables, inOrder, declared, driven, threads}
+use Rattle.verilog_source.specs.Names.{nameOf, used, faults, lower, lowest, numberOf}
 use Rattle.verilog_source.specs.Written.{writtenWidths, valueFor, writtenWires, writtenThreads, written}
 use Rattle.verilog_names.specs.declared.Class.the-variants.{Used, Declared, Wire, Target}
 use Rattle.verilog_names.specs.declared.Fault.{Fault}

@@ -13,7 +13,8 @@ kept test (t ∷ ts) = here test t ++ kept test ts
 pub kept-append : (test : ℕ → Bool) (xs ys : List ℕ) → kept test (xs ++ ys) ≡ kept test xs ++ kept test ys
 unfolding kept
 kept-append test [] ys = refl
-kept-append test (t ∷ xs) ys = ap (λ l. here test t ++ l) (kept-append test xs ys) ∙ sym (append-assoc (here test t) (kept test xs) (kept test ys))
+kept-append test (t ∷ xs) ys =
+    ap (λ l. here test t ++ l) (kept-append test xs ys) ∙ sym (append-assoc (here test t) (kept test xs) (kept test ys))
 
 -- Two tests one after the other.
 pub kept-chosen : (a b : ℕ → Bool) (n i : ℕ) → chosen (λ k. pick (a k) (b k) false) n i ≡ kept b (chosen a n i)

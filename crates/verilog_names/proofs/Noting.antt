@@ -16,7 +16,8 @@ use Rattle.verilog_grammar.specs.Meaning.{Kind, anInput, aRegister, aWire, Driv
 use Rattle.verilog_source.specs.Names.{Variable, kindNumber, ofWidth, variables, declared, driven, threads}
 use Rattle.verilog_names.specs.Chosen.{here, chosen, hasRole, isDeclared}
 use Rattle.verilog_names.specs.Tables.{Along, none, next, Stands, Declares, Drives, Runs, Noted}
-use Rattle.verilog_names.specs.Entries.{Entry, variable, target, thread, entriesOf, entries, roleOf, isNoted, Notes, declaring, driving, running, FromEntries}
+use Rattle.verilog_names.specs.Entries.{Entry, variable, target, thread, entriesOf, entries}
+use Rattle.verilog_names.specs.Entries.{roleOf, isNoted, Notes, declaring, driving, running, FromEntries}
 use Rattle.verilog_names.proofs.Kept.{kept, kept-chosen, chosen-same}
 use Rattle.verilog_names.proofs.Standing.{along-append}
 
@@ -124,7 +125,8 @@ module _ (roles : List ℕ) where
       sym (kept-chosen (isNoted roles) (hasRole roles r) n i)
       ∙ chosen-same (λ k. pick (isNoted roles k) (hasRole roles r k) false) (hasRole roles r) (λ k. by k (eqb (getD roles k 0) 0) refl) n i
     where
-      by : (k : ℕ) (b : Bool) → eqb (getD roles k 0) 0 ≡ b → pick (not (eqb (getD roles k 0) 0)) (eqb (getD roles k 0) r) false ≡ eqb (getD roles k 0) r
+      by : (k : ℕ) (b : Bool) → eqb (getD roles k 0) 0 ≡ b
+          → pick (not (eqb (getD roles k 0) 0)) (eqb (getD roles k 0) r) false ≡ eqb (getD roles k 0) r
       by k true e = rw (e, eqb-true (getD roles k 0) 0 e) (sym (ne-eqb 0 r (λ z. f (sym z))))
       by k false e = rw e
 
@@ -132,7 +134,8 @@ module _ (roles : List ℕ) where
   unfolding isNoted isDeclared
   declared-kept n i =
       sym (kept-chosen (isNoted roles) (isDeclared roles) n i)
-      ∙ chosen-same (λ k. pick (isNoted roles k) (isDeclared roles k) false) (isDeclared roles) (λ k. by (eqb (getD roles k 0) 0) (ltb (getD roles k 0) 4)) n i
+      ∙ chosen-same (λ k. pick (isNoted roles k) (isDeclared roles k) false) (isDeclared roles)
+      (λ k. by (eqb (getD roles k 0) 0) (ltb (getD roles k 0) 4)) n i
     where
       by : (b c : Bool) → pick (not b) (pick b false c) false ≡ pick b false c
       by true c = refl

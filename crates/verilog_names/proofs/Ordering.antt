@@ -44,7 +44,8 @@ module _ (ids roles : List ℕ) (x i : ℕ) where
 
 module _ (test : ℕ → Bool) (n : ℕ) where
   first-list : (m i : ℕ) → i + m ≡ n → firstOr n (chosen test m i) < n
-      → chosen test m i ≡ firstOr n (chosen test m i) ∷ chosen test (n - (firstOr n (chosen test m i) + 1)) (firstOr n (chosen test m i) + 1)
+      → chosen test m i ≡ firstOr n (chosen test m i) ∷
+      chosen test (n - (firstOr n (chosen test m i) + 1)) (firstOr n (chosen test m i) + 1)
   unfolding chosen firstOr
   first-list zero i e h = absurd (omega arith)
   first-list (suc m) i e h = by (test i) refl (first-list m (i + 1) (omega arith)) h
@@ -73,7 +74,8 @@ module _ (test : ℕ → Bool) (n : ℕ) where
 
 module _ (roles : List ℕ) (n r i : ℕ) (h : i ≤ n) where
   pub next-some : nextOf roles n r i < n
-      → chosen (hasRole roles r) (n - i) i ≡ nextOf roles n r i ∷ chosen (hasRole roles r) (n - (nextOf roles n r i + 1)) (nextOf roles n r i + 1)
+      → chosen (hasRole roles r) (n - i) i ≡ nextOf roles n r i ∷
+      chosen (hasRole roles r) (n - (nextOf roles n r i + 1)) (nextOf roles n r i + 1)
   unfolding nextOf
   next-some l = first-list (hasRole roles r) n (n - i) i (omega arith) l
 

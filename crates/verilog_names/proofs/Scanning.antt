@@ -11,7 +11,8 @@ use Rattle.verilog_tokens.specs.Words.{isKeyword, firstOf, signs}
 use Rattle.verilog_tokens.specs.Characters.{isUnderscore, every, numeral}
 use Rattle.verilog_tokens.specs.Tokens.{Token, terminal, name, number, known, unknown, broken, Name, Lexeme, Located}
 use Rattle.verilog_tokens.specs.Tokens.{Radix, binary, octal, decimal, hexadecimal, Base, base, none as noBase}
-use Rattle.verilog_tokens.specs.Tokens.{wordToken, word, numberToken, unsigned, isKnown, isUnknown, valueToken, valueBehind, value, baseOf, based}
+use Rattle.verilog_tokens.specs.Tokens.{wordToken, word, numberToken, unsigned, isKnown}
+use Rattle.verilog_tokens.specs.Tokens.{isUnknown, valueToken, valueBehind, value, baseOf, based}
 use Rattle.verilog_tokens.specs.Tokens.{signToken, sign, Opening, opensWord, opensNumber, opensValue, opensSign, opening, tokenBy}
 use Rattle.verilog_tokens.specs.Tokens.{gap, goesOn, andThen, fromToken, fromGap, located, tokens, places}
 use Rattle.verilog_tokens.specs.Table as Table
