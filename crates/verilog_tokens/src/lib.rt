@@ -1,6 +1,7 @@
 // The tokens of a Verilog text (document 02, request [1]): what they are is said in specs/. Each function equals its definition there,
 // for every text and every place.
 mod characters;
+mod gaps;
 
 // Kinds of characters: white space; what a word goes on with; what a one-line comment holds; digits of each base with what may
 // stand among them; underscores.
