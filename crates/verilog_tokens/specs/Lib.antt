@@ -2,3 +2,4 @@ pub mod Characters
 pub mod Words
 pub mod Tokens
 pub mod Table
+pub mod Rows

@@ -2,6 +2,8 @@
 // for every text and every place.
 mod characters;
 mod gaps;
+mod rows;
+mod words;
 
 // Kinds of characters: white space; what a word goes on with; what a one-line comment holds; digits of each base with what may
 // stand among them; underscores.

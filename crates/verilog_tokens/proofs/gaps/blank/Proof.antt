@@ -12,10 +12,19 @@ sub-n : tie.Need-sub-n
 sub-n c = omega (arith, c .run-end .ensures, run-after Space (c .before .before .args .text .now) (c .before .before .args .at))
 
 returns : tie.Need-returns
-returns c = blank-space (c .before .before .before .args .text .now) (c .before .before .before .args .at) _ (c .before .run-end .ensures) (c .if1 .taken)
+returns c =
+    let a = c .before .before .before .args in
+    let r-run-end = c .before .run-end in
+    let i1 = c .if1 in
+    blank-space (a .text .now) (a .at) _ (r-run-end .ensures) (i1 .taken)
 
 returns-2 : tie.Need-returns-2
-returns-2 c = c .comment .ensures ∙ blank-comment (c .before .before .before .before .args .text .now) (c .before .before .before .before .args .at) _ (c .before .before .run-end .ensures) (c .before .if1 .left)
+returns-2 c =
+    let r-comment = c .comment in
+    let a = c .before .before .before .before .args in
+    let r-run-end = c .before .before .run-end in
+    let i1 = c .before .if1 in
+    r-comment .ensures ∙ blank-comment (a .text .now) (a .at) _ (r-run-end .ensures) (i1 .left)
 
 pub blank-spec : {M : Type 1} → statement M
 blank-spec =

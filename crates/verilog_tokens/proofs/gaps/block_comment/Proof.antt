@@ -8,13 +8,24 @@ use Rattle.verilog_tokens.proofs.gaps.block_comment.Statement.{statemen
 use Rattle.verilog_tokens.proofs.gaps.block_comment.Tie as tie
 
 returns : tie.Need-returns
-returns c = block-none (c .before .before .before .args .text .now) (c .before .before .before .args .at) _ (c .before .closing .ensures) (c .if1 .taken)
+returns c =
+    let a = c .before .before .before .args in
+    let r-closing = c .before .closing in
+    let i1 = c .if1 in
+    block-none (a .text .now) (a .at) _ (r-closing .ensures) (i1 .taken)
 
 add-result : tie.Need-add-result
-add-result c = omega (arith, c .before .closing .ensures, closing-few (drop (c .before .before .before .args .at) (c .before .before .before .args .text .now)), length-drop (c .before .before .before .args .at) (c .before .before .before .args .text .now))
+add-result c =
+    let r-closing = c .before .closing in
+    let a = c .before .before .before .args in
+    omega (arith, r-closing .ensures, closing-few (drop (a .at) (a .text .now)), length-drop (a .at) (a .text .now))
 
 returns-2 : tie.Need-returns-2
-returns-2 c = block-some (c .before .before .before .args .text .now) (c .before .before .before .args .at) _ (c .before .closing .ensures) (c .if1 .left)
+returns-2 c =
+    let a = c .before .before .before .args in
+    let r-closing = c .before .closing in
+    let i1 = c .if1 in
+    block-some (a .text .now) (a .at) _ (r-closing .ensures) (i1 .left)
 
 pub block-comment-spec : {M : Type 1} → statement M
 block-comment-spec =

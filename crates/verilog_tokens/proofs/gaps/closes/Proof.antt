@@ -9,10 +9,17 @@ returns : tie.Need-returns
 returns c = closed-past (c .before .before .args .text .now) (c .before .before .args .at) (c .if1 .taken)
 
 returns-2 : tie.Need-returns-2
-returns-2 c = c .is-slash .ensures ∙ closed-star (c .before .before .before .before .before .args .text .now) (c .before .before .before .before .before .args .at) (c .before .if2 .taken)
+returns-2 c =
+    let r-is-slash = c .is-slash in
+    let a = c .before .before .before .before .before .args in
+    let i2 = c .before .if2 in
+    r-is-slash .ensures ∙ closed-star (a .text .now) (a .at) (i2 .taken)
 
 returns-3 : tie.Need-returns-3
-returns-3 c = closed-other (c .before .before .before .before .args .text .now) (c .before .before .before .before .args .at) (c .if2 .left)
+returns-3 c =
+    let a = c .before .before .before .before .args in
+    let i2 = c .if2 in
+    closed-other (a .text .now) (a .at) (i2 .left)
 
 pub closes-spec : {M : Type 1} → statement M
 closes-spec =

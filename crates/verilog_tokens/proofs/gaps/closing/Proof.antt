@@ -20,19 +20,52 @@ loop-holds : tie.Need-loop-holds Inv-loop μ-loop
 loop-holds c = closing-starts _ _
 
 add-result : tie.Need-add-result Inv-loop μ-loop
-add-result c = omega (arith, closed-inside (c .before .before .before .before .before .args .text .now) (c .before .before .before .loop .i) (sym (c .before .closes .ensures) ∙ c .if1 .taken))
+add-result c =
+    let a = c .before .before .before .before .before .args in
+    let l = c .before .before .before .loop in
+    let r-closes = c .before .closes in
+    let i1 = c .if1 in
+    omega (arith, closed-inside (a .text .now) (l .i) (sym (r-closes .ensures) ∙ i1 .taken))
 
 returns : tie.Need-returns Inv-loop μ-loop
-returns c = closes-here (c .before .before .before .before .before .args .text .now) (c .before .before .before .before .before .args .at) (c .before .before .before .loop .i) (c .before .before .before .loop .inv) (c .before .before .loop-test .taken) (sym (c .before .closes .ensures) ∙ c .if1 .taken)
+returns c =
+    let a = c .before .before .before .before .before .args in
+    let l = c .before .before .before .loop in
+    let t = c .before .before .loop-test in
+    let r-closes = c .before .closes in
+    let i1 = c .if1 in
+    closes-here (a .text .now) (a .at) (l .i) (l .inv) (t .taken) (sym (r-closes .ensures) ∙ i1 .taken)
 
 returns-2 : tie.Need-returns-2 Inv-loop μ-loop
-returns-2 c = closes-never (c .before .before .before .before .before .before .before .args .text .now) (c .before .before .before .before .before .before .before .args .at) (c .before .before .before .before .before .loop .i) (c .before .before .before .before .before .loop .inv) (closing-stops (c .before .before .before .before .before .before .before .args .text .now) (c .before .before .before .before .before .loop .i) (c .before .before .before .before .loop-test .taken) (sym (c .before .before .before .closes .ensures) ∙ c .before .before .if1 .left) (c .if2 .taken))
+returns-2 c =
+    let a = c .before .before .before .before .before .before .before .args in
+    let l = c .before .before .before .before .before .loop in
+    let t = c .before .before .before .before .loop-test in
+    let r-closes = c .before .before .before .closes in
+    let i1 = c .before .before .if1 in
+    let i2 = c .if2 in
+    closes-never (a .text .now) (a .at) (l .i) (l .inv) (closing-stops (a .text .now) (l .i) (t .taken) (sym (r-closes .ensures)
+    ∙ i1 .left) (i2 .taken))
 
 loop-again : tie.Need-loop-again Inv-loop μ-loop
-loop-again c = (search needs, closes-later (c .before .before .before .before .before .before .before .args .text .now) (c .before .before .before .before .before .before .before .args .at) (c .before .before .before .before .before .loop .i) (c .before .before .before .before .before .loop .inv) (c .before .before .before .before .loop-test .taken) (sym (c .before .before .before .closes .ensures) ∙ c .before .before .if1 .left) (c .if2 .left))
+loop-again c =
+    let a = c .before .before .before .before .before .before .before .args in
+    let l = c .before .before .before .before .before .loop in
+    let t = c .before .before .before .before .loop-test in
+    let r-closes = c .before .before .before .closes in
+    let i1 = c .before .before .if1 in
+    let i2 = c .if2 in (
+      search needs,
+      closes-later (a .text .now) (a .at) (l .i) (l .inv) (t .taken) (sym (r-closes .ensures)
+          ∙ i1 .left) (i2 .left),
+    )
 
 returns-3 : tie.Need-returns-3 Inv-loop μ-loop
-returns-3 c = closes-never (c .before .before .before .args .text .now) (c .before .before .before .args .at) (c .before .loop .i) (c .before .loop .inv) (closing-none (c .before .before .before .args .text .now) (c .before .loop .i) (c .loop-test .left))
+returns-3 c =
+    let a = c .before .before .before .args in
+    let l = c .before .loop in
+    let t = c .loop-test in
+    closes-never (a .text .now) (a .at) (l .i) (l .inv) (closing-none (a .text .now) (l .i) (t .left))
 
 pub closing-spec : {M : Type 1} → statement M
 closing-spec =

@@ -13,16 +13,34 @@ returns-2 : tie.Need-returns-2
 returns-2 c = comment-short (c .before .before .before .args .text .now) (c .before .before .before .args .at) (omega arith)
 
 returns-3 : tie.Need-returns-3
-returns-3 c = comment-other (c .before .before .before .before .before .args .text .now) (c .before .before .before .before .before .args .at) (omega arith) (c .if3 .taken)
+returns-3 c =
+    let a = c .before .before .before .before .before .args in
+    let i3 = c .if3 in
+    comment-other (a .text .now) (a .at) (omega arith) (i3 .taken)
 
 returns-4 : tie.Need-returns-4
-returns-4 c = c .line-comment .ensures ∙ comment-line (c .before .before .before .before .before .before .before .before .args .text .now) (c .before .before .before .before .before .before .before .before .args .at) (omega arith) (c .before .before .before .if3 .left) (c .before .if4 .taken)
+returns-4 c =
+    let r-line-comment = c .line-comment in
+    let a = c .before .before .before .before .before .before .before .before .args in
+    let i3 = c .before .before .before .if3 in
+    let i4 = c .before .if4 in
+    r-line-comment .ensures ∙ comment-line (a .text .now) (a .at) (omega arith) (i3 .left) (i4 .taken)
 
 returns-5 : tie.Need-returns-5
-returns-5 c = c .block-comment .ensures ∙ comment-block (c .before .before .before .before .before .before .before .before .before .before .args .text .now) (c .before .before .before .before .before .before .before .before .before .before .args .at) (omega arith) (c .before .before .before .before .before .if3 .left) (c .before .if5 .taken)
+returns-5 c =
+    let r-block-comment = c .block-comment in
+    let a = c .before .before .before .before .before .before .before .before .before .before .args in
+    let i3 = c .before .before .before .before .before .if3 in
+    let i5 = c .before .if5 in
+    r-block-comment .ensures ∙ comment-block (a .text .now) (a .at) (omega arith) (i3 .left) (i5 .taken)
 
 returns-6 : tie.Need-returns-6
-returns-6 c = comment-neither (c .before .before .before .before .before .before .before .before .before .args .text .now) (c .before .before .before .before .before .before .before .before .before .args .at) (omega arith) (c .before .before .before .before .if3 .left) (c .before .before .if4 .left) (c .if5 .left)
+returns-6 c =
+    let a = c .before .before .before .before .before .before .before .before .before .args in
+    let i3 = c .before .before .before .before .if3 in
+    let i4 = c .before .before .if4 in
+    let i5 = c .if5 in
+    comment-neither (a .text .now) (a .at) (omega arith) (i3 .left) (i4 .left) (i5 .left)
 
 pub comment-spec : {M : Type 1} → statement M
 comment-spec =

@@ -22,10 +22,19 @@ returns : tie.Need-returns Inv-loop μ-loop
 returns c = gap-stays _ _ (sym (c .before .blank .ensures) ∙ c .if1 .taken) ∙ c .before .before .before .loop .inv
 
 add-i : tie.Need-add-i Inv-loop μ-loop
-add-i c = omega (arith, c .before .blank .ensures, blank-few (drop (c .before .before .before .loop .i) (c .before .before .before .before .before .args .text .now)), length-drop (c .before .before .before .loop .i) (c .before .before .before .before .before .args .text .now))
+add-i c =
+    let r-blank = c .before .blank in
+    let l = c .before .before .before .loop in
+    let a = c .before .before .before .before .before .args in
+    omega (arith, r-blank .ensures, blank-few (drop (l .i) (a .text .now)), length-drop (l .i) (a .text .now))
 
 loop-again : tie.Need-loop-again Inv-loop μ-loop
-loop-again c = sym (gap-goes _ _ _ (c .before .before .loop-test .taken) (c .before .blank .ensures) (c .if1 .left)) ∙ c .before .before .before .loop .inv
+loop-again c =
+    let t = c .before .before .loop-test in
+    let r-blank = c .before .blank in
+    let i1 = c .if1 in
+    let l = c .before .before .before .loop in
+    sym (gap-goes _ _ _ (t .taken) (r-blank .ensures) (i1 .left)) ∙ l .inv
 
 returns-2 : tie.Need-returns-2 Inv-loop μ-loop
 returns-2 c = gap-past _ _ (c .loop-test .left) ∙ c .before .loop .inv
