@@ -3,3 +3,4 @@ pub mod Words
 pub mod Tokens
 pub mod Table
 pub mod Rows
+pub mod Pieces
