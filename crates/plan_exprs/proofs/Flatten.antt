@@ -101,7 +101,7 @@ module _ (f g : ℕ → Node) (base : ℕ) where
 
 -- ---- how many nodes an expression has
 
-pub count : Expr → ℕ
+unfoldable pub count : Expr → ℕ
 count (variable v) = 0
 count (constant w n) = 1
 count (unknown w) = 1
