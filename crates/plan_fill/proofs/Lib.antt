@@ -3,3 +3,7 @@ pub mod Kept
 pub mod Placing
 pub mod Room
 pub mod Laying
+pub mod Sections
+pub mod Watching
+pub mod Accepting
+pub mod Stages

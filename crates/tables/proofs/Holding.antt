@@ -18,6 +18,7 @@ use Rattle.sheet.specs.Answers.{startsOf}
 use Rattle.sheet.proofs.Reading.{bind-ok, check-ok, ok-injective}
 use Rattle.sheet.proofs.Sections.{wires-count, threads-count, Headed, headed}
 use Rattle.sheet.proofs.Trees.{mapRes, size-map, trees, read-located}
+use Rattle.evaluation.specs.Evaluation.{reads}
 use Rattle.pseudocode.specs.Translation.{Instr, wait!, go, threadCode}
 use Rattle.pseudocode.specs.Instruction.{noTerm, termsOf, instructionOf}
 use Rattle.pseudocode.specs.declared.Instruction.the-variants.{Wait}
@@ -128,7 +129,7 @@ module _ (s code : List ℕ) (r : Sheet ℕ) (x : Accepted s r) where
 
   -- ---- wires
 
-  wire-read : (k : ℕ) → k < length wires → ReadAt ws s (getD wires k (unknown 1)) (getD starts k 0)
+  pub wire-read : (k : ℕ) → k < length wires → ReadAt ws s (getD wires k (unknown 1)) (getD starts k 0)
   wire-read k h =
       let n = length-map (r .contents .wires) at in
       let l : k < length (r .contents .wires) = omega arith in
@@ -136,7 +137,7 @@ module _ (s code : List ℕ) (r : Sheet ℕ) (x : Accepted s r) where
       let e = getD-any wires k (unknown 1) (at 0) h ∙ List·getD-map at (r .contents .wires) k 0 in
       (q .0, rw (starts-at (r .contents .wires) k (x .wires) l) (q .1), q .2 ∙ sym e)
 
-  marked : Below (λ k. getD wires k (unknown 1)) (length wires) (readersBelow s starts (length wires) (replicate 80 0))
+  pub marked : Below (λ k. reads (getD wires k (unknown 1))) (length wires) (readersBelow s starts (length wires) (replicate 80 0))
   marked =
       let n = length-map (r .contents .wires) at in
       let m = x .wires in
@@ -144,14 +145,14 @@ module _ (s code : List ℕ) (r : Sheet ℕ) (x : Accepted s r) where
 
   -- ---- threads
 
-  thread-at : (i : ℕ) → getD threads i empty ≡ mapStmt at (getD (r .contents .threads) i empty)
+  pub thread-at : (i : ℕ) → getD threads i empty ≡ mapStmt at (getD (r .contents .threads) i empty)
   unfolding mapStmt
   thread-at i = List·getD-map (mapStmt at) (r .contents .threads) i empty
 
-  thread-below : (i : ℕ) → i < length threads → i < length (r .contents .threads)
+  pub thread-below : (i : ℕ) → i < length threads → i < length (r .contents .threads)
   thread-below i h = let n = length-map (r .contents .threads) (mapStmt at) in omega arith
 
-  thread-size : (i : ℕ) → length (threadCode (getD threads i empty)) ≡ size (getD (r .contents .threads) i empty) + 1
+  pub thread-size : (i : ℕ) → length (threadCode (getD threads i empty)) ≡ size (getD (r .contents .threads) i empty) + 1
   thread-size i =
       let a = getD (r .contents .threads) i empty in
       ap (λ (b : Stmt Expr). length (threadCode b)) (thread-at i)
@@ -162,7 +163,7 @@ module _ (s code : List ℕ) (r : Sheet ℕ) (x : Accepted s r) where
   table = compileAt s (length (r .contents .threads)) (r .body) code
 
   module _ (z : Compiles s (r .contents .threads) table) where
-    size-at : (i : ℕ) → i < length threads → getD (table .sizes) i 0 ≡ length (threadCode (getD threads i empty))
+    pub size-at : (i : ℕ) → i < length threads → getD (table .sizes) i 0 ≡ length (threadCode (getD threads i empty))
     size-at i h = z .size-of i (thread-below i h) ∙ sym (thread-size i)
 
     fetched-at : (i p : ℕ) → i < length threads → p < length (threadCode (getD threads i empty))
