@@ -7,3 +7,4 @@ pub mod Sections
 pub mod Watching
 pub mod Accepting
 pub mod Stages
+pub mod Holding

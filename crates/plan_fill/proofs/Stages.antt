@@ -50,10 +50,10 @@ module _ (n at a b : ℕ) (ws : List ℕ) (h : n ≤ 4176) (l : 16704 ≤ at) wh
 
 module _ (vs s : List ℕ) (short : length s ≤ 8192) (few : length vs ≤ 80) (starts : List ℕ) (wire : ℕ → Expr) (N : ℕ) (most : N ≤ 32)
     (read : (k : ℕ) → k < N → ReadAt vs s (wire k) (getD starts k 0)) where
-  abbrev WireMade : ℕ → ℕ → List ℕ → Type 0
+  abbrev pub WireMade : ℕ → ℕ → List ℕ → Type 0
   WireMade k m ws = WireIn (length vs) m ws k (wire k)
 
-  abbrev wireCost : ℕ → ℕ
+  abbrev pub wireCost : ℕ → ℕ
   wireCost k = count (wire k)
 
   -- A wire that was laid out, with its two words.
@@ -103,10 +103,10 @@ module _ (vs s : List ℕ) (short : length s ≤ 8192) (few : length vs ≤ 80) 
 module _ (vs s : List ℕ) (short : length s ≤ 8192) (few : length vs ≤ 80) (code : List ℕ) where
   module _ (i : ℕ) (hi : i < 8) (is : List (Instr Expr)) (most : length is ≤ 256)
       (coded : (p : ℕ) → p < length is → Coded vs s (getD is p (go 0)) (fetchAt s code i p)) where
-    abbrev PlaceMade : ℕ → ℕ → List ℕ → Type 0
+    abbrev pub PlaceMade : ℕ → ℕ → List ℕ → Type 0
     PlaceMade p m ws = PutIn (length vs) m ws (codePlace i p) (getD is p (go 0))
 
-    abbrev placeCost : ℕ → ℕ
+    abbrev pub placeCost : ℕ → ℕ
     placeCost p = nodesOf (getD is p (go 0))
 
     place-step : (p : ℕ) → p < 256 → (f g : Filling) → Ready vs (f .words) → Filled (length vs) (getD is p (go 0)) (codePlace i p) f g
@@ -134,13 +134,13 @@ module _ (vs s : List ℕ) (short : length s ≤ 8192) (few : length vs ≤ 80) 
   module _ (sizes : List ℕ) (is : ℕ → List (Instr Expr)) (N : ℕ) (few-threads : N ≤ 8) (most : (i : ℕ) → i < N → length (is i) ≤ 256)
       (coded : (i p : ℕ) → i < N → p < length (is i) → Coded vs s (getD (is i) p (go 0)) (fetchAt s code i p))
       (sized : (i : ℕ) → i < N → atMost 256 (getD sizes i 0) ≡ length (is i)) where
-    abbrev ThreadMade : ℕ → ℕ → List ℕ → Type 0
+    abbrev pub ThreadMade : ℕ → ℕ → List ℕ → Type 0
     ThreadMade i m ws = (p : ℕ) → p < length (is i) → p < 256 → PutIn (length vs) m ws (codePlace i p) (getD (is i) p (go 0))
 
-    abbrev threadCost : ℕ → ℕ
+    abbrev pub threadCost : ℕ → ℕ
     threadCost i = sumBelow (λ p. nodesOf (getD (is i) p (go 0))) (length (is i))
 
-    abbrev threadPlace : ℕ → ℕ
+    abbrev pub threadPlace : ℕ → ℕ
     threadPlace i = codePlace i 0
 
     thread-stepped : (i : ℕ) → i < N → (f : Filling) → 80 ≤ f .free → Ready vs (f .words) → f .free + threadCost i ≤ 4175

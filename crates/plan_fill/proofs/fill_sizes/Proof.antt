@@ -20,9 +20,11 @@ loop-holds c = (search needs, up-none (putSize (c .args .sizes .now)) (c .args .
 loop-again : tie.Need-loop-again Inv-loop μ-loop
 loop-again c =
     let a = c .before .before .before .before .args in
-    let l = c .before .before .before .loop in
-    (omega arith, up-turn (putSize (a .sizes .now)) (a .plan .now) (l .i) (l .inv .1)
-    (size-put (a .sizes .now) (l .plan) (l .i) (c .size-word .ensures)))
+    let l = c .before .before .before .loop in (
+      omega arith,
+      up-turn (putSize (a .sizes .now)) (a .plan .now) (l .i) (l .inv .1)
+          (size-put (a .sizes .now) (l .plan) (l .i) (c .size-word .ensures)),
+    )
 
 returns : tie.Need-returns Inv-loop μ-loop
 unfolding withSizes

@@ -22,9 +22,11 @@ loop-holds c =
 loop-again : tie.Need-loop-again Inv-loop μ-loop
 loop-again c =
     let a = c .before .before .before .before .before .before .args in
-    let l = c .before .before .before .before .loop in
-    (omega arith, up-turn (fillPlace (a .sheet .now) (a .code .now) (a .i)) (filling (a .first) (a .plan .now)) (l .p) (l .inv .1)
-    (place-filled (a .sheet .now) (a .code .now) (a .i) (l .p) (filling (l .free) (l .plan)) (c .before .before .fetch .ensures) (c .fill-instr .ensures)))
+    let l = c .before .before .before .before .loop in (
+      omega arith,
+      up-turn (fillPlace (a .sheet .now) (a .code .now) (a .i)) (filling (a .first) (a .plan .now)) (l .p) (l .inv .1)
+          (place-filled (a .sheet .now) (a .code .now) (a .i) (l .p) (filling (l .free) (l .plan)) (c .before .before .fetch .ensures) (c .fill-instr .ensures)),
+    )
 
 returns : tie.Need-returns Inv-loop μ-loop
 returns c =

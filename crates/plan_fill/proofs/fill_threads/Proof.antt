@@ -28,9 +28,11 @@ fill-thread-requires c κs =
 loop-again : tie.Need-loop-again Inv-loop μ-loop
 loop-again c =
     let a = c .before .before .before .before .before .before .before .args in
-    let l = c .before .before .before .before .before .loop in
-    (omega arith, up-turn (fillThread (a .sheet .now) (a .code .now) (a .sizes .now)) (filling (a .first) (a .plan .now)) (l .i) (l .inv .1)
-    (thread-filled (a .sheet .now) (a .code .now) (a .sizes .now) (l .i) (filling (l .free) (l .plan)) (c .before .before .at-most .ensures) (c .fill-thread .ensures)))
+    let l = c .before .before .before .before .before .loop in (
+      omega arith,
+      up-turn (fillThread (a .sheet .now) (a .code .now) (a .sizes .now)) (filling (a .first) (a .plan .now)) (l .i) (l .inv .1)
+          (thread-filled (a .sheet .now) (a .code .now) (a .sizes .now) (l .i) (filling (l .free) (l .plan)) (c .before .before .at-most .ensures) (c .fill-thread .ensures)),
+    )
 
 returns : tie.Need-returns Inv-loop μ-loop
 returns c =

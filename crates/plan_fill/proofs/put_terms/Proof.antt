@@ -22,10 +22,12 @@ loop-holds c =
 loop-again : tie.Need-loop-again Inv-loop μ-loop
 loop-again c =
     let a = c .before .before .before .before .before .before .before .before .before .args in
-    let l = c .before .before .before .before .before .before .before .before .loop in
-    (omega arith, up-turn (putTerm (a .t)) (filling (a .first) (a .plan .now)) (l .k) (l .inv .1)
-    (term-put (a .t) (l .k) (l .free) (l .plan) (c .before .before .before .before .before .before .term-at .ensures) (c .before .before .before .widen .ensures ∙ c .before .before .before .before .edge-number .ensures) (c .before .before .widen2 .ensures)
-    (c .before .put-node .ensures) (c .more .ensures)))
+    let l = c .before .before .before .before .before .before .before .before .loop in (
+      omega arith,
+      up-turn (putTerm (a .t)) (filling (a .first) (a .plan .now)) (l .k) (l .inv .1)
+          (term-put (a .t) (l .k) (l .free) (l .plan) (c .before .before .before .before .before .before .term-at .ensures) (c .before .before .before .widen .ensures ∙ c .before .before .before .before .edge-number .ensures) (c .before .before .widen2 .ensures)
+          (c .before .put-node .ensures) (c .more .ensures)),
+    )
 
 returns : tie.Need-returns Inv-loop μ-loop
 returns c =

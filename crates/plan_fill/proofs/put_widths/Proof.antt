@@ -22,9 +22,11 @@ loop-holds c =
 loop-again : tie.Need-loop-again Inv-loop μ-loop
 loop-again c =
     let a = c .before .before .before .before .before .args in
-    let l = c .before .before .before .loop in
-    (omega arith, up-turn (putWidth (a .sheet .now)) (a .plan .now) (l .v) (l .inv .1)
-    (width-put (a .sheet .now) (l .plan) (l .v) (c .widen .ensures ∙ c .before .byte-at .ensures)))
+    let l = c .before .before .before .loop in (
+      omega arith,
+      up-turn (putWidth (a .sheet .now)) (a .plan .now) (l .v) (l .inv .1)
+          (width-put (a .sheet .now) (l .plan) (l .v) (c .widen .ensures ∙ c .before .byte-at .ensures)),
+    )
 
 returns : tie.Need-returns Inv-loop μ-loop
 returns c =

@@ -20,9 +20,11 @@ loop-holds c = (search needs, up-none (watchTerm (c .args .i) (c .args .t)) (c .
 loop-again : tie.Need-loop-again Inv-loop μ-loop
 loop-again c =
     let a = c .before .before .before .before .before .args in
-    let l = c .before .before .before .before .loop in
-    (omega arith, up-turn (watchTerm (a .i) (a .t)) (a .watchers .now) (l .k) (l .inv .1)
-    (term-watched (a .i) (a .t) (l .k) (l .watchers) (c .before .before .term-at .ensures) (c .mark-variable .ensures)))
+    let l = c .before .before .before .before .loop in (
+      omega arith,
+      up-turn (watchTerm (a .i) (a .t)) (a .watchers .now) (l .k) (l .inv .1)
+          (term-watched (a .i) (a .t) (l .k) (l .watchers) (c .before .before .term-at .ensures) (c .mark-variable .ensures)),
+    )
 
 returns : tie.Need-returns Inv-loop μ-loop
 returns c =

@@ -21,9 +21,11 @@ loop-holds c =
 loop-again : tie.Need-loop-again Inv-loop μ-loop
 loop-again c =
     let a = c .before .before .before .before .before .before .args in
-    let l = c .before .before .before .before .loop in
-    (omega arith, up-turn (watchPlace (a .sheet .now) (a .code .now) (a .i)) (a .watchers .now) (l .p) (l .inv .1)
-    (place-watched (a .sheet .now) (a .code .now) (a .i) (l .p) (l .watchers) (c .before .before .fetch .ensures) (c .watch-instr .ensures)))
+    let l = c .before .before .before .before .loop in (
+      omega arith,
+      up-turn (watchPlace (a .sheet .now) (a .code .now) (a .i)) (a .watchers .now) (l .p) (l .inv .1)
+          (place-watched (a .sheet .now) (a .code .now) (a .i) (l .p) (l .watchers) (c .before .before .fetch .ensures) (c .watch-instr .ensures)),
+    )
 
 returns : tie.Need-returns Inv-loop μ-loop
 returns c =

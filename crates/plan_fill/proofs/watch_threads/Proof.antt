@@ -22,9 +22,11 @@ loop-holds c =
 loop-again : tie.Need-loop-again Inv-loop μ-loop
 loop-again c =
     let a = c .before .before .before .before .before .before .before .args in
-    let l = c .before .before .before .before .before .loop in
-    (omega arith, up-turn (watchThread (a .sheet .now) (a .code .now) (a .sizes .now)) (a .watchers .now) (l .i) (l .inv .1)
-    (thread-watched (a .sheet .now) (a .code .now) (a .sizes .now) (l .i) (l .watchers) (c .before .before .at-most .ensures) (c .watch-thread .ensures)))
+    let l = c .before .before .before .before .before .loop in (
+      omega arith,
+      up-turn (watchThread (a .sheet .now) (a .code .now) (a .sizes .now)) (a .watchers .now) (l .i) (l .inv .1)
+          (thread-watched (a .sheet .now) (a .code .now) (a .sizes .now) (l .i) (l .watchers) (c .before .before .at-most .ensures) (c .watch-thread .ensures)),
+    )
 
 returns : tie.Need-returns Inv-loop μ-loop
 returns c =
