@@ -5,16 +5,19 @@ use mathlib.Core.List.{List, [], _∷_, map}
 use Prim.Native.Nat.{ℕ, zero, suc, _+_, _*_, _%_, _≤_, _<_}
 use native.Mathlib.Nat.{le-refl, mod-eq-of-lt}
 use native.Mathlib.Omega.{arith}
-use borrow.Author.Tests.{lt-ltb}
+use borrow.Author.Tests.{lt-ltb, ltb-true}
+use lib.Dec.{ltb}
+use Rattle.values.specs.Values.{pick}
 use lib.ListN.{length, getD, replicate, length-replicate, length-map}
 use Rattle.masks.specs.Masks.{bits}
-use Rattle.sheet.specs.Reading.{ok}
+use Rattle.sheet.specs.Reading.{Res, ok, no}
 use Rattle.sheet.specs.Expression.{Expr, unknown, located, exprAt}
 use Rattle.sheet.specs.Statement.{Stmt, empty, mapStmt}
 use Rattle.sheet.specs.Module.{Module, mapModule, Sheet, readSheet, read}
 use Rattle.sheet.specs.declared.Layout.{Layout}
-use Rattle.sheet.specs.Answers.{startsOf, layoutOf}
-use Rattle.sheet.proofs.Trees.{trees}
+use Rattle.sheet.specs.Answers.{startsOf, layoutOf, sheetAnswer}
+use Rattle.sheet.proofs.Trees.{trees, mapRes, read-located}
+use Rattle.sheet.proofs.Reading.{no≢ok}
 use Rattle.evaluation.specs.Evaluation.{reads}
 use Rattle.pseudocode.specs.Translation.{Instr, go, threadCode}
 use Rattle.pseudocode.specs.Compiling.{Compiled, compileAt}
@@ -307,11 +310,22 @@ module _ (s : List ℕ) (r : Sheet ℕ) (ws : List ℕ) (x : Accepted s r) (y : 
         wire-planned (omega arith) end-most (wire-after (omega arith) (omega arith) (threads-done .kept) (wires-done .made k h))
 
     instr-done : (i p : ℕ) → i < length threads → p < length (is i)
-        → Planned (nodeAt (done .words)) (length vs) 4176 (getD (is i) p (go 0)) (planOf (done .words) .instruction i p)
+        → Planned (nodeAt (done .words)) (length vs) 4176 (getD (is i) p (go 0))
+        (planOf (done .words) .instruction i p) (planOf (done .words) .waits i p)
     instr-done i p h l =
         let a = threads-few in
         let b = code-most i h in
         planned (length vs) (done .free) (done .words) i p (omega arith) end-most (threads-done .made i h p l (omega arith))
+
+    no-size : (i : ℕ) → length threads ≤ i → sizeAt (done .words) i ≡ 0
+    unfolding sizeAt atMost
+    no-size i h = by (ltb i 8) refl
+      where
+        by : (b : Bool) → ltb i 8 ≡ b → pick b (getD (done .words) (sizePlace i) 0) 0 ≡ 0
+        by true e =
+            let a = threads-same in
+            done-tabled .size i (ltb-true i 8 e) ∙ ap (atMost 256) (z .no-size i (omega arith))
+        by false e = refl
 
     done-holds : Holds (trees s r .contents) (planOf (done .words))
     unfolding trees mapModule
@@ -330,6 +344,7 @@ module _ (s : List ℕ) (r : Sheet ℕ) (ws : List ℕ) (x : Accepted s r) (y : 
           width = λ v u. let b = y .bytes .narrow v u in
               width-back (done .words) v (getD vs v 0) (omega arith) (t .width v u ∙ y .bytes .same v u) (omega arith);
           size = λ i u. let a = threads-few in size-back (done .words) i (length (is i)) (omega arith) (t .size i (omega arith) ∙ sized i u);
+          no-size = no-size;
           wire = wire-done;
           instruction = instr-done;
           read-by = λ v k u h. ap (λ (bs : List Bool). getD bs k false) (readers-back (done .words) v _ u (t .readers-at v u))
@@ -345,10 +360,20 @@ module _ (s : List ℕ) (r : Sheet ℕ) (ws : List ℕ) (x : Accepted s r) (y : 
     filled-trees : Holds (trees s r .contents) (planOf (filledPlan s (layoutOf r) ws))
     filled-trees = subst (λ (us : List ℕ). Holds (trees s r .contents) (planOf us)) (sym filled-done) done-holds
 
--- ---- the law: of every sheet that is accepted, whatever the lent plan held before
+-- ---- the laws: of every sheet that is accepted, whatever the lent plan held before
 
 pub filled-holds : (s : List ℕ) (r : Sheet ℕ) (m : Module Expr) (ws : List ℕ) → readSheet (located s) s ≡ ok r → read s ≡ ok m
     → length ws ≡ 25212 → Holds m (planOf (filledPlan s (layoutOf r) ws))
 filled-holds s r m ws h e long =
     subst (λ (n : Module Expr). Holds n (planOf (filledPlan s (layoutOf r) ws))) (module-same s r m h e)
     (filled-trees s r ws (accepted s r h) (sheeted s r h) long (compile-law s (replicate 4096 0) r h (length-replicate {A = ℕ} 4096 0)))
+
+-- By the layout that `sheet::read` answers.
+pub read-holds : (s : List ℕ) (m : Module Expr) (ws : List ℕ) → read s ≡ ok m → length ws ≡ 25212
+    → Holds m (planOf (filledPlan s (sheetAnswer (readSheet (located s) s) .layout) ws))
+unfolding sheetAnswer mapRes
+read-holds s m ws e long = by (readSheet (located s) s) refl
+  where
+    by : (x : Res (Sheet ℕ)) → readSheet (located s) s ≡ x → Holds m (planOf (filledPlan s (sheetAnswer x .layout) ws))
+    by (ok r) h = filled-holds s r m ws h e long
+    by (no n p) h = absurd (no≢ok (sym (read-located s ∙ ap (mapRes (λ r. trees s r .contents)) h) ∙ e))

@@ -7,7 +7,7 @@ use native.Mathlib.Nat.{not-suc-le-zero, mod-eq-of-lt}
 use native.Mathlib.Numerals.{add-one}
 use native.Mathlib.Omega.{arith}
 use borrow.Author.Tests.{lt-ltb, ltb-true, ltb-false}
-use lib.Dec.{ltb}
+use lib.Dec.{ltb, eqb}
 use lib.ListN.{length, getD, set, length-set, List·getD-eq-default}
 use lib.Seq.{getD-set-same, getD-set-other}
 use Rattle.values.specs.Values.{pick}
@@ -24,7 +24,7 @@ use Rattle.pseudocode.specs.declared.Instruction as fetched
 use Rattle.pseudocode.proofs.Fetching.{term-of}
 use Rattle.plan.specs.declared.Expression.{Expression}
 use Rattle.plan.specs.Sections.{slotOf, codePlace, wirePlace}
-use Rattle.plan.specs.Plan.{Node, node, nodeAt, termFrom, termsFrom, decode, fetchAt, wireAt, widthAt}
+use Rattle.plan.specs.Plan.{Node, node, nodeAt, termFrom, termsFrom, decode, fetchAt, waitsAt, wireAt, widthAt}
 use Rattle.plan.proofs.Sections.{slot-same}
 use Rattle.plan_nodes.specs.Flat.{Flat, a-variable, a-constant, an-unknown, a-unary, a-binary, a-conditional}
 use Rattle.plan_exprs.specs.Flatten.{Adding, putNode, more, addAt}
@@ -341,23 +341,28 @@ module _ (base end : ℕ) (ws : List ℕ) (i p : ℕ) (hi : i < 8) (he : end ≤
   words-back {a = a} {b = b} {c = c} f x y z =
       rw (lt-ltb i 8 hi, f .kind, f .number, f .first, f .root, mod-eq-of-lt {m = 256} x, slot-same b y, slot-same c z)
 
-  pub planned : {j : Instr Expr} → PutIn base end ws (codePlace i p) j → Planned (nodeAt ws) base 4176 j (fetchAt ws i p)
+  waits-back : {k a b c : ℕ} → Four ws (codePlace i p) k a b c → waitsAt ws i p ≡ eqb k 0
+  unfolding waitsAt
+  waits-back f = rw (lt-ltb i 8 hi, f .kind)
+
+  pub planned : {j : Instr Expr} → PutIn base end ws (codePlace i p) j
+      → Planned (nodeAt ws) base 4176 j (fetchAt ws i p) (waitsAt ws i p)
   unfolding decode
   planned (put-wait {ts = ts} n h v r f t) =
-      rw (words-back f (omega arith) (omega arith) (omega arith), terms-back ws n ts h (omega arith) v t) (a-wait h)
+      rw (words-back f (omega arith) (omega arith) (omega arith), terms-back ws n ts h (omega arith) v t, waits-back f) (a-wait h)
   planned (put-set n r h f x) =
       let a = x .room in
       let b = x .root in
-      rw (words-back f h (omega arith) (omega arith)) (a-set (lies-kept base end 4176 ws ws _ _ (omega arith) (λ k u. refl) x))
+      rw (words-back f h (omega arith) (omega arith), waits-back f) (a-set (lies-kept base end 4176 ws ws _ _ (omega arith) (λ k u. refl) x))
   planned (put-later n r h f x) =
       let a = x .room in
       let b = x .root in
-      rw (words-back f h (omega arith) (omega arith)) (a-later (lies-kept base end 4176 ws ws _ _ (omega arith) (λ k u. refl) x))
-  planned (put-go h f) = rw (words-back f h (omega arith) (omega arith)) a-go
+      rw (words-back f h (omega arith) (omega arith), waits-back f) (a-later (lies-kept base end 4176 ws ws _ _ (omega arith) (λ k u. refl) x))
+  planned (put-go h f) = rw (words-back f h (omega arith) (omega arith), waits-back f) a-go
   planned (put-ifnot n r h f x) =
       let a = x .room in
       let b = x .root in
-      rw (words-back f h (omega arith) (omega arith)) (an-ifnot (lies-kept base end 4176 ws ws _ _ (omega arith) (λ k u. refl) x))
+      rw (words-back f h (omega arith) (omega arith), waits-back f) (an-ifnot (lies-kept base end 4176 ws ws _ _ (omega arith) (λ k u. refl) x))
 
 -- ---- a wire's words and nodes
 

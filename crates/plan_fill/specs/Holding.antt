@@ -29,14 +29,14 @@ pub record Lies (f : ℕ → Node) (base end : ℕ) (e : Expr) (x : Expression) 
   pub room : x .first + nodes ≤ end
   pub root : x .root < x .first + nodes
 
--- ---- an instruction of the translation, and the plan's one for it
+-- ---- an instruction of the translation, the plan's one for it, and whether it waits
 
-pub data Planned (f : ℕ → Node) (base end : ℕ) : Instr Expr → Instruction → Type 0 where
-  a-wait : {ts : List EdgeTerm} → length ts ≤ 8 → Planned f base end (wait! ts) (Wait (termsOf ts))
-  a-set : {t : ℕ} {e : Expr} {x : Expression} → Lies f base end e x → Planned f base end (set! t e) (Act (Set t x))
-  a-later : {t : ℕ} {e : Expr} {x : Expression} → Lies f base end e x → Planned f base end (later! t e) (Act (Later t x))
-  a-go : {g : ℕ} → Planned f base end (go g) (Act (Go g))
-  an-ifnot : {g : ℕ} {e : Expr} {x : Expression} → Lies f base end e x → Planned f base end (ifnot e g) (Act (IfNot g x))
+pub data Planned (f : ℕ → Node) (base end : ℕ) : Instr Expr → Instruction → Bool → Type 0 where
+  a-wait : {ts : List EdgeTerm} → length ts ≤ 8 → Planned f base end (wait! ts) (Wait (termsOf ts)) true
+  a-set : {t : ℕ} {e : Expr} {x : Expression} → Lies f base end e x → Planned f base end (set! t e) (Act (Set t x)) false
+  a-later : {t : ℕ} {e : Expr} {x : Expression} → Lies f base end e x → Planned f base end (later! t e) (Act (Later t x)) false
+  a-go : {g : ℕ} → Planned f base end (go g) (Act (Go g)) false
+  an-ifnot : {g : ℕ} {e : Expr} {x : Expression} → Lies f base end e x → Planned f base end (ifnot e g) (Act (IfNot g x)) false
 
 -- ---- names: does some wait of the code name variable v?
 
@@ -63,10 +63,11 @@ pub record Holds (m : Module Expr) (q : Plan) : Type 0 where
   pub threads : q .threads ≡ length (m .threads)
   pub width : (v : ℕ) → v < length (m .scope .widths) → q .width v ≡ getD (m .scope .widths) v 0
   pub size : (i : ℕ) → i < length (m .threads) → q .size i ≡ length (threadCode (getD (m .threads) i empty))
+  pub no-size : (i : ℕ) → length (m .threads) ≤ i → q .size i ≡ 0
   pub wire : (k : ℕ) → k < length (m .wires)
       → Lies (q .node) (length (m .scope .widths)) 4176 (getD (m .wires) k (unknown 1)) (q .wire k)
   pub instruction : (i p : ℕ) → i < length (m .threads) → p < length (threadCode (getD (m .threads) i empty))
-      → Planned (q .node) (length (m .scope .widths)) 4176 (getD (threadCode (getD (m .threads) i empty)) p (go 0)) (q .instruction i p)
+      → Planned (q .node) (length (m .scope .widths)) 4176 (getD (threadCode (getD (m .threads) i empty)) p (go 0)) (q .instruction i p) (q .waits i p)
   -- Bit k of v's readers: does wire k read v?
   pub read-by : (v k : ℕ) → v < 80 → k < length (m .wires) → getD (q .readers v) k false ≡ reads (getD (m .wires) k (unknown 1)) v
   pub read-by-none : (v k : ℕ) → v < 80 → length (m .wires) ≤ k → getD (q .readers v) k false ≡ false
