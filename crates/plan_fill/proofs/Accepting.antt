@@ -18,7 +18,6 @@ use Rattle.sheet.proofs.Sections.{wires-count, threads-count, Headed, headed}
 use Rattle.pseudocode.specs.Translation.{threadCode}
 use Rattle.plan_exprs.proofs.Flatten.{count}
 use Rattle.plan_fill.proofs.Kept.{sumOver}
-use Rattle.plan_fill.proofs.Placing.{Placed, threads-placed}
 use Rattle.plan_fill.proofs.Room.{total, wires-room, threads-room}
 
 -- ---- widths: "one width byte for each variable (1 to 32)"
@@ -84,9 +83,6 @@ bytes-count s c a b e = subst (Head-bytes s c) e
 pub record Sheeted (s : List ℕ) (r : Sheet ℕ) : Type 0 where
   pub short : length s ≤ 8192
   pub bytes : Head-bytes s (r .contents .scope) (length (r .contents .wires))
-  pub placed : (i : ℕ) → i < length (r .contents .threads)
-      → Placed (r .contents .scope .widths) s (threadCode (getD (r .contents .threads) i empty))
-      (threadCode (mapStmt (exprAt s (r .contents .scope .widths)) (getD (r .contents .threads) i empty)))
   pub room : 80 + sumOver (λ p. count (exprAt s (r .contents .scope .widths) p)) (r .contents .wires)
       + sumOver (λ a. total (threadCode (mapStmt (exprAt s (r .contents .scope .widths)) a))) (r .contents .threads) ≤ 4175
 
@@ -107,12 +103,9 @@ sheeted s r h =
     let w = wires-count (located s) c s (hd .0 .wires) (c .inputs + c .registers) (hd .0 .next) (es .1) in
     let a = wires-room c s (hd .0 .wires) (c .inputs + c .registers) (hd .0 .next) (es .1) in
     let b = threads-room c s (hd .0 .threads) (es .0 .next) (ts .1) in
-    let ii = y .inputs in
-    let rr = y .registers in
     rw (← ok-injective (z .1))
     (record {
       short = short;
       bytes = bytes-count s c (hd .0 .wires) (length (es .0 .items)) (omega arith) y;
-      placed = threads-placed c s (omega arith) (hd .0 .threads) (es .0 .next) (ts .1);
       room = omega arith;
     })

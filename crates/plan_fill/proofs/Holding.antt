@@ -30,13 +30,13 @@ use Rattle.plan_exprs.proofs.Flatten.{count, Widths, four-length}
 use Rattle.tables.specs.Readers.{atMost, readersBelow}
 use Rattle.tables.proofs.Readers.{atMost-most, atMost-same}
 use Rattle.tables.proofs.Marking.{Below}
-use Rattle.tables.proofs.Holding.{Accepted, accepted, wire-read, marked, thread-at, thread-below, thread-size, size-at, module-same}
+use Rattle.tables.proofs.Placing.{Coded}
+use Rattle.tables.proofs.Holding.{Accepted, accepted, wire-read, marked, thread-below, thread-size, size-at, coded-at, module-same}
 use Rattle.plan_fill.specs.Filling.{upTo, putFour, copyWord, putWidth, putSize, watchThread, Filling, filling, fillWire, fillThread}
 use Rattle.plan_fill.specs.Filling.{withCounts, withWidths, withReaders, withWatchers, withSizes, withWires, withThreads, codeOf, filledPlan}
 use Rattle.plan_fill.specs.Holding.{Lies, Planned, names, Holds}
 use Rattle.plan_fill.proofs.Filling.{plan-filled}
 use Rattle.plan_fill.proofs.Kept.{Kept, sumBelow, sumOver, sum-list, Ran}
-use Rattle.plan_fill.proofs.Placing.{Coded, placed-at}
 use Rattle.plan_fill.proofs.Room.{nodesOf, total}
 use Rattle.plan_fill.proofs.Laying.{Ready, Four, four-put, PutIn, planned, WireIn, lies-kept, wire-planned}
 use Rattle.plan_fill.proofs.Sections.{Put, put-up, Tabled, tabled, tabled-kept}
@@ -185,10 +185,7 @@ module _ (s : List ℕ) (r : Sheet ℕ) (ws : List ℕ) (x : Accepted s r) (y : 
         omega arith
 
     coded : (i p : ℕ) → i < length threads → p < length (is i) → Coded vs s (getD (is i) p (go 0)) (fetching.fetchAt s (table .code) i p)
-    coded i p h l =
-        let n = thread-size s blank r x i in
-        let b = thread-below s blank r x i h in
-        rw (z .fetched i p b (omega arith), thread-at s blank r x i) (placed-at (y .placed i b) p)
+    coded = coded-at s blank r x z
 
     sized : (i : ℕ) → i < length threads → atMost 256 (getD (table .sizes) i 0) ≡ length (is i)
     sized i h = ap (atMost 256) (size-at s blank r x z i h) ∙ atMost-same 256 (length (is i)) (code-most i h)

@@ -32,10 +32,10 @@ use Rattle.plan_exprs.proofs.Flatten.{four, four-length, four-other, four-0, fo
 use Rattle.tables.specs.Readers.{atMost}
 use Rattle.tables.proofs.Readers.{atMost-same}
 use Rattle.tables.proofs.Marking.{ReadAt}
+use Rattle.tables.proofs.Placing.{Coded, codes-wait, codes-set, codes-later, codes-go, codes-ifnot}
 use Rattle.plan_fill.specs.Filling.{upTo, putFour, Filling, filling, fillWire, putTerm, fillWait, fillExpr, fillAct, fillInstr}
 use Rattle.plan_fill.specs.Holding.{Lies, Planned, a-wait, a-set, a-later, a-go, an-ifnot}
 use Rattle.plan_fill.proofs.Kept.{up-to, Kept, kept-then}
-use Rattle.plan_fill.proofs.Placing.{Coded, codes-wait, codes-set, codes-later, codes-go, codes-ifnot}
 use Rattle.plan_fill.proofs.Room.{nodesOf}
 
 -- ---- Ready: the widths stand in the plan

@@ -1,6 +1,5 @@
 pub mod Filling
 pub mod Kept
-pub mod Placing
 pub mod Room
 pub mod Laying
 pub mod Sections

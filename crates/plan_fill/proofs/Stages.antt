@@ -15,10 +15,10 @@ use Rattle.plan_exprs.specs.Flatten.{Adding, addAt}
 use Rattle.plan_exprs.proofs.Flatten.{count, Laid, add-flat}
 use Rattle.tables.specs.Readers.{atMost}
 use Rattle.tables.proofs.Marking.{ReadAt}
+use Rattle.tables.proofs.Placing.{Coded}
 use Rattle.plan_fill.specs.Filling.{upTo, Filling, filling, fillWire, fillPlace, fillThread}
 use Rattle.plan_fill.specs.Holding.{Lies}
 use Rattle.plan_fill.proofs.Kept.{Kept, kept-then, kept-wider, sumBelow, Stepped, Ran, run}
-use Rattle.plan_fill.proofs.Placing.{Coded}
 use Rattle.plan_fill.proofs.Room.{nodesOf}
 use Rattle.plan_fill.proofs.Laying.{Ready, ready-kept, laid-kept, laid-lies, PutIn, put-stays, Filled, instr-filled, WireIn, wire-stays}
 

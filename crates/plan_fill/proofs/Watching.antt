@@ -18,10 +18,10 @@ use Rattle.pseudocode.proofs.Fetching.{term-of}
 use Rattle.tables.specs.Readers.{atMost, markVariable}
 use Rattle.tables.proofs.Readers.{atMost-same}
 use Rattle.tables.proofs.Marking.{Marks, marks-none, marks-then, marks-variable, Below, below-none, below-more}
+use Rattle.tables.proofs.Placing.{Coded, codes-wait, codes-set, codes-later, codes-go, codes-ifnot}
 use Rattle.plan_fill.specs.Filling.{upTo, watchTerm, watchInstr, watchPlace, watchThread}
 use Rattle.plan_fill.specs.Holding.{anyBelow, namedBy, names}
 use Rattle.plan_fill.proofs.Kept.{up-to}
-use Rattle.plan_fill.proofs.Placing.{Coded, codes-wait, codes-set, codes-later, codes-go, codes-ifnot}
 
 -- ---- what a wait names
 

@@ -32,7 +32,7 @@ use Rattle.tables.specs.Holding.{Fetched, Holding}
 use Rattle.tables.proofs.Readers.{atMost-same}
 use Rattle.tables.proofs.Marking.{ReadAt, Below, below}
 use Rattle.tables.proofs.Watching.{watched-named}
-use Rattle.tables.proofs.Placing.{stands, located-read, placed-fetched, placed-wait, placed-at, Threaded, threads-placed}
+use Rattle.tables.proofs.Placing.{stands, located-read, Coded, placed-coded, placed-fetched, placed-wait, placed-at, Threaded, threads-placed}
 
 -- An element of a list is the same whatever stands for none.
 getD-any : {A : Type 0} (xs : List A) (k : ℕ) (a b : A) → k < length xs → getD xs k a ≡ getD xs k b
@@ -90,6 +90,7 @@ accepted s r h =
     let ts = bind-ok (readThreads (located s) c s (hd .0 .threads) (es .0 .next)) _ (es .2) in
     let z = check-ok (eqb (ts .0 .next) (length s)) 10 (ts .0 .next) _ (ts .2) in
     let x = headed s (hd .1) in
+    let few : c .inputs + c .registers ≤ 256 = omega (arith, x .inputs-most, x .registers-most) in
     let w = wires-count (located s) c s (hd .0 .wires) (c .inputs + c .registers) (hd .0 .next) (es .1) in
     let t = threads-count (located s) c s (hd .0 .threads) (es .0 .next) (ts .1) in
     rw (← ok-injective (z .1))
@@ -98,7 +99,7 @@ accepted s r h =
       wires = omega (arith, w, x .wires-most);
       threads = omega (arith, t, x .threads-most);
       wire = wires-placed c s (hd .0 .wires) (c .inputs + c .registers) (hd .0 .next) (es .1);
-      thread = threads-placed c s (hd .0 .threads) (es .0 .next) (ts .1);
+      thread = threads-placed c s few (hd .0 .threads) (es .0 .next) (ts .1);
     })
 
 -- ---- the places of the wires
@@ -165,6 +166,13 @@ module _ (s code : List ℕ) (r : Sheet ℕ) (x : Accepted s r) where
   module _ (z : Compiles s (r .contents .threads) table) where
     pub size-at : (i : ℕ) → i < length threads → getD (table .sizes) i 0 ≡ length (threadCode (getD threads i empty))
     size-at i h = z .size-of i (thread-below i h) ∙ sym (thread-size i)
+
+    pub coded-at : (i p : ℕ) → i < length threads → p < length (threadCode (getD threads i empty))
+        → Coded ws s (getD (threadCode (getD threads i empty)) p (go 0)) (fetchAt s (table .code) i p)
+    coded-at i p h l =
+        let n = thread-size i in
+        let b = thread-below i h in
+        rw (z .fetched i p b (omega arith), thread-at i) (placed-coded (placed-at (x .thread i b .placed) p))
 
     fetched-at : (i p : ℕ) → i < length threads → p < length (threadCode (getD threads i empty))
         → Fetched s ws (getD (threadCode (getD threads i empty)) p (go 0)) (fetchAt s (table .code) i p)
@@ -239,6 +247,24 @@ holding s code r m h e long =
     (watchedBelow s (c .code) (c .sizes) (length (n .threads)) (replicate 80 false)))
     (module-same s r m h e)
     (holds s code r (accepted s r h) (compile-law s code r h long))
+
+-- Each instruction that is fetched is the translation's, with its expression read where the code says.
+abbrev AllCoded : List ℕ → List ℕ → Module Expr → Type 0
+AllCoded s code m =
+    (i p : ℕ) → i < length (m .threads) → p < length (threadCode (getD (m .threads) i empty))
+    → Coded (m .scope .widths) s (getD (threadCode (getD (m .threads) i empty)) p (go 0)) (fetchAt s code i p)
+
+coded-trees : (s code : List ℕ) (r : Sheet ℕ) → Accepted s r
+    → Compiles s (r .contents .threads) (compileAt s (length (r .contents .threads)) (r .body) code)
+    → AllCoded s (compileAt s (length (r .contents .threads)) (r .body) code .code) (trees s r .contents)
+unfolding trees mapModule
+coded-trees s code r x z = coded-at s code r x z
+
+pub coded : (s code : List ℕ) (r : Sheet ℕ) (m : Module Expr) → readSheet (located s) s ≡ ok r → read s ≡ ok m → length code ≡ 4096
+    → AllCoded s (compileAt s (length (r .contents .threads)) (r .body) code .code) m
+coded s code r m h e long =
+    subst (AllCoded s (compileAt s (length (r .contents .threads)) (r .body) code .code)) (module-same s r m h e)
+    (coded-trees s code r (accepted s r h) (compile-law s code r h long))
 
 -- ---- the counts that the code is handed are the module's
 
