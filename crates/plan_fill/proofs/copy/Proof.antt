@@ -1,9 +1,8 @@
 -- `plan_fill::copy` meets its contract. The loop's invariant: the words below `k` are put. Assumes nothing.
 use borrow.Author.Needs.{needs}
-use Prim.Native.Nat.{ℕ, _-_, _≤_}
-use mathlib.Core.Path.{_≡_}
+use mathlib.Core.Path.{_≡_, refl}
+use Prim.Native.Nat.{_-_, _≤_}
 use native.Mathlib.Omega.{arith}
-use mathlib.Core.Path.{refl}
 use Rattle.plan_fill.specs.Filling.{upTo, copyWord}
 use Rattle.plan_fill.proofs.Filling.{up-none, up-turn, up-end}
 use Rattle.plan_fill.proofs.copy.Statement.{statement}
@@ -17,16 +16,20 @@ abbrev μ-loop : tie.MeasureT-loop
 
 loop-holds : tie.Need-loop-holds Inv-loop μ-loop
 loop-holds c =
-    (search needs, up-none (copyWord (c .args .table .now) (c .args .base)) (c .args .plan .now))
+    let a = c .args in
+    (search needs, up-none (copyWord (a .table .now) (a .base)) (a .plan .now))
 
 loop-again : tie.Need-loop-again Inv-loop μ-loop
 unfolding copyWord
 loop-again c =
-    (omega arith, up-turn (copyWord (c .before .before .before .args .table .now) (c .before .before .before .args .base)) (c .before .before .before .args .plan .now) (c .before .before .loop .k) (c .before .before .loop .inv .1) refl)
+    let a = c .before .before .before .args in
+    let l = c .before .before .loop in
+    (omega arith, up-turn (copyWord (a .table .now) (a .base)) (a .plan .now) (l .k) (l .inv .1) refl)
 
 returns : tie.Need-returns Inv-loop μ-loop
 returns c =
-    up-end (copyWord (c .before .before .args .table .now) (c .before .before .args .base)) (c .before .before .args .plan .now) (c .before .loop .inv .1) (omega arith)
+    let a = c .before .before .args in
+    up-end (copyWord (a .table .now) (a .base)) (a .plan .now) (c .before .loop .inv .1) (omega arith)
 
 pub copy-spec : {M : Type 1} → statement M
 copy-spec =

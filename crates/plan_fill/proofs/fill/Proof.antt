@@ -11,7 +11,9 @@ use Rattle.plan_fill.proofs.fill.Tie as tie
 
 fill-watchers-requires : tie.Need-fill-watchers-requires
 fill-watchers-requires c κs =
-    omega (arith, atMost-most 8 (c .before .before .before .before .before .before .before .before .before .before .wide .result), c .before .before .before .before .before .before .before .before .before .at-most .ensures)
+    let at-at-most = c .before .before .before .before .before .before .before .before .before in
+    let at-wide = at-at-most .before in
+    omega (arith, atMost-most 8 (at-wide .wide .result), at-at-most .at-most .ensures)
 
 fill-wires-requires : tie.Need-fill-wires-requires
 fill-wires-requires c κs =
@@ -19,17 +21,33 @@ fill-wires-requires c κs =
 
 fill-threads-requires : tie.Need-fill-threads-requires
 fill-threads-requires c κs =
-    omega (arith, atMost-most 8 (c .before .before .before .before .before .before .before .before .before .before .before .before .before .before .before .before .before .before .before .before .before .before .before .wide .result), c .before .before .before .before .before .before .before .before .before .before .before .before .before .before .before .before .before .before .before .before .before .before .at-most .ensures)
+    let up-to-at-most = c .before .before .before .before .before .before .before .before .before .before .before in
+    let at-at-most = up-to-at-most .before .before .before .before .before .before .before .before .before .before .before in
+    let at-wide = at-at-most .before in
+    omega (arith, atMost-most 8 (at-wide .wide .result), at-at-most .at-most .ensures)
 
 returns : tie.Need-returns
 unfolding withWires withThreads codeOf
 returns c =
-    let a = c .before .before .before .before .before .before .before .before .before .before .before .before .before .before .before .before .before .before .before .before .before .before .before .before .before .before .before .before .args in
-    plan-filled (a .sheet .now) (a .t2) (a .plan .now) (c .before .before .before .before .before .before .before .before .before .before .before .before .before .before .before .before .before .before .before .before .before .before .before .before .before .compile .ensures .1) (c .before .before .before .before .before .before .before .before .before .before .before .before .before .before .before .before .before .before .before .before .before .before .before .before .before .compile .ensures .0)
-    (c .before .before .before .before .before .before .before .before .before .before .before .before .before .before .before .before .before .before .before .before .before .before .before .at-most .ensures ∙ ap (atMost 8) (c .before .before .before .before .before .before .before .before .before .before .before .before .before .before .before .before .before .before .before .before .before .before .before .before .wide .ensures))
-    (c .before .before .before .before .before .before .before .before .before .before .before .before .before .fill-watchers .ensures ∙ rw (c .before .before .before .before .before .before .before .before .before .before .before .before .before .before .before .before .before .fill-readers .ensures, c .before .before .before .before .before .before .before .before .before .before .before .before .before .before .before .before .before .before .before .fill-widths .ensures, c .before .before .before .before .before .before .before .before .before .before .before .before .before .before .before .before .before .before .before .before .before .fill-counts .ensures))
-    (c .before .before .before .before .before .before .before .before .before .before .fill-sizes .ensures)
-    (up-end (fillWire (a .sheet .now) (a .t2 .starts)) (filling 80 _) (c .before .before .before .before .fill-wires .ensures) (c .before .before .before .before .before .before .at-most2 .ensures ∙ ap (atMost 32) (c .before .before .before .before .before .before .before .wide2 .ensures)))
+    let at-fill-wires = c .before .before .before .before in
+    let at-at-most2 = at-fill-wires .before .before in
+    let at-wide2 = at-at-most2 .before in
+    let at-fill-sizes = at-wide2 .before .before .before in
+    let at-fill-watchers = at-fill-sizes .before .before .before in
+    let at-fill-readers = at-fill-watchers .before .before .before .before in
+    let at-fill-widths = at-fill-readers .before .before in
+    let at-fill-counts = at-fill-widths .before .before in
+    let at-at-most = at-fill-counts .before .before in
+    let at-wide = at-at-most .before in
+    let at-compile = at-wide .before in
+    let a = at-compile .before .before .before .args in
+    plan-filled (a .sheet .now) (a .t2) (a .plan .now) (at-compile .compile .ensures .1) (at-compile .compile .ensures .0)
+    (at-at-most .at-most .ensures ∙ ap (atMost 8) (at-wide .wide .ensures))
+    (at-fill-watchers .fill-watchers .ensures
+    ∙ rw (at-fill-readers .fill-readers .ensures, at-fill-widths .fill-widths .ensures, at-fill-counts .fill-counts .ensures))
+    (at-fill-sizes .fill-sizes .ensures)
+    (up-end (fillWire (a .sheet .now) (a .t2 .starts)) (filling 80 _) (at-fill-wires .fill-wires .ensures)
+    (at-at-most2 .at-most2 .ensures ∙ ap (atMost 32) (at-wide2 .wide2 .ensures)))
     (c .fill-threads .ensures)
 
 pub fill-spec : {M : Type 1} → statement M

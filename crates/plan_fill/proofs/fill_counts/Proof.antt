@@ -7,7 +7,15 @@ use Rattle.plan_fill.proofs.fill_counts.Tie as tie
 returns : tie.Need-returns
 unfolding withCounts
 returns c =
-    rw (c .put-four .ensures, c .before .before .before .before .widen .ensures, c .before .before .before .widen2 .ensures, c .before .before .widen3 .ensures, c .before .widen4 .ensures)
+    let at-widen2 = c .before .before .before in
+    let at-widen = at-widen2 .before in
+    rw (
+      c .put-four .ensures,
+      at-widen .widen .ensures,
+      at-widen2 .widen2 .ensures,
+      c .before .before .widen3 .ensures,
+      c .before .widen4 .ensures,
+    )
 
 pub fill-counts-spec : {M : Type 1} → statement M
 fill-counts-spec =

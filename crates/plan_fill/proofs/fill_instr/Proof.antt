@@ -6,11 +6,15 @@ use Rattle.plan_fill.proofs.fill_instr.Tie as tie
 
 returns : tie.Need-returns
 unfolding fillInstr
-returns c = rw (c .before .before .before .x .given .1) (c .fill-wait .ensures)
+returns c =
+    let at-x = c .before .before .before in
+    rw (at-x .x .given .1) (c .fill-wait .ensures)
 
 returns-2 : tie.Need-returns-2
 unfolding fillInstr
-returns-2 c = rw (c .before .before .before .x2 .given .1) (c .fill-act .ensures)
+returns-2 c =
+    let at-x2 = c .before .before .before in
+    rw (at-x2 .x2 .given .1) (c .fill-act .ensures)
 
 pub fill-instr-spec : {M : Type 1} → statement M
 fill-instr-spec =

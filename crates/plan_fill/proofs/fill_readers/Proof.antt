@@ -6,7 +6,9 @@ use Rattle.plan_fill.proofs.fill_readers.Tie as tie
 
 returns : tie.Need-returns
 unfolding withReaders
-returns c = rw (c .copy .ensures, c .before .before .before .fill-readers .ensures)
+returns c =
+    let at-fill-readers = c .before .before .before in
+    rw (c .copy .ensures, at-fill-readers .fill-readers .ensures)
 
 pub fill-readers-spec : {M : Type 1} → statement M
 fill-readers-spec =

@@ -1,7 +1,7 @@
 -- `plan_fill::fill_sizes` meets its contract. The loop's invariant: the sizes below `i` are put. Assumes nothing.
 use borrow.Author.Needs.{needs}
-use Prim.Native.Nat.{ℕ, _-_, _≤_}
 use mathlib.Core.Path.{_≡_}
+use Prim.Native.Nat.{_-_, _≤_}
 use native.Mathlib.Omega.{arith}
 use Rattle.plan_fill.specs.Filling.{upTo, putSize, withSizes}
 use Rattle.plan_fill.proofs.Filling.{up-none, up-turn, up-end, size-put}
@@ -19,8 +19,9 @@ loop-holds c = (search needs, up-none (putSize (c .args .sizes .now)) (c .args .
 
 loop-again : tie.Need-loop-again Inv-loop μ-loop
 loop-again c =
-    let a = c .before .before .before .before .args in
-    let l = c .before .before .before .loop in (
+    let at-loop = c .before .before .before in
+    let a = at-loop .before .args in
+    let l = at-loop .loop in (
       omega arith,
       up-turn (putSize (a .sizes .now)) (a .plan .now) (l .i) (l .inv .1)
           (size-put (a .sizes .now) (l .plan) (l .i) (c .size-word .ensures)),

@@ -1,7 +1,7 @@
 -- `plan_fill::fill_thread` meets its contract. The loop's invariant: the places below `p` are filled. Assumes nothing.
 use borrow.Author.Needs.{needs}
-use Prim.Native.Nat.{ℕ, _-_, _≤_}
 use mathlib.Core.Path.{_≡_}
+use Prim.Native.Nat.{_-_, _≤_}
 use native.Mathlib.Omega.{arith}
 use Rattle.plan_fill.specs.Filling.{upTo, filling, fillPlace}
 use Rattle.plan_fill.proofs.Filling.{up-none, up-turn, up-end, place-filled}
@@ -21,17 +21,20 @@ loop-holds c =
 
 loop-again : tie.Need-loop-again Inv-loop μ-loop
 loop-again c =
-    let a = c .before .before .before .before .before .before .args in
-    let l = c .before .before .before .before .loop in (
+    let at-loop = c .before .before .before .before in
+    let a = at-loop .before .before .args in
+    let l = at-loop .loop in (
       omega arith,
       up-turn (fillPlace (a .sheet .now) (a .code .now) (a .i)) (filling (a .first) (a .plan .now)) (l .p) (l .inv .1)
-          (place-filled (a .sheet .now) (a .code .now) (a .i) (l .p) (filling (l .free) (l .plan)) (c .before .before .fetch .ensures) (c .fill-instr .ensures)),
+          (place-filled (a .sheet .now) (a .code .now) (a .i) (l .p) (filling (l .free) (l .plan))
+          (c .before .before .fetch .ensures) (c .fill-instr .ensures)),
     )
 
 returns : tie.Need-returns Inv-loop μ-loop
 returns c =
     let a = c .before .before .before .args in
-    up-end (fillPlace (a .sheet .now) (a .code .now) (a .i)) (filling (a .first) (a .plan .now)) (c .before .loop .inv .1) (omega arith)
+    up-end (fillPlace (a .sheet .now) (a .code .now) (a .i)) (filling (a .first) (a .plan .now))
+    (c .before .loop .inv .1) (omega arith)
 
 pub fill-thread-spec : {M : Type 1} → statement M
 fill-thread-spec =

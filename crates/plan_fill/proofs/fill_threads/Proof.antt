@@ -1,7 +1,7 @@
 -- `plan_fill::fill_threads` meets its contract. The loop's invariant: the threads below `i` are filled. Assumes nothing.
 use borrow.Author.Needs.{needs}
-use Prim.Native.Nat.{ℕ, _-_, _≤_}
 use mathlib.Core.Path.{_≡_}
+use Prim.Native.Nat.{_-_, _≤_}
 use native.Mathlib.Omega.{arith}
 use Rattle.tables.proofs.Readers.{atMost-in, atMost-cut, atMost-most}
 use lib.ListN.{getD}
@@ -23,21 +23,29 @@ loop-holds c =
 
 fill-thread-requires : tie.Need-fill-thread-requires Inv-loop μ-loop
 fill-thread-requires c κs =
-    (omega arith, omega (arith, atMost-most 256 (getD (c .before .before .before .before .before .before .args .sizes .now) (c .before .before .before .before .loop .i) 0), c .before .at-most .ensures))
+    let at-loop = c .before .before .before .before in
+    let at-args = at-loop .before .before in (
+      omega arith,
+      omega (arith, atMost-most 256 (getD (at-args .args .sizes .now) (at-loop .loop .i) 0), c .before .at-most .ensures),
+    )
 
 loop-again : tie.Need-loop-again Inv-loop μ-loop
 loop-again c =
-    let a = c .before .before .before .before .before .before .before .args in
-    let l = c .before .before .before .before .before .loop in (
+    let at-loop = c .before .before .before .before .before in
+    let a = at-loop .before .before .args in
+    let l = at-loop .loop in (
       omega arith,
-      up-turn (fillThread (a .sheet .now) (a .code .now) (a .sizes .now)) (filling (a .first) (a .plan .now)) (l .i) (l .inv .1)
-          (thread-filled (a .sheet .now) (a .code .now) (a .sizes .now) (l .i) (filling (l .free) (l .plan)) (c .before .before .at-most .ensures) (c .fill-thread .ensures)),
+      up-turn (fillThread (a .sheet .now) (a .code .now) (a .sizes .now)) (filling (a .first) (a .plan .now)) (l .i)
+          (l .inv .1)
+          (thread-filled (a .sheet .now) (a .code .now) (a .sizes .now) (l .i) (filling (l .free) (l .plan))
+          (c .before .before .at-most .ensures) (c .fill-thread .ensures)),
     )
 
 returns : tie.Need-returns Inv-loop μ-loop
 returns c =
     let a = c .before .before .before .args in
-    up-end (fillThread (a .sheet .now) (a .code .now) (a .sizes .now)) (filling (a .first) (a .plan .now)) (c .before .loop .inv .1) (omega arith)
+    up-end (fillThread (a .sheet .now) (a .code .now) (a .sizes .now)) (filling (a .first) (a .plan .now))
+    (c .before .loop .inv .1) (omega arith)
 
 pub fill-threads-spec : {M : Type 1} → statement M
 fill-threads-spec =

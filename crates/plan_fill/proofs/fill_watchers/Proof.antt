@@ -6,7 +6,9 @@ use Rattle.plan_fill.proofs.fill_watchers.Tie as tie
 
 returns : tie.Need-returns
 unfolding withWatchers
-returns c = rw (c .copy .ensures, c .before .before .before .watch-threads .ensures)
+returns c =
+    let at-watch-threads = c .before .before .before in
+    rw (c .copy .ensures, at-watch-threads .watch-threads .ensures)
 
 pub fill-watchers-spec : {M : Type 1} → statement M
 fill-watchers-spec =

@@ -9,12 +9,27 @@ use Rattle.plan_fill.proofs.fill_widths.Tie as tie
 
 put-widths-requires : tie.Need-put-widths-requires
 put-widths-requires c κs =
-    omega (arith, atMost-most 80 (c .before .before .before .before .wide .result + c .before .before .before .wide2 .result + c .before .before .wide3 .result), c .before .at-most .ensures)
+    let at-wide2 = c .before .before .before in
+    let at-wide = at-wide2 .before in
+    omega (
+      arith,
+      atMost-most 80 (at-wide .wide .result + at-wide2 .wide2 .result + c .before .before .wide3 .result),
+      c .before .at-most .ensures,
+    )
 
 returns : tie.Need-returns
 unfolding withWidths
 returns c =
-    rw (c .put-widths .ensures, c .before .before .at-most .ensures, c .before .before .before .before .before .wide .ensures, c .before .before .before .before .wide2 .ensures, c .before .before .before .wide3 .ensures)
+    let at-wide3 = c .before .before .before in
+    let at-wide2 = at-wide3 .before in
+    let at-wide = at-wide2 .before in
+    rw (
+      c .put-widths .ensures,
+      c .before .before .at-most .ensures,
+      at-wide .wide .ensures,
+      at-wide2 .wide2 .ensures,
+      at-wide3 .wide3 .ensures,
+    )
 
 pub fill-widths-spec : {M : Type 1} → statement M
 fill-widths-spec =

@@ -1,7 +1,7 @@
 -- `plan_fill::put_four` meets its contract. Assumes nothing.
 use borrow.Author.Needs.{needs}
-use Rattle.plan_fill.specs.Filling.{putFour}
 use mathlib.Core.Path.{refl}
+use Rattle.plan_fill.specs.Filling.{putFour}
 use Rattle.plan_fill.proofs.put_four.Statement.{statement}
 use Rattle.plan_fill.proofs.put_four.Tie as tie
 

@@ -1,9 +1,8 @@
 -- `plan_fill::put_terms` meets its contract. The loop's invariant: the terms below `k` are put. Assumes nothing.
 use borrow.Author.Needs.{needs}
-use Prim.Native.Nat.{ℕ, _-_, _≤_}
-use mathlib.Core.Path.{_≡_}
+use mathlib.Core.Path.{_≡_, _∙_}
+use Prim.Native.Nat.{_-_, _≤_}
 use native.Mathlib.Omega.{arith}
-use mathlib.Core.Path.{_∙_}
 use Rattle.plan_fill.specs.Filling.{upTo, filling, putTerm}
 use Rattle.plan_fill.proofs.Filling.{up-none, up-turn, up-end, term-put}
 use Rattle.plan_fill.proofs.put_terms.Statement.{statement}
@@ -21,12 +20,16 @@ loop-holds c =
 
 loop-again : tie.Need-loop-again Inv-loop μ-loop
 loop-again c =
-    let a = c .before .before .before .before .before .before .before .before .before .args in
-    let l = c .before .before .before .before .before .before .before .before .loop in (
+    let at-widen = c .before .before .before in
+    let at-edge-number = at-widen .before in
+    let at-term-at = at-edge-number .before .before in
+    let at-loop = at-term-at .before .before in
+    let a = at-loop .before .args in
+    let l = at-loop .loop in (
       omega arith,
       up-turn (putTerm (a .t)) (filling (a .first) (a .plan .now)) (l .k) (l .inv .1)
-          (term-put (a .t) (l .k) (l .free) (l .plan) (c .before .before .before .before .before .before .term-at .ensures) (c .before .before .before .widen .ensures ∙ c .before .before .before .before .edge-number .ensures) (c .before .before .widen2 .ensures)
-          (c .before .put-node .ensures) (c .more .ensures)),
+          (term-put (a .t) (l .k) (l .free) (l .plan) (at-term-at .term-at .ensures) (at-widen .widen .ensures ∙ at-edge-number .edge-number .ensures)
+          (c .before .before .widen2 .ensures) (c .before .put-node .ensures) (c .more .ensures)),
     )
 
 returns : tie.Need-returns Inv-loop μ-loop

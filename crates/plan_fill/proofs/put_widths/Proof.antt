@@ -1,9 +1,8 @@
 -- `plan_fill::put_widths` meets its contract. The loop's invariant: the widths below `v` are put. Assumes nothing.
 use borrow.Author.Needs.{needs}
-use Prim.Native.Nat.{ℕ, _-_, _≤_}
-use mathlib.Core.Path.{_≡_}
+use mathlib.Core.Path.{_≡_, _∙_}
+use Prim.Native.Nat.{_-_, _≤_}
 use native.Mathlib.Omega.{arith}
-use mathlib.Core.Path.{_∙_}
 use Rattle.plan_fill.specs.Filling.{upTo, putWidth}
 use Rattle.plan_fill.proofs.Filling.{up-none, up-turn, up-end, width-put}
 use Rattle.plan_fill.proofs.put_widths.Statement.{statement}
@@ -21,8 +20,9 @@ loop-holds c =
 
 loop-again : tie.Need-loop-again Inv-loop μ-loop
 loop-again c =
-    let a = c .before .before .before .before .before .args in
-    let l = c .before .before .before .loop in (
+    let at-loop = c .before .before .before in
+    let a = at-loop .before .before .args in
+    let l = at-loop .loop in (
       omega arith,
       up-turn (putWidth (a .sheet .now)) (a .plan .now) (l .v) (l .inv .1)
           (width-put (a .sheet .now) (l .plan) (l .v) (c .widen .ensures ∙ c .before .byte-at .ensures)),
@@ -30,7 +30,8 @@ loop-again c =
 
 returns : tie.Need-returns Inv-loop μ-loop
 returns c =
-    up-end (putWidth (c .before .before .before .args .sheet .now)) (c .before .before .before .args .plan .now) (c .before .loop .inv .1) (omega arith)
+    let at-args = c .before .before .before in
+    up-end (putWidth (at-args .args .sheet .now)) (at-args .args .plan .now) (c .before .loop .inv .1) (omega arith)
 
 pub put-widths-spec : {M : Type 1} → statement M
 put-widths-spec =

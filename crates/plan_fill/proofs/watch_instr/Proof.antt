@@ -12,8 +12,10 @@ returns c = rw (c .enum-told .given .1)
 returns-2 : tie.Need-returns-2
 unfolding watchInstr
 returns-2 c =
-    let a = c .before .before .before .before .before .before .args in
-    rw (c .before .before .before .before .x .given .1) (up-end (watchTerm (a .i) (c .before .before .before .before .x .given .0 .0)) (a .watchers .now) (c .watch-terms .ensures) (c .before .before .term-count .ensures))
+    let at-x = c .before .before .before .before in
+    let a = at-x .before .before .args in
+    rw (at-x .x .given .1)
+    (up-end (watchTerm (a .i) (at-x .x .given .0 .0)) (a .watchers .now) (c .watch-terms .ensures) (c .before .before .term-count .ensures))
 
 pub watch-instr-spec : {M : Type 1} → statement M
 watch-instr-spec =

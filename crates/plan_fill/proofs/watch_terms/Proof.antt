@@ -1,7 +1,7 @@
 -- `plan_fill::watch_terms` meets its contract. The loop's invariant: the terms below `k` are marked. Assumes nothing.
 use borrow.Author.Needs.{needs}
-use Prim.Native.Nat.{ℕ, _-_, _≤_}
 use mathlib.Core.Path.{_≡_}
+use Prim.Native.Nat.{_-_, _≤_}
 use native.Mathlib.Omega.{arith}
 use Rattle.plan_fill.specs.Filling.{upTo, watchTerm}
 use Rattle.plan_fill.proofs.Filling.{up-none, up-turn, up-end, term-watched}
@@ -19,8 +19,9 @@ loop-holds c = (search needs, up-none (watchTerm (c .args .i) (c .args .t)) (c .
 
 loop-again : tie.Need-loop-again Inv-loop μ-loop
 loop-again c =
-    let a = c .before .before .before .before .before .args in
-    let l = c .before .before .before .before .loop in (
+    let at-loop = c .before .before .before .before in
+    let a = at-loop .before .args in
+    let l = at-loop .loop in (
       omega arith,
       up-turn (watchTerm (a .i) (a .t)) (a .watchers .now) (l .k) (l .inv .1)
           (term-watched (a .i) (a .t) (l .k) (l .watchers) (c .before .before .term-at .ensures) (c .mark-variable .ensures)),

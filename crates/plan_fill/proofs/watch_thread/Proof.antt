@@ -1,7 +1,7 @@
 -- `plan_fill::watch_thread` meets its contract. The loop's invariant: the places below `p` are marked. Assumes nothing.
 use borrow.Author.Needs.{needs}
-use Prim.Native.Nat.{ℕ, _-_, _≤_}
 use mathlib.Core.Path.{_≡_}
+use Prim.Native.Nat.{_-_, _≤_}
 use native.Mathlib.Omega.{arith}
 use Rattle.plan_fill.specs.Filling.{upTo, watchPlace}
 use Rattle.plan_fill.proofs.Filling.{up-none, up-turn, up-end, place-watched}
@@ -16,12 +16,14 @@ abbrev μ-loop : tie.MeasureT-loop
 
 loop-holds : tie.Need-loop-holds Inv-loop μ-loop
 loop-holds c =
-    (search needs, up-none (watchPlace (c .before .args .sheet .now) (c .before .args .code .now) (c .before .args .i)) (c .before .args .watchers .now))
+    let a = c .before .args in
+    (search needs, up-none (watchPlace (a .sheet .now) (a .code .now) (a .i)) (a .watchers .now))
 
 loop-again : tie.Need-loop-again Inv-loop μ-loop
 loop-again c =
-    let a = c .before .before .before .before .before .before .args in
-    let l = c .before .before .before .before .loop in (
+    let at-loop = c .before .before .before .before in
+    let a = at-loop .before .before .args in
+    let l = at-loop .loop in (
       omega arith,
       up-turn (watchPlace (a .sheet .now) (a .code .now) (a .i)) (a .watchers .now) (l .p) (l .inv .1)
           (place-watched (a .sheet .now) (a .code .now) (a .i) (l .p) (l .watchers) (c .before .before .fetch .ensures) (c .watch-instr .ensures)),

@@ -1,7 +1,7 @@
 -- `plan_fill::watch_threads` meets its contract. The loop's invariant: the threads below `i` are marked. Assumes nothing.
 use borrow.Author.Needs.{needs}
-use Prim.Native.Nat.{ℕ, _-_, _≤_}
 use mathlib.Core.Path.{_≡_}
+use Prim.Native.Nat.{_-_, _≤_}
 use native.Mathlib.Omega.{arith}
 use Rattle.plan_fill.specs.Filling.{upTo, watchThread}
 use Rattle.plan_fill.proofs.Filling.{up-none, up-turn, up-end, thread-watched}
@@ -21,8 +21,9 @@ loop-holds c =
 
 loop-again : tie.Need-loop-again Inv-loop μ-loop
 loop-again c =
-    let a = c .before .before .before .before .before .before .before .args in
-    let l = c .before .before .before .before .before .loop in (
+    let at-loop = c .before .before .before .before .before in
+    let a = at-loop .before .before .args in
+    let l = at-loop .loop in (
       omega arith,
       up-turn (watchThread (a .sheet .now) (a .code .now) (a .sizes .now)) (a .watchers .now) (l .i) (l .inv .1)
           (thread-watched (a .sheet .now) (a .code .now) (a .sizes .now) (l .i) (l .watchers) (c .before .before .at-most .ensures) (c .watch-thread .ensures)),
