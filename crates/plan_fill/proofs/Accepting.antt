@@ -31,7 +31,8 @@ widths-narrow (suc n) s at h v =
     let x = within-ok 1 32 4 s at (w .1) in
     rw (← ok-injective (ws .2)) (by (w .0) (ws .0) (x .most) (widths-narrow n s (at + 1) (ws .1)) v)
   where
-    by : (a : ℕ) (bs : List ℕ) → a ≤ 32 → ((j : ℕ) → j < length bs → getD bs j 0 ≤ 32) → (j : ℕ) → j < length (a ∷ bs) → getD (a ∷ bs) j 0 ≤ 32
+    by : (a : ℕ) (bs : List ℕ) → a ≤ 32 → ((j : ℕ) → j < length bs → getD bs j 0 ≤ 32)
+        → (j : ℕ) → j < length (a ∷ bs) → getD (a ∷ bs) j 0 ≤ 32
     by a bs x y zero l = x
     by a bs x y (suc j) l = y j (le-of-suc-le-suc l)
 
@@ -47,7 +48,8 @@ head-narrow s e v =
     let x = within-ok 1 1 4 s 4 (c .1) in
     rw (← ok-injective (ws .2)) (by (c .0) (ws .0) (x .most) (widths-narrow (i .0 + r .0 + w .0 - 1) s 5 (ws .1)) v)
   where
-    by : (a : ℕ) (bs : List ℕ) → a ≤ 1 → ((j : ℕ) → j < length bs → getD bs j 0 ≤ 32) → (j : ℕ) → j < length (a ∷ bs) → getD (a ∷ bs) j 0 ≤ 32
+    by : (a : ℕ) (bs : List ℕ) → a ≤ 1 → ((j : ℕ) → j < length bs → getD bs j 0 ≤ 32)
+        → (j : ℕ) → j < length (a ∷ bs) → getD (a ∷ bs) j 0 ≤ 32
     by a bs x y zero l = omega arith
     by a bs x y (suc j) l = y j (le-of-suc-le-suc l)
 

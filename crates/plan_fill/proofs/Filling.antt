@@ -17,7 +17,8 @@ use Rattle.plan_exprs.specs.Flatten.{made, putNode, more, addAt}
 use Rattle.tables.specs.Readers.{atMost, markVariable}
 use Rattle.plan_fill.specs.Filling.{upTo, putFour, putWidth, putSize, watchTerm, watchInstr, watchPlace, watchThread}
 use Rattle.plan_fill.specs.Filling.{Filling, filling, fillWire, putTerm, fillWait, fillExpr, fillInstr, fillPlace, fillThread}
-use Rattle.plan_fill.specs.Filling.{withCounts, withWidths, withReaders, withWatchers, withSizes, withWires, withThreads, codeOf, filledPlan}
+use Rattle.plan_fill.specs.Filling.{withCounts, withWidths, withReaders, withWatchers, withSizes, withWires, withThreads}
+use Rattle.plan_fill.specs.Filling.{codeOf, filledPlan}
 
 -- ---- upTo: no step, one more, and the last
 

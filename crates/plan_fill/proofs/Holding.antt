@@ -33,7 +33,8 @@ use Rattle.tables.proofs.Marking.{Below}
 use Rattle.tables.proofs.Placing.{Coded}
 use Rattle.tables.proofs.Holding.{Accepted, accepted, wire-read, marked, thread-below, thread-size, size-at, coded-at, module-same}
 use Rattle.plan_fill.specs.Filling.{upTo, putFour, copyWord, putWidth, putSize, watchThread, Filling, filling, fillWire, fillThread}
-use Rattle.plan_fill.specs.Filling.{withCounts, withWidths, withReaders, withWatchers, withSizes, withWires, withThreads, codeOf, filledPlan}
+use Rattle.plan_fill.specs.Filling.{withCounts, withWidths, withReaders, withWatchers, withSizes, withWires, withThreads}
+use Rattle.plan_fill.specs.Filling.{codeOf, filledPlan}
 use Rattle.plan_fill.specs.Holding.{Lies, Planned, names, Holds}
 use Rattle.plan_fill.proofs.Filling.{plan-filled}
 use Rattle.plan_fill.proofs.Kept.{Kept, sumBelow, sumOver, sum-list, Ran}
@@ -113,7 +114,8 @@ module _ (ws : List ℕ) (v a : ℕ) where
   size-back h e = rw (lt-ltb v 8 h, e)
 
 -- A wire stays while the threads' nodes and code are filled in.
-wire-after : {base m n k a b : ℕ} {ws us : List ℕ} {e : Expr} → m ≤ n → b ≤ 24896 → Kept m a b ws us → WireIn base m ws k e → WireIn base n us k e
+wire-after : {base m n k a b : ℕ} {ws us : List ℕ} {e : Expr} → m ≤ n → b ≤ 24896 → Kept m a b ws us
+    → WireIn base m ws k e → WireIn base n us k e
 wire-after {base} {m} {n} {k} {ws = ws} {us = us} {e = e} h l y x =
     record {
       first = x .first;
@@ -190,7 +192,8 @@ module _ (s : List ℕ) (r : Sheet ℕ) (ws : List ℕ) (x : Accepted s r) (y : 
     sized : (i : ℕ) → i < length threads → atMost 256 (getD (table .sizes) i 0) ≡ length (is i)
     sized i h = ap (atMost 256) (size-at s blank r x z i h) ∙ atMost-same 256 (length (is i)) (code-most i h)
 
-    watched : Below (λ i. names (is i)) (length threads) (upTo (watchThread s (table .code) (table .sizes)) (length threads) (replicate 80 0))
+    watched : Below (λ i. names (is i)) (length threads)
+        (upTo (watchThread s (table .code) (table .sizes)) (length threads) (replicate 80 0))
     watched =
         let m = x .threads in
         let e = threads-same in
@@ -214,8 +217,8 @@ module _ (s : List ℕ) (r : Sheet ℕ) (ws : List ℕ) (x : Accepted s r) (y : 
     filled-done : filledPlan s (layoutOf r) ws ≡ done .words
     unfolding layoutOf withThreads withWires codeOf
     filled-done =
-        sym (plan-filled s (layoutOf r) ws {code = table .code} {sizes = table .sizes} {n = length threads} {g = done} refl refl (sym threads-cut)
-        refl refl (ap (λ (n : ℕ). upTo (fillWire s starts) n (filling 80 base-words)) (sym wires-cut)) refl)
+        sym (plan-filled s (layoutOf r) ws {code = table .code} {sizes = table .sizes} {n = length threads} {g = done}
+        refl refl (sym threads-cut) refl refl (ap (λ (n : ℕ). upTo (fillWire s starts) n (filling 80 base-words)) (sym wires-cut)) refl)
 
     abbrev Words : List ℕ → Type 0
     Words us =
@@ -275,13 +278,15 @@ module _ (s : List ℕ) (r : Sheet ℕ) (ws : List ℕ) (x : Accepted s r) (y : 
     threads-few : length threads ≤ 8
     threads-few = let e = threads-same in let m = x .threads in omega arith
 
-    wires-done : Ran (WireMade vs s (y .short) (x .widths) starts wire (length wires) wires-few (wire-read s blank r x)) (Ready vs) (fillWire s starts)
-        (λ k. count (wire k)) wirePlace (length wires) (filling 80 base-words) wired
+    wires-done : Ran (WireMade vs s (y .short) (x .widths) starts wire (length wires) wires-few (wire-read s blank r x))
+        (Ready vs) (fillWire s starts) (λ k. count (wire k)) wirePlace (length wires) (filling 80 base-words) wired
     wires-done =
         let a = room in
-        wires-ran vs s (y .short) (x .widths) starts wire (length wires) wires-few (wire-read s blank r x) (filling 80 base-words) (omega arith) base-ready (omega arith)
+        wires-ran vs s (y .short) (x .widths) starts wire (length wires) wires-few (wire-read s blank r x) (filling 80 base-words)
+        (omega arith) base-ready (omega arith)
 
-    threads-done : Ran (ThreadMade vs s (y .short) (x .widths) (table .code) (table .sizes) is (length threads) threads-few code-most coded sized)
+    threads-done : Ran
+        (ThreadMade vs s (y .short) (x .widths) (table .code) (table .sizes) is (length threads) threads-few code-most coded sized)
         (Ready vs) (fillThread s (table .code) (table .sizes)) (λ i. sumBelow (λ p. nodesOf (getD (is i) p (go 0))) (length (is i)))
         (λ i. codePlace i 0) (length threads) wired done
     threads-done =
@@ -340,7 +345,8 @@ module _ (s : List ℕ) (r : Sheet ℕ) (ws : List ℕ) (x : Accepted s r) (y : 
           threads = ap (λ (n : ℕ). n % 256) (t .threads) ∙ mod-eq-of-lt (omega arith) ∙ sym threads-same;
           width = λ v u. let b = y .bytes .narrow v u in
               width-back (done .words) v (getD vs v 0) (omega arith) (t .width v u ∙ y .bytes .same v u) (omega arith);
-          size = λ i u. let a = threads-few in size-back (done .words) i (length (is i)) (omega arith) (t .size i (omega arith) ∙ sized i u);
+          size = λ i u. let a = threads-few in
+              size-back (done .words) i (length (is i)) (omega arith) (t .size i (omega arith) ∙ sized i u);
           no-size = no-size;
           wire = wire-done;
           instruction = instr-done;

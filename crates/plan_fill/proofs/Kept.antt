@@ -93,7 +93,12 @@ module _ (Made : ℕ → ℕ → List ℕ → Type 0) (Ready : List ℕ → Type
     pub run : (n : ℕ) → n ≤ N → (f : Filling) → 80 ≤ f .free → Ready (f .words) → f .free + sumBelow cost n ≤ 4175 → Ran n f (upTo step n f)
     unfolding upTo sumBelow
     run zero h f l x r =
-        record { free = omega arith; kept = kept-none (f .free) (place 0) (place 0) (f .words); made = λ k u. absurd (not-suc-le-zero u); ready = x }
+        record {
+          free = omega arith;
+          kept = kept-none (f .free) (place 0) (place 0) (f .words);
+          made = λ k u. absurd (not-suc-le-zero u);
+          ready = x;
+        }
     run (suc n) h f l x r =
         let g = upTo step n f in
         let y = run n (omega arith) f l x (omega arith) in
@@ -104,8 +109,8 @@ module _ (Made : ℕ → ℕ → List ℕ → Type 0) (Ready : List ℕ → Type
           free = omega arith;
           kept = kept-then (y .kept) (z .kept) (omega arith) (rises 0 n (omega arith)) (rises n (suc n) (omega arith));
           made = λ k u. up-to k n u
-              (λ j. stays k (g .free) (step n g .free) (place n) (place (suc n)) (g .words) (step n g .words) (omega arith) (rises (suc k) n j)
-              (z .kept) (y .made k j))
+              (λ j. stays k (g .free) (step n g .free) (place n) (place (suc n)) (g .words) (step n g .words)
+              (omega arith) (rises (suc k) n j) (z .kept) (y .made k j))
               (λ j. rw j (z .made));
           ready = z .ready;
         }

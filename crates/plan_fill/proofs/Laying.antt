@@ -28,7 +28,8 @@ use Rattle.plan.specs.Plan.{Node, node, nodeAt, termFrom, termsFrom, decode, fe
 use Rattle.plan.proofs.Sections.{slot-same}
 use Rattle.plan_nodes.specs.Flat.{Flat, a-variable, a-constant, an-unknown, a-unary, a-binary, a-conditional}
 use Rattle.plan_exprs.specs.Flatten.{Adding, putNode, more, addAt}
-use Rattle.plan_exprs.proofs.Flatten.{four, four-length, four-other, four-0, four-1, four-2, four-3, put-length, put-same, put-below, put-above, node-kept, flat-kept, count, Laid, Widths, more-in, add-flat}
+use Rattle.plan_exprs.proofs.Flatten.{four, four-length, four-other, four-0, four-1, four-2, four-3, put-length, put-same}
+use Rattle.plan_exprs.proofs.Flatten.{put-below, put-above, node-kept, flat-kept, count, Laid, Widths, more-in, add-flat}
 use Rattle.tables.specs.Readers.{atMost}
 use Rattle.tables.proofs.Readers.{atMost-same}
 use Rattle.tables.proofs.Marking.{ReadAt}
@@ -117,7 +118,8 @@ four-put at k a b c ws h =
       root = four-3 at k a b c ws h;
     }
 
-pub four-kept : {at k a b c n x z : ℕ} {ws us : List ℕ} → 16704 ≤ at → at + 4 ≤ x → Kept n x z ws us → Four ws at k a b c → Four us at k a b c
+pub four-kept : {at k a b c n x z : ℕ} {ws us : List ℕ} → 16704 ≤ at → at + 4 ≤ x → Kept n x z ws us
+    → Four ws at k a b c → Four us at k a b c
 four-kept {at} h l y f =
     record {
       kind = y .before at (omega arith) (omega arith) ∙ f .kind;
@@ -145,7 +147,8 @@ abbrev pub TermNodes : List ℕ → ℕ → List EdgeTerm → ℕ → Type 0
 TermNodes ws n ts m = (k : ℕ) → k < m → nodeAt ws (n + k) ≡ termNode (getD ts k noTerm)
 
 pub data PutIn (base end : ℕ) (ws : List ℕ) (at : ℕ) : Instr Expr → Type 0 where
-  put-wait : {ts : List EdgeTerm} (n : ℕ) → length ts ≤ 8 → ((k : ℕ) → k < length ts → getD ts k noTerm .variable < 80) → n + length ts ≤ end
+  put-wait : {ts : List EdgeTerm} (n : ℕ) → length ts ≤ 8 → ((k : ℕ) → k < length ts → getD ts k noTerm .variable < 80)
+      → n + length ts ≤ end
       → Four ws at 0 (length ts) n 0 → TermNodes ws n ts (length ts) → PutIn base end ws at (wait! ts)
   put-set : {t : ℕ} {e : Expr} (n r : ℕ) → t < 256 → Four ws at 1 t n r → Lies (nodeAt ws) base end e (record { first = n; root = r })
       → PutIn base end ws at (set! t e)
@@ -159,10 +162,13 @@ pub put-stays : {base m n at a b : ℕ} {ws us : List ℕ} {j : Instr Expr} → 
     → PutIn base m ws at j → PutIn base n us at j
 put-stays {base} {m} {n} {ws = ws} {us = us} h l o k (put-wait {ts = ts} i x v r f t) =
     put-wait {ts = ts} i x v (omega arith) (four-kept l o k f) (λ c u. sym (node-kept ws us m (k .below) (i + c) (omega arith)) ∙ t c u)
-put-stays {base} {m} {n} {ws = ws} {us = us} h l o k (put-set i r b f x) = put-set i r b (four-kept l o k f) (lies-kept base m n ws us _ _ h (k .below) x)
-put-stays {base} {m} {n} {ws = ws} {us = us} h l o k (put-later i r b f x) = put-later i r b (four-kept l o k f) (lies-kept base m n ws us _ _ h (k .below) x)
+put-stays {base} {m} {n} {ws = ws} {us = us} h l o k (put-set i r b f x) =
+    put-set i r b (four-kept l o k f) (lies-kept base m n ws us _ _ h (k .below) x)
+put-stays {base} {m} {n} {ws = ws} {us = us} h l o k (put-later i r b f x) =
+    put-later i r b (four-kept l o k f) (lies-kept base m n ws us _ _ h (k .below) x)
 put-stays h l o k (put-go b f) = put-go b (four-kept l o k f)
-put-stays {base} {m} {n} {ws = ws} {us = us} h l o k (put-ifnot i r b f x) = put-ifnot i r b (four-kept l o k f) (lies-kept base m n ws us _ _ h (k .below) x)
+put-stays {base} {m} {n} {ws = ws} {us = us} h l o k (put-ifnot i r b f x) =
+    put-ifnot i r b (four-kept l o k f) (lies-kept base m n ws us _ _ h (k .below) x)
 
 -- ---- the terms of a wait, put as nodes
 
@@ -173,8 +179,8 @@ pub record TermsPut (ts : List EdgeTerm) (n : ℕ) (f g : Filling) : Type 0 wher
   pub long : length (g .words) ≡ length (f .words)
   pub nodes : TermNodes (g .words) (f .free) ts n
 
-term-more : (ts : List EdgeTerm) (n : ℕ) (f g : Filling) (x : EdgeTerm) → x ≡ getD ts n noTerm → 16704 ≤ length (f .words) → f .free + n < 4176
-    → TermsPut ts n f g
+term-more : (ts : List EdgeTerm) (n : ℕ) (f g : Filling) (x : EdgeTerm) → x ≡ getD ts n noTerm → 16704 ≤ length (f .words)
+    → f .free + n < 4176 → TermsPut ts n f g
     → TermsPut ts (suc n) f (filling (more (g .free)) (putNode (g .free) (edgeNumber (x .edge)) (x .variable) 0 0 (g .words)))
 term-more ts n f g x e long h y =
     let us = g .words in
@@ -199,7 +205,8 @@ unfolding upTo putTerm
 terms-put ts h zero f l r =
     record { free = omega arith; below = λ i u. refl; above = λ i u. refl; long = refl; nodes = λ k u. absurd (not-suc-le-zero u) }
 terms-put ts h (suc n) f l r =
-    term-more ts n f (upTo (putTerm (termsOf ts)) n f) (termAt (termsOf ts) n) (term-of ts n h) l (omega arith) (terms-put ts h n f l (omega arith))
+    term-more ts n f (upTo (putTerm (termsOf ts)) n f) (termAt (termsOf ts) n) (term-of ts n h) l (omega arith)
+    (terms-put ts h n f l (omega arith))
 
 -- ---- an instruction filled in
 
@@ -224,7 +231,8 @@ module _ (base at : ℕ) (f : Filling) (low : 16704 ≤ at) (high : at + 4 ≤ 2
         free = d;
         kept = kept-then t k (omega arith) (omega arith) (omega arith);
         put = put-wait {ts = ts} (f .free) h v (omega arith) (four-put at 0 (length ts) (f .free) 0 us (omega arith))
-            (λ c u. sym (node-kept us (putFour at 0 (length ts) (f .free) 0 us) (g .free) (k .below) (f .free + c) (omega arith)) ∙ y .nodes c u);
+            (λ c u. sym (node-kept us (putFour at 0 (length ts) (f .free) 0 us) (g .free) (k .below) (f .free + c) (omega arith))
+            ∙ y .nodes c u);
       }
 
   go-filled : (g : ℕ) → g < 256 → f .free ≤ 4175 → Filled base (go g) at f (filling (f .free) (putFour at 3 (g % 256) 0 0 (f .words)))
@@ -317,7 +325,9 @@ module _ (ws : List ℕ) (n : ℕ) (ts : List EdgeTerm) (most : length ts ≤ 8)
   term-back k = by (ltb k (length ts)) refl
     where
       by : (b : Bool) → ltb k (length ts) ≡ b
-          → pick b (record { edge = edgeOf (getD ws (4 * slotOf (n + k)) 0 % 256); variable = getD ws (4 * slotOf (n + k) + 1) 0 % 256 }) noTerm
+          → pick b
+          (record { edge = edgeOf (getD ws (4 * slotOf (n + k)) 0 % 256); variable = getD ws (4 * slotOf (n + k) + 1) 0 % 256 })
+          noTerm
           ≡ getD ts k noTerm
       by true e =
           let l = ltb-true k (length ts) e in
@@ -353,16 +363,19 @@ module _ (base end : ℕ) (ws : List ℕ) (i p : ℕ) (hi : i < 8) (he : end ≤
   planned (put-set n r h f x) =
       let a = x .room in
       let b = x .root in
-      rw (words-back f h (omega arith) (omega arith), waits-back f) (a-set (lies-kept base end 4176 ws ws _ _ (omega arith) (λ k u. refl) x))
+      rw (words-back f h (omega arith) (omega arith), waits-back f)
+      (a-set (lies-kept base end 4176 ws ws _ _ (omega arith) (λ k u. refl) x))
   planned (put-later n r h f x) =
       let a = x .room in
       let b = x .root in
-      rw (words-back f h (omega arith) (omega arith), waits-back f) (a-later (lies-kept base end 4176 ws ws _ _ (omega arith) (λ k u. refl) x))
+      rw (words-back f h (omega arith) (omega arith), waits-back f)
+      (a-later (lies-kept base end 4176 ws ws _ _ (omega arith) (λ k u. refl) x))
   planned (put-go h f) = rw (words-back f h (omega arith) (omega arith), waits-back f) a-go
   planned (put-ifnot n r h f x) =
       let a = x .room in
       let b = x .root in
-      rw (words-back f h (omega arith) (omega arith), waits-back f) (an-ifnot (lies-kept base end 4176 ws ws _ _ (omega arith) (λ k u. refl) x))
+      rw (words-back f h (omega arith) (omega arith), waits-back f)
+      (an-ifnot (lies-kept base end 4176 ws ws _ _ (omega arith) (λ k u. refl) x))
 
 -- ---- a wire's words and nodes
 

@@ -13,7 +13,8 @@ use Rattle.sheet.specs.Module.{Listed, readWires, readThreads}
 use Rattle.sheet.proofs.Reading.{bind-ok, check-ok, ok-injective}
 use Rattle.sheet.proofs.Expression as reading
 use Rattle.sheet.proofs.Expression.{Reads, derive}
-use Rattle.sheet.proofs.Statements.{terms-length, ReadsStmt, an-empty, an-assign, a-later, a-sequence, an-if, an-if-else, a-while, a-forever, a-wait, derive-stmt}
+use Rattle.sheet.proofs.Statements.{terms-length, ReadsStmt, an-empty, an-assign, a-later, a-sequence, an-if, an-if-else, a-while}
+use Rattle.sheet.proofs.Statements.{a-forever, a-wait, derive-stmt}
 use Rattle.sheet.proofs.Trees.{expr-at}
 use Rattle.pseudocode.specs.Translation.{Instr, wait!, set!, later!, go, ifnot, translate, threadCode}
 use Rattle.plan_exprs.proofs.Flatten.{count}
@@ -79,7 +80,8 @@ module _ (c : Scope) (s : List ℕ) where
       let w = located-room s (c .widths) _ e in
       let u = stmt-room x (n + 1) in
       let v = stmt-room y (n + 2 + i) in
-      let z = total-append (translate (mapStmt treeAt (a .stmt)) (n + 1)) (go (n + 2 + i + j) ∷ translate (mapStmt treeAt (b .stmt)) (n + 2 + i)) in
+      let z = total-append (translate (mapStmt treeAt (a .stmt)) (n + 1))
+      (go (n + 2 + i + j) ∷ translate (mapStmt treeAt (b .stmt)) (n + 2 + i)) in
       omega arith
   stmt-room (a-while {a = a} l m e x) n =
       let w = located-room s (c .widths) _ e in

@@ -19,7 +19,8 @@ pub record Put (base n : ℕ) (g : ℕ → ℕ) (ws us : List ℕ) : Type 0 wher
   pub after : (i : ℕ) → base + n ≤ i → getD us i 0 ≡ getD ws i 0
   pub long : length us ≡ length ws
 
-put-more : (base n : ℕ) (g : ℕ → ℕ) (ws us : List ℕ) → base + n < length ws → Put base n g ws us → Put base (suc n) g ws (set us (base + n) (g n))
+put-more : (base n : ℕ) (g : ℕ → ℕ) (ws us : List ℕ) → base + n < length ws → Put base n g ws us
+    → Put base (suc n) g ws (set us (base + n) (g n))
 put-more base n g ws us h y =
     let l = y .long in
     record {
@@ -62,7 +63,8 @@ module _ {a b c d n : ℕ} {widths readers watchers sizes : ℕ → ℕ} where
         registers = count 25201 (omega arith) (omega arith) ∙ f .number;
         wires = count 25202 (omega arith) (omega arith) ∙ f .first;
         threads = count 25203 (omega arith) (omega arith) ∙ f .root;
-        width = λ v u. t .before (25120 + v) (omega arith) ∙ r .after (25120 + v) (omega arith) ∙ q .after (25120 + v) (omega arith) ∙ p .own v u;
+        width = λ v u. t .before (25120 + v) (omega arith) ∙ r .after (25120 + v) (omega arith)
+            ∙ q .after (25120 + v) (omega arith) ∙ p .own v u;
         readers-at = λ v u. t .before (24960 + v) (omega arith) ∙ r .before (24960 + v) (omega arith) ∙ q .own v u;
         watchers-at = λ v u. t .before (25040 + v) (omega arith) ∙ r .own v u;
         size = t .own;

@@ -20,7 +20,8 @@ use Rattle.plan_fill.specs.Filling.{upTo, Filling, filling, fillWire, fi
 use Rattle.plan_fill.specs.Holding.{Lies}
 use Rattle.plan_fill.proofs.Kept.{Kept, kept-then, kept-wider, sumBelow, Stepped, Ran, run}
 use Rattle.plan_fill.proofs.Room.{nodesOf}
-use Rattle.plan_fill.proofs.Laying.{Ready, ready-kept, laid-kept, laid-lies, PutIn, put-stays, Filled, instr-filled, WireIn, wire-stays}
+use Rattle.plan_fill.proofs.Laying.{Ready, ready-kept, laid-kept, laid-lies, PutIn, put-stays, Filled, instr-filled}
+use Rattle.plan_fill.proofs.Laying.{WireIn, wire-stays}
 
 -- ---- two words of a wire
 
@@ -69,7 +70,8 @@ module _ (vs s : List ℕ) (short : length s ≤ 8192) (few : length vs ≤ 80) 
       let l : length (a .words) ≡ 25212 = y .long ∙ x .long in
       let k2 = two-kept m at (f .free) (a .added .root) (a .words) (omega arith) (omega arith) in
       let k1 : Kept (f .free) at (wirePlace (suc k)) (f .words) us =
-      kept-wider (kept-then (laid-kept (length vs) (f .free) (f .words) q a y at at (omega arith)) k2 (omega arith) (omega arith) (omega arith))
+      kept-wider
+      (kept-then (laid-kept (length vs) (f .free) (f .words) q a y at at (omega arith)) k2 (omega arith) (omega arith) (omega arith))
       (omega arith) (omega arith) (omega arith) in
       record {
         free = d;

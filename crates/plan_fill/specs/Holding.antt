@@ -67,7 +67,8 @@ pub record Holds (m : Module Expr) (q : Plan) : Type 0 where
   pub wire : (k : ℕ) → k < length (m .wires)
       → Lies (q .node) (length (m .scope .widths)) 4176 (getD (m .wires) k (unknown 1)) (q .wire k)
   pub instruction : (i p : ℕ) → i < length (m .threads) → p < length (threadCode (getD (m .threads) i empty))
-      → Planned (q .node) (length (m .scope .widths)) 4176 (getD (threadCode (getD (m .threads) i empty)) p (go 0)) (q .instruction i p) (q .waits i p)
+      → Planned (q .node) (length (m .scope .widths)) 4176 (getD (threadCode (getD (m .threads) i empty)) p (go 0))
+      (q .instruction i p) (q .waits i p)
   -- Bit k of v's readers: does wire k read v?
   pub read-by : (v k : ℕ) → v < 80 → k < length (m .wires) → getD (q .readers v) k false ≡ reads (getD (m .wires) k (unknown 1)) v
   pub read-by-none : (v k : ℕ) → v < 80 → length (m .wires) ≤ k → getD (q .readers v) k false ≡ false

@@ -16,7 +16,7 @@ ghost use lib.ListN.{replicate, set};
 ghost use Rattle.tables.specs.Readers.{atMost};
 ghost use Rattle.plan_fill.specs.Filling.{upTo, putFour, copyWord, putWidth, putSize, watchTerm, watchInstr, watchPlace, watchThread};
 ghost use Rattle.plan_fill.specs.Filling.{filling, fillWire, putTerm, fillWait, fillExpr, fillAct, fillInstr, fillPlace, fillThread};
-ghost use Rattle.plan_fill.specs.Filling.{withCounts, withWidths, withReaders, withWatchers, withSizes, withWires, withThreads, filledPlan};
+ghost use Rattle.plan_fill.specs.Filling.{withCounts, withWidths, withReaders, withWatchers, withSizes, filledPlan};
 
 // A byte as a place.
 fn wide(b: u8) -> usize
@@ -155,7 +155,10 @@ fn watch_threads(
     watchers: &mut [u32; 80],
 )
     requires { ⌜ n ≤ 8 ⌝ }
-    ensures { λ _. ⌜ now (watchers .exit) ≡ upTo (watchThread (now (sheet .entry)) (now (code .entry)) (now (sizes .entry))) n (now (watchers .entry)) ⌝ }
+    ensures { λ _. ⌜
+        now (watchers .exit)
+        ≡ upTo (watchThread (now (sheet .entry)) (now (code .entry)) (now (sizes .entry))) n (now (watchers .entry))
+        ⌝ }
 {
     let mut i: usize = 0;
     while i < n {
@@ -194,7 +197,10 @@ fn fill_sizes(sizes: &[usize; 8], plan: &mut PlanTable)
 // Lays out wire `k`, whose expression stands at `start`; the next free node.
 fn fill_wire(sheet: &[u8], starts: &[usize; 32], k: usize, free: u32, plan: &mut PlanTable) -> u32
     requires { ⌜ k < 32 ⌝ }
-    ensures { λ r. ⌜ filling r (now (plan .exit)) ≡ fillWire (now (sheet .entry)) (now (starts .entry)) k (filling free (now (plan .entry))) ⌝ }
+    ensures { λ r. ⌜
+        filling r (now (plan .exit))
+        ≡ fillWire (now (sheet .entry)) (now (starts .entry)) k (filling free (now (plan .entry)))
+        ⌝ }
 {
     let a = add_expr(sheet, starts[k], 16, free, plan);
     let at = plan::WIRES + 2 * k;
@@ -206,7 +212,10 @@ fn fill_wire(sheet: &[u8], starts: &[usize; 32], k: usize, free: u32, plan: &mut
 // Lays out the first wires; the next free node.
 fn fill_wires(sheet: &[u8], starts: &[usize; 32], n: usize, plan: &mut PlanTable) -> u32
     requires { ⌜ n ≤ 32 ⌝ }
-    ensures { λ r. ⌜ filling r (now (plan .exit)) ≡ upTo (fillWire (now (sheet .entry)) (now (starts .entry))) n (filling 80 (now (plan .entry))) ⌝ }
+    ensures { λ r. ⌜
+        filling r (now (plan .exit))
+        ≡ upTo (fillWire (now (sheet .entry)) (now (starts .entry))) n (filling 80 (now (plan .entry)))
+        ⌝ }
 {
     let mut free: u32 = 80;
     let mut k: usize = 0;
@@ -261,7 +270,10 @@ fn fill_expr(
     plan: &mut PlanTable,
 ) -> u32
     requires { ⌜ at < 25209 ⌝ }
-    ensures { λ r. ⌜ filling r (now (plan .exit)) ≡ fillExpr (now (sheet .entry)) start kind number at (filling free (now (plan .entry))) ⌝ }
+    ensures { λ r. ⌜
+        filling r (now (plan .exit))
+        ≡ fillExpr (now (sheet .entry)) start kind number at (filling free (now (plan .entry)))
+        ⌝ }
 {
     let a = add_expr(sheet, start, 16, free, plan);
     put_four(plan, at, kind, number, free, a.root);
@@ -318,7 +330,10 @@ fn fill_thread(
 ) -> u32
     requires { ⌜ i < 8 ⌝ }
     requires { ⌜ n ≤ 256 ⌝ }
-    ensures { λ r. ⌜ filling r (now (plan .exit)) ≡ upTo (fillPlace (now (sheet .entry)) (now (code .entry)) i) n (filling first (now (plan .entry))) ⌝ }
+    ensures { λ r. ⌜
+        filling r (now (plan .exit))
+        ≡ upTo (fillPlace (now (sheet .entry)) (now (code .entry)) i) n (filling first (now (plan .entry)))
+        ⌝ }
 {
     let mut free = first;
     let mut p: usize = 0;
@@ -340,7 +355,10 @@ fn fill_threads(
     plan: &mut PlanTable,
 ) -> u32
     requires { ⌜ n ≤ 8 ⌝ }
-    ensures { λ r. ⌜ filling r (now (plan .exit)) ≡ upTo (fillThread (now (sheet .entry)) (now (code .entry)) (now (sizes .entry))) n (filling first (now (plan .entry))) ⌝ }
+    ensures { λ r. ⌜
+        filling r (now (plan .exit))
+        ≡ upTo (fillThread (now (sheet .entry)) (now (code .entry)) (now (sizes .entry))) n (filling first (now (plan .entry)))
+        ⌝ }
 {
     let mut free = first;
     let mut i: usize = 0;

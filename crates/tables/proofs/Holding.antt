@@ -32,7 +32,8 @@ use Rattle.tables.specs.Holding.{Fetched, Holding}
 use Rattle.tables.proofs.Readers.{atMost-same}
 use Rattle.tables.proofs.Marking.{ReadAt, Below, below}
 use Rattle.tables.proofs.Watching.{watched-named}
-use Rattle.tables.proofs.Placing.{stands, located-read, Coded, placed-coded, placed-fetched, placed-wait, placed-at, Threaded, threads-placed}
+use Rattle.tables.proofs.Placing.{stands, located-read, Coded, placed-coded, placed-fetched, placed-wait, placed-at}
+use Rattle.tables.proofs.Placing.{Threaded, threads-placed}
 
 -- An element of a list is the same whatever stands for none.
 getD-any : {A : Type 0} (xs : List A) (k : ℕ) (a b : A) → k < length xs → getD xs k a ≡ getD xs k b

@@ -16,7 +16,8 @@ use Rattle.sheet.specs.Statement.{Stmt, empty, size, mapStmt, Scope, isRegister
 use Rattle.sheet.specs.Module.{Listed, readThreads}
 use Rattle.sheet.proofs.Reading.{bind-ok, check-ok, ok-injective}
 use Rattle.sheet.proofs.Expression.{derive}
-use Rattle.sheet.proofs.Statements.{ReadsTerms, no-terms, a-term, terms-length, ReadsStmt, an-empty, an-assign, a-later, a-sequence, an-if, an-if-else, a-while, a-forever, a-wait, derive-stmt}
+use Rattle.sheet.proofs.Statements.{ReadsTerms, no-terms, a-term, terms-length, derive-stmt}
+use Rattle.sheet.proofs.Statements.{ReadsStmt, an-empty, an-assign, a-later, a-sequence, an-if, an-if-else, a-while, a-forever, a-wait}
 use Rattle.sheet.proofs.Trees.{expr-at, size-map}
 use Rattle.evaluation.specs.Evaluation.{eval}
 use Rattle.evaluation.specs.declared.Evaluated.{Evaluated}
@@ -167,7 +168,8 @@ module _ (c : Scope) (s : List ℕ) where
   unfolding threadCode translate
   thread-placed few x h = placed-append (stmt-placed few x 0 (omega arith)) (more (goes {g = 0} (omega arith)) none)
 
-  pub threads-placed : c .inputs + c .registers ≤ 256 → (n p : ℕ) {l : Listed (Stmt ℕ)} → readThreads (located s) c s n p ≡ ok l → (i : ℕ) → i < length (l .items)
+  pub threads-placed : c .inputs + c .registers ≤ 256 → (n p : ℕ) {l : Listed (Stmt ℕ)} → readThreads (located s) c s n p ≡ ok l
+      → (i : ℕ) → i < length (l .items)
       → Threaded (getD (l .items) i empty)
   unfolding readThreads
   threads-placed few zero p h i = rw (← ok-injective h) (λ l. absurd (not-suc-le-zero l))

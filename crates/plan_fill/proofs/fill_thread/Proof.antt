@@ -9,7 +9,8 @@ use Rattle.plan_fill.proofs.fill_thread.Statement.{statement}
 use Rattle.plan_fill.proofs.fill_thread.Tie as tie
 
 abbrev Inv-loop : tie.InvT-loop
-Inv-loop sheet code i n first plan₀ free₀ p₀ plan free p = (p ≤ n) × (filling free plan ≡ upTo (fillPlace sheet code i) p (filling first plan₀))
+Inv-loop sheet code i n first plan₀ free₀ p₀ plan free p =
+    (p ≤ n) × (filling free plan ≡ upTo (fillPlace sheet code i) p (filling first plan₀))
 
 abbrev μ-loop : tie.MeasureT-loop
 μ-loop sheet code i n first plan₀ free₀ p₀ plan free p = n - p

@@ -11,7 +11,8 @@ use Rattle.plan_fill.proofs.fill_threads.Statement.{statement}
 use Rattle.plan_fill.proofs.fill_threads.Tie as tie
 
 abbrev Inv-loop : tie.InvT-loop
-Inv-loop sheet code sizes n first plan₀ free₀ i₀ plan free i = (i ≤ n) × (filling free plan ≡ upTo (fillThread sheet code sizes) i (filling first plan₀))
+Inv-loop sheet code sizes n first plan₀ free₀ i₀ plan free i =
+    (i ≤ n) × (filling free plan ≡ upTo (fillThread sheet code sizes) i (filling first plan₀))
 
 abbrev μ-loop : tie.MeasureT-loop
 μ-loop sheet code sizes n first plan₀ free₀ i₀ plan free i = n - i

@@ -28,7 +28,8 @@ loop-again c =
     let l = at-loop .loop in (
       omega arith,
       up-turn (putTerm (a .t)) (filling (a .first) (a .plan .now)) (l .k) (l .inv .1)
-          (term-put (a .t) (l .k) (l .free) (l .plan) (at-term-at .term-at .ensures) (at-widen .widen .ensures ∙ at-edge-number .edge-number .ensures)
+          (term-put (a .t) (l .k) (l .free) (l .plan) (at-term-at .term-at .ensures)
+          (at-widen .widen .ensures ∙ at-edge-number .edge-number .ensures)
           (c .before .before .widen2 .ensures) (c .before .put-node .ensures) (c .more .ensures)),
     )
 

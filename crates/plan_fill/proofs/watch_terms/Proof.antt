@@ -29,7 +29,8 @@ loop-again c =
 
 returns : tie.Need-returns Inv-loop μ-loop
 returns c =
-    up-end (watchTerm (c .before .before .args .i) (c .before .before .args .t)) (c .before .before .args .watchers .now) (c .before .loop .inv .1) (omega arith)
+    let a = c .before .before .args in
+    up-end (watchTerm (a .i) (a .t)) (a .watchers .now) (c .before .loop .inv .1) (omega arith)
 
 pub watch-terms-spec : {M : Type 1} → statement M
 watch-terms-spec =

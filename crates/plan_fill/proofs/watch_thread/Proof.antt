@@ -26,7 +26,8 @@ loop-again c =
     let l = at-loop .loop in (
       omega arith,
       up-turn (watchPlace (a .sheet .now) (a .code .now) (a .i)) (a .watchers .now) (l .p) (l .inv .1)
-          (place-watched (a .sheet .now) (a .code .now) (a .i) (l .p) (l .watchers) (c .before .before .fetch .ensures) (c .watch-instr .ensures)),
+          (place-watched (a .sheet .now) (a .code .now) (a .i) (l .p) (l .watchers)
+          (c .before .before .fetch .ensures) (c .watch-instr .ensures)),
     )
 
 returns : tie.Need-returns Inv-loop μ-loop

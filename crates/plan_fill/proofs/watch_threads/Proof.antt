@@ -26,7 +26,8 @@ loop-again c =
     let l = at-loop .loop in (
       omega arith,
       up-turn (watchThread (a .sheet .now) (a .code .now) (a .sizes .now)) (a .watchers .now) (l .i) (l .inv .1)
-          (thread-watched (a .sheet .now) (a .code .now) (a .sizes .now) (l .i) (l .watchers) (c .before .before .at-most .ensures) (c .watch-thread .ensures)),
+          (thread-watched (a .sheet .now) (a .code .now) (a .sizes .now) (l .i) (l .watchers)
+          (c .before .before .at-most .ensures) (c .watch-thread .ensures)),
     )
 
 returns : tie.Need-returns Inv-loop μ-loop
