@@ -8,3 +8,4 @@ pub mod Accepting
 pub mod Stages
 pub mod Holding
 pub mod Worked
+pub mod Samples
