@@ -1,7 +1,7 @@
 -- What is known of a sheet that was accepted: its head's bytes, its code, and the room for its nodes. Assumes nothing.
-use mathlib.Core.Path.{_≡_, refl, sym, ap, _∙_, subst}
-use mathlib.Core.List.{List, [], _∷_}
-use Prim.Native.Nat.{ℕ, zero, suc, _+_, _*_, _-_, _≤_, _<_}
+use mathlib.Core.Path.{_≡_, sym, ap, _∙_, subst}
+use mathlib.Core.List.{List, _∷_}
+use Prim.Native.Nat.{ℕ, zero, suc, _+_, _-_, _≤_, _<_}
 use native.Mathlib.Nat.{not-suc-le-zero, le-of-suc-le-suc}
 use native.Mathlib.Omega.{arith}
 use lib.Dec.{leb, eqb}
@@ -9,12 +9,11 @@ use lib.ListN.{length, getD, take, drop, length-take, length-drop}
 use lib.Seq.{getD-take, getD-drop}
 use borrow.Author.Tests.{leb-true, eqb-true}
 use Rattle.sheet.specs.Reading.{ok, within}
-use Rattle.sheet.specs.Expression.{Expr, located, exprAt}
-use Rattle.sheet.specs.Statement.{Stmt, empty, mapStmt, Scope}
+use Rattle.sheet.specs.Expression.{located, exprAt}
+use Rattle.sheet.specs.Statement.{mapStmt, Scope}
 use Rattle.sheet.specs.Module.{readWidths, Head, readHead, readWires, readThreads, Sheet, readSheet}
-use Rattle.sheet.specs.Parts.{headOf}
 use Rattle.sheet.proofs.Reading.{bind-ok, check-ok, ok-injective, within-ok}
-use Rattle.sheet.proofs.Sections.{wires-count, threads-count, Headed, headed}
+use Rattle.sheet.proofs.Sections.{wires-count, headed}
 use Rattle.pseudocode.specs.Translation.{threadCode}
 use Rattle.plan_exprs.proofs.Flatten.{count}
 use Rattle.plan_fill.proofs.Kept.{sumOver}

@@ -1,15 +1,14 @@
 -- Laws of the filling definitions, by the turns of the code: each takes what the calls left. Assumes nothing.
-use mathlib.Core.Path.{_≡_, refl, sym, ap, _∙_}
+use mathlib.Core.Path.{_≡_, refl, ap, _∙_}
 use mathlib.Core.List.{List}
-use Prim.Native.Nat.{ℕ, _+_, _*_, _%_}
+use Prim.Native.Nat.{ℕ, _+_}
 use native.Mathlib.Numerals.{add-one}
-use lib.ListN.{getD, set, replicate}
+use lib.ListN.{getD, set}
 use Rattle.values.specs.Edges.{edgeNumber}
 use Rattle.sheet.specs.declared.EdgeTerm.{EdgeTerm}
 use Rattle.sheet.specs.declared.Layout.{Layout}
 use Rattle.pseudocode.specs.declared.EdgeTerms.{EdgeTerms}
 use Rattle.pseudocode.specs.declared.Instruction.{Instruction}
-use Rattle.pseudocode.specs.Compiling.{compileAt}
 use Rattle.pseudocode.specs.Fetching.{termAt, fetchAt}
 use Rattle.plan.specs.Sections.{codePlace, wirePlace, widthPlace, sizePlace}
 use Rattle.plan_exprs.specs.declared.Added.{Added}

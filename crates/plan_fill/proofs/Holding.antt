@@ -2,7 +2,7 @@
 use mathlib.Core.Path.{_≡_, refl, sym, ap, _∙_, subst}
 use mathlib.Core.Bool.{Bool, true, false}
 use mathlib.Core.List.{List, [], _∷_, map}
-use Prim.Native.Nat.{ℕ, zero, suc, _+_, _*_, _%_, _≤_, _<_}
+use Prim.Native.Nat.{ℕ, zero, suc, _+_, _%_, _≤_, _<_}
 use native.Mathlib.Nat.{le-refl, mod-eq-of-lt}
 use native.Mathlib.Omega.{arith}
 use borrow.Author.Tests.{lt-ltb, ltb-true}
@@ -18,7 +18,6 @@ use Rattle.sheet.specs.declared.Layout.{Layout}
 use Rattle.sheet.specs.Answers.{startsOf, layoutOf, sheetAnswer}
 use Rattle.sheet.proofs.Trees.{trees, mapRes, read-located}
 use Rattle.sheet.proofs.Reading.{no≢ok}
-use Rattle.evaluation.specs.Evaluation.{reads}
 use Rattle.pseudocode.specs.Translation.{Instr, go, threadCode}
 use Rattle.pseudocode.specs.Compiling.{Compiled, compileAt}
 use Rattle.pseudocode.specs.Fetching as fetching
@@ -26,7 +25,7 @@ use Rattle.pseudocode.specs.Translated.{Compiles}
 use Rattle.pseudocode.proofs.Compiling.{compile-law}
 use Rattle.plan.specs.Sections.{codePlace, readersPlace, watchersPlace, widthPlace, sizePlace, wirePlace}
 use Rattle.plan.specs.Plan.{planOf, nodeAt, readersAt, watchersAt, widthAt, sizeAt}
-use Rattle.plan_exprs.proofs.Flatten.{count, Widths, four-length}
+use Rattle.plan_exprs.proofs.Flatten.{count, four-length}
 use Rattle.tables.specs.Readers.{atMost, readersBelow}
 use Rattle.tables.proofs.Readers.{atMost-most, atMost-same}
 use Rattle.tables.proofs.Marking.{Below}
@@ -39,11 +38,11 @@ use Rattle.plan_fill.specs.Holding.{Lies, Planned, names, Holds}
 use Rattle.plan_fill.proofs.Filling.{plan-filled}
 use Rattle.plan_fill.proofs.Kept.{Kept, sumBelow, sumOver, sum-list, Ran}
 use Rattle.plan_fill.proofs.Room.{nodesOf, total}
-use Rattle.plan_fill.proofs.Laying.{Ready, Four, four-put, PutIn, planned, WireIn, lies-kept, wire-planned}
+use Rattle.plan_fill.proofs.Laying.{Ready, Four, four-put, planned, WireIn, lies-kept, wire-planned}
 use Rattle.plan_fill.proofs.Sections.{Put, put-up, Tabled, tabled, tabled-kept}
 use Rattle.plan_fill.proofs.Watching.{watched-below}
 use Rattle.plan_fill.proofs.Accepting.{Sheeted, sheeted}
-use Rattle.plan_fill.proofs.Stages.{WireMade, wireCost, wires-ran, ThreadMade, threadCost, threadPlace, threads-ran}
+use Rattle.plan_fill.proofs.Stages.{WireMade, wires-ran, ThreadMade, threads-ran}
 
 -- ---- sums over a list of trees
 

@@ -1,5 +1,5 @@
 -- Words that stay while a stage fills its section and nodes, and stages of steps, one after the other. Assumes nothing.
-use mathlib.Core.Path.{_≡_, refl, sym, ap, _∙_, subst}
+use mathlib.Core.Path.{_≡_, refl, ap, _∙_}
 use mathlib.Core.Bool.{Bool, true, false}
 use mathlib.Core.List.{List, [], _∷_}
 use Prim.Native.Nat.{ℕ, zero, suc, _+_, _*_, _≤_, _<_}
@@ -89,8 +89,10 @@ module _ (Made : ℕ → ℕ → List ℕ → Type 0) (Ready : List ℕ → Type
 
   module _ (N : ℕ) (rises : (k n : ℕ) → k ≤ n → place k ≤ place n)
       (stays : (k m n a b : ℕ) (ws us : List ℕ) → m ≤ n → place (suc k) ≤ a → Kept m a b ws us → Made k m ws → Made k n us)
-      (stepped : (k : ℕ) → k < N → (f : Filling) → 80 ≤ f .free → Ready (f .words) → f .free + cost k ≤ 4175 → Stepped k f (step k f)) where
-    pub run : (n : ℕ) → n ≤ N → (f : Filling) → 80 ≤ f .free → Ready (f .words) → f .free + sumBelow cost n ≤ 4175 → Ran n f (upTo step n f)
+      (stepped : (k : ℕ) → k < N → (f : Filling) → 80 ≤ f .free → Ready (f .words) → f .free + cost k ≤ 4175
+      → Stepped k f (step k f)) where
+    pub run : (n : ℕ) → n ≤ N → (f : Filling) → 80 ≤ f .free → Ready (f .words) → f .free + sumBelow cost n ≤ 4175
+        → Ran n f (upTo step n f)
     unfolding upTo sumBelow
     run zero h f l x r =
         record {

@@ -4,12 +4,10 @@ use mathlib.Core.Bool.{Bool, true, false}
 use mathlib.Core.List.{List}
 use Prim.Native.Nat.{ℕ, zero, suc, _+_, _*_, _%_, _≤_, _<_}
 use native.Mathlib.Nat.{not-suc-le-zero, mod-eq-of-lt}
-use native.Mathlib.Numerals.{add-one}
 use native.Mathlib.Omega.{arith}
 use borrow.Author.Tests.{lt-ltb, ltb-true, ltb-false}
 use lib.Dec.{ltb, eqb}
-use lib.ListN.{length, getD, set, length-set, List·getD-eq-default}
-use lib.Seq.{getD-set-same, getD-set-other}
+use lib.ListN.{length, getD, List·getD-eq-default}
 use Rattle.values.specs.Values.{pick}
 use Rattle.values.specs.declared.Edge.{Edge}
 use Rattle.values.specs.declared.Edge.the-variants.{Change, Posedge, Negedge}
@@ -19,7 +17,6 @@ use Rattle.sheet.specs.Expression.{Expr, Parsed}
 use Rattle.pseudocode.specs.Translation.{Instr, wait!, set!, later!, go, ifnot}
 use Rattle.pseudocode.specs.Instruction.{noTerm, termsOf}
 use Rattle.pseudocode.specs.Fetching.{termAt}
-use Rattle.pseudocode.specs.declared.EdgeTerms.{EdgeTerms}
 use Rattle.pseudocode.specs.declared.Instruction as fetched
 use Rattle.pseudocode.proofs.Fetching.{term-of}
 use Rattle.plan.specs.declared.Expression.{Expression}
@@ -28,13 +25,12 @@ use Rattle.plan.specs.Plan.{Node, node, nodeAt, termFrom, termsFrom, decode, fe
 use Rattle.plan.proofs.Sections.{slot-same}
 use Rattle.plan_nodes.specs.Flat.{Flat, a-variable, a-constant, an-unknown, a-unary, a-binary, a-conditional}
 use Rattle.plan_exprs.specs.Flatten.{Adding, putNode, more, addAt}
-use Rattle.plan_exprs.proofs.Flatten.{four, four-length, four-other, four-0, four-1, four-2, four-3, put-length, put-same}
+use Rattle.plan_exprs.proofs.Flatten.{four-length, four-other, four-0, four-1, four-2, four-3, put-length, put-same}
 use Rattle.plan_exprs.proofs.Flatten.{put-below, put-above, node-kept, flat-kept, count, Laid, Widths, more-in, add-flat}
-use Rattle.tables.specs.Readers.{atMost}
 use Rattle.tables.proofs.Readers.{atMost-same}
 use Rattle.tables.proofs.Marking.{ReadAt}
 use Rattle.tables.proofs.Placing.{Coded, codes-wait, codes-set, codes-later, codes-go, codes-ifnot}
-use Rattle.plan_fill.specs.Filling.{upTo, putFour, Filling, filling, fillWire, putTerm, fillWait, fillExpr, fillAct, fillInstr}
+use Rattle.plan_fill.specs.Filling.{upTo, putFour, Filling, filling, putTerm, fillWait, fillExpr, fillAct, fillInstr}
 use Rattle.plan_fill.specs.Holding.{Lies, Planned, a-wait, a-set, a-later, a-go, an-ifnot}
 use Rattle.plan_fill.proofs.Kept.{up-to, Kept, kept-then}
 use Rattle.plan_fill.proofs.Room.{nodesOf}

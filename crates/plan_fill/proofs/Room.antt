@@ -1,14 +1,13 @@
 -- An expression, a wire, a thread take two bytes for each of their nodes, so that the nodes of a sheet have room. Assumes nothing.
-use mathlib.Core.Path.{_≡_, refl, sym, ap, _∙_}
+use mathlib.Core.Path.{_≡_}
 use mathlib.Core.List.{List, [], _∷_, _++_}
-use Prim.Native.Nat.{ℕ, zero, suc, _+_, _*_, _≤_, _<_}
+use Prim.Native.Nat.{ℕ, zero, suc, _+_, _*_, _≤_}
 use native.Mathlib.Omega.{arith}
 use lib.Dec.{leb, eqb}
 use lib.ListN.{length, getD}
-use Rattle.sheet.specs.declared.EdgeTerm.{EdgeTerm}
 use Rattle.sheet.specs.Reading.{ok}
-use Rattle.sheet.specs.Expression.{Expr, variable, constant, unknown, unary, binary, conditional, Parsed, tree, located, exprAt}
-use Rattle.sheet.specs.Statement.{Stmt, empty, size, mapStmt, Scope, Body, readStmt}
+use Rattle.sheet.specs.Expression.{Expr, Parsed, tree, located, exprAt}
+use Rattle.sheet.specs.Statement.{Stmt, size, mapStmt, Scope, Body, readStmt}
 use Rattle.sheet.specs.Module.{Listed, readWires, readThreads}
 use Rattle.sheet.proofs.Reading.{bind-ok, check-ok, ok-injective}
 use Rattle.sheet.proofs.Expression as reading

@@ -1,7 +1,7 @@
 -- All wires, all instructions of a thread, all threads: each lies in the plan when its stage is done. Assumes nothing.
-use mathlib.Core.Path.{_≡_, refl, sym, ap, _∙_}
+use mathlib.Core.Path.{_≡_, ap, _∙_}
 use mathlib.Core.List.{List}
-use Prim.Native.Nat.{ℕ, zero, suc, _+_, _*_, _≤_, _<_}
+use Prim.Native.Nat.{ℕ, suc, _+_, _≤_, _<_}
 use native.Mathlib.Nat.{le-refl}
 use native.Mathlib.Omega.{arith}
 use lib.ListN.{length, getD, set, length-set}
@@ -10,14 +10,12 @@ use Rattle.sheet.specs.Expression.{Expr, Parsed}
 use Rattle.pseudocode.specs.Translation.{Instr, go}
 use Rattle.pseudocode.specs.Fetching.{fetchAt}
 use Rattle.plan.specs.Sections.{codePlace, wirePlace}
-use Rattle.plan.specs.Plan.{nodeAt}
 use Rattle.plan_exprs.specs.Flatten.{Adding, addAt}
 use Rattle.plan_exprs.proofs.Flatten.{count, Laid, add-flat}
 use Rattle.tables.specs.Readers.{atMost}
 use Rattle.tables.proofs.Marking.{ReadAt}
 use Rattle.tables.proofs.Placing.{Coded}
 use Rattle.plan_fill.specs.Filling.{upTo, Filling, filling, fillWire, fillPlace, fillThread}
-use Rattle.plan_fill.specs.Holding.{Lies}
 use Rattle.plan_fill.proofs.Kept.{Kept, kept-then, kept-wider, sumBelow, Stepped, Ran, run}
 use Rattle.plan_fill.proofs.Room.{nodesOf}
 use Rattle.plan_fill.proofs.Laying.{Ready, ready-kept, laid-kept, laid-lies, PutIn, put-stays, Filled, instr-filled}

@@ -1,8 +1,8 @@
 -- The watchers' table holds for each thread the marks of the variables that its waits name, and no other. Assumes nothing.
 use mathlib.Core.Path.{_≡_, refl, sym, ap, _∙_}
-use mathlib.Core.Bool.{Bool, true, false, _||_, or-true}
+use mathlib.Core.Bool.{Bool, true, _||_, or-true}
 use mathlib.Core.List.{List}
-use Prim.Native.Nat.{ℕ, zero, suc, _+_, _≤_, _<_}
+use Prim.Native.Nat.{ℕ, zero, suc, _≤_, _<_}
 use native.Mathlib.Nat.{not-suc-le-zero, le-refl}
 use native.Mathlib.Omega.{arith}
 use borrow.Author.Tests.{eq-eqb}
@@ -12,10 +12,10 @@ use Rattle.sheet.specs.declared.EdgeTerm.{EdgeTerm}
 use Rattle.sheet.specs.Expression.{Expr}
 use Rattle.pseudocode.specs.Translation.{Instr, wait!, go}
 use Rattle.pseudocode.specs.Instruction.{noTerm, termsOf}
-use Rattle.pseudocode.specs.Fetching.{termAt, fetchAt}
+use Rattle.pseudocode.specs.Fetching.{fetchAt}
 use Rattle.pseudocode.specs.declared.Instruction as fetched
 use Rattle.pseudocode.proofs.Fetching.{term-of}
-use Rattle.tables.specs.Readers.{atMost, markVariable}
+use Rattle.tables.specs.Readers.{atMost}
 use Rattle.tables.proofs.Readers.{atMost-same}
 use Rattle.tables.proofs.Marking.{Marks, marks-none, marks-then, marks-variable, Below, below-none, below-more}
 use Rattle.tables.proofs.Placing.{Coded, codes-wait, codes-set, codes-later, codes-go, codes-ifnot}
@@ -32,8 +32,8 @@ any-true f k (suc n) h e =
     up-to k n h (λ l. rw (any-true f k n l e)) (λ q. ap (λ (b : Bool). anyBelow f n || b) (ap f (sym q) ∙ e) ∙ or-true (anyBelow f n))
 
 -- A wait that stands in the code names its terms' variables.
-pub names-term : (is : List (Instr Expr)) (p : ℕ) (ts : List EdgeTerm) (k : ℕ) → p < length is → getD is p (go 0) ≡ wait! ts → k < length ts
-    → names is (getD ts k noTerm .variable) ≡ true
+pub names-term : (is : List (Instr Expr)) (p : ℕ) (ts : List EdgeTerm) (k : ℕ) → p < length is → getD is p (go 0) ≡ wait! ts
+    → k < length ts → names is (getD ts k noTerm .variable) ≡ true
 unfolding names namedBy
 names-term is p ts k h e l =
     let v = getD ts k noTerm .variable in

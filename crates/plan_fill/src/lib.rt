@@ -11,12 +11,12 @@ use sheet::Layout;
 use sheet::byte_at;
 use tables::at_most;
 ghost use mathlib.Core.Path.{_≡_};
-ghost use Prim.Native.Nat.{_+_, _%_, _<_, _≤_};
-ghost use lib.ListN.{replicate, set};
+ghost use Prim.Native.Nat.{_%_, _<_, _≤_};
 ghost use Rattle.tables.specs.Readers.{atMost};
-ghost use Rattle.plan_fill.specs.Filling.{upTo, putFour, copyWord, putWidth, putSize, watchTerm, watchInstr, watchPlace, watchThread};
-ghost use Rattle.plan_fill.specs.Filling.{filling, fillWire, putTerm, fillWait, fillExpr, fillAct, fillInstr, fillPlace, fillThread};
-ghost use Rattle.plan_fill.specs.Filling.{withCounts, withWidths, withReaders, withWatchers, withSizes, filledPlan};
+ghost use Rattle.plan_fill.specs.Filling.{upTo, putFour, copyWord, putWidth, watchTerm, watchInstr, watchPlace};
+ghost use Rattle.plan_fill.specs.Filling.{watchThread, filling, fillWire, putTerm, fillWait, fillExpr, fillAct};
+ghost use Rattle.plan_fill.specs.Filling.{fillInstr, fillPlace, fillThread, withCounts, withWidths, withReaders};
+ghost use Rattle.plan_fill.specs.Filling.{withWatchers, withSizes, filledPlan};
 
 // A byte as a place.
 fn wide(b: u8) -> usize
@@ -176,7 +176,10 @@ fn fill_watchers(
     plan: &mut PlanTable,
 )
     requires { ⌜ n ≤ 8 ⌝ }
-    ensures { λ _. ⌜ now (plan .exit) ≡ withWatchers (now (sheet .entry)) (now (code .entry)) (now (sizes .entry)) n (now (plan .entry)) ⌝ }
+    ensures { λ _. ⌜
+        now (plan .exit)
+        ≡ withWatchers (now (sheet .entry)) (now (code .entry)) (now (sizes .entry)) n (now (plan .entry))
+        ⌝ }
 {
     let mut watchers = [0u32; 80];
     watch_threads(sheet, code, sizes, n, &mut watchers);

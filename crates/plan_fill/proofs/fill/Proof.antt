@@ -1,10 +1,10 @@
 -- `plan_fill::fill` meets its contract. Assumes nothing.
 use borrow.Author.Needs.{needs}
-use mathlib.Core.Path.{_≡_, ap, _∙_}
+use mathlib.Core.Path.{ap, _∙_}
 use native.Mathlib.Omega.{arith}
-use Rattle.tables.proofs.Readers.{atMost-in, atMost-cut, atMost-most}
+use Rattle.tables.proofs.Readers.{atMost-most}
 use Rattle.tables.specs.Readers.{atMost}
-use Rattle.plan_fill.specs.Filling.{filling, fillWire, withCounts, withWidths, withReaders, withWires, withThreads, codeOf}
+use Rattle.plan_fill.specs.Filling.{filling, fillWire, withWires, withThreads, codeOf}
 use Rattle.plan_fill.proofs.Filling.{up-end, plan-filled}
 use Rattle.plan_fill.proofs.fill.Statement.{statement}
 use Rattle.plan_fill.proofs.fill.Tie as tie

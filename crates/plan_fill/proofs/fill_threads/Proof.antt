@@ -3,7 +3,7 @@ use borrow.Author.Needs.{needs}
 use mathlib.Core.Path.{_≡_}
 use Prim.Native.Nat.{_-_, _≤_}
 use native.Mathlib.Omega.{arith}
-use Rattle.tables.proofs.Readers.{atMost-in, atMost-cut, atMost-most}
+use Rattle.tables.proofs.Readers.{atMost-most}
 use lib.ListN.{getD}
 use Rattle.plan_fill.specs.Filling.{upTo, filling, fillThread}
 use Rattle.plan_fill.proofs.Filling.{up-none, up-turn, up-end, thread-filled}

@@ -1,7 +1,7 @@
 -- `plan_fill::fill_widths` meets its contract. Assumes nothing.
 use borrow.Author.Needs.{needs}
 use native.Mathlib.Omega.{arith}
-use Rattle.tables.proofs.Readers.{atMost-in, atMost-cut, atMost-most}
+use Rattle.tables.proofs.Readers.{atMost-most}
 use Rattle.plan_fill.specs.Filling.{withWidths}
 use Prim.Native.Nat.{_+_}
 use Rattle.plan_fill.proofs.fill_widths.Statement.{statement}

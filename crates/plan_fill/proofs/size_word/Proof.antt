@@ -1,7 +1,7 @@
 -- `plan_fill::size_word` meets its contract. Assumes nothing.
 use borrow.Author.Needs.{needs}
 use mathlib.Core.Path.{sym}
-use Rattle.tables.proofs.Readers.{atMost-in, atMost-cut, atMost-most}
+use Rattle.tables.proofs.Readers.{atMost-in, atMost-cut}
 use Rattle.plan_fill.proofs.size_word.Statement.{statement}
 use Rattle.plan_fill.proofs.size_word.Tie as tie
 

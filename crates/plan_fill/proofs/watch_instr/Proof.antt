@@ -1,6 +1,6 @@
 -- `plan_fill::watch_instr` meets its contract. Assumes nothing.
 use borrow.Author.Needs.{needs}
-use Rattle.plan_fill.specs.Filling.{upTo, watchTerm, watchInstr}
+use Rattle.plan_fill.specs.Filling.{watchTerm, watchInstr}
 use Rattle.plan_fill.proofs.Filling.{up-end}
 use Rattle.plan_fill.proofs.watch_instr.Statement.{statement}
 use Rattle.plan_fill.proofs.watch_instr.Tie as tie
