@@ -15,7 +15,8 @@ returns-2 c =
     let at-x = c .before .before .before .before in
     let a = at-x .before .before .args in
     rw (at-x .x .given .1)
-    (up-end (watchTerm (a .i) (at-x .x .given .0 .0)) (a .watchers .now) (c .watch-terms .ensures) (c .before .before .term-count .ensures))
+    (up-end (watchTerm (a .i) (at-x .x .given .0 .0)) (a .watchers .now) (c .watch-terms .ensures)
+    (c .before .before .term-count .ensures))
 
 pub watch-instr-spec : {M : Type 1} → statement M
 watch-instr-spec =
