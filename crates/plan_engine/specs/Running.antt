@@ -30,6 +30,7 @@ runList q (c ∷ cs) room l = onward (takeChoice q room c l) (runList q cs (room
 
 -- ---- the plain run: "takes the lowest enabled item, else the commit"
 
+-- Is something enabled or held?
 unfoldable pub busy : Live → Bool
 busy l = anyMark (l .ready) || anyMark (l .due) || anyMark (l .held)
 

@@ -8,7 +8,8 @@ use plan::PlanTable;
 use plan_changes::Made;
 use plan_changes::Marks;
 ghost use mathlib.Core.Path.{_≡_};
-ghost use Prim.Native.Nat.{_<_, _-_};
+ghost use mathlib.Core.List.{List};
+ghost use Prim.Native.Nat.{ℕ, _<_, _-_};
 ghost use Rattle.values.specs.Planes.{valueAt};
 ghost use Rattle.masks.specs.Masks.{bits};
 ghost use Rattle.plan.specs.Plan.{planOf};
@@ -16,10 +17,25 @@ ghost use Rattle.plan_changes.specs.Scene.{changing, scene};
 ghost use Rattle.plan_changes.specs.Changes.{opened};
 ghost use Rattle.plan_engine.specs.Live.{live, rootOf, evaluate, worth};
 ghost use Rattle.plan_engine.specs.Acting.{pendingWith, heldWith, leg, act, settle, putRegister, putPending, commit, putInputs, feed};
+ghost use Rattle.plan_engine.specs.Running.{run, busy, plainChoice, runList, runPlain};
 ghost use Rattle.plan_engine.specs.Taking.{taken, takeThread, takeWire, takeCommit, takeChoice};
 
 // What a choice leaves: 0, or the number that refuses it, and the marks.
 pub struct Taken {
+    pub number: u8,
+    pub marks: Marks,
+}
+
+// What a run over a list leaves: how many choices were accepted, the number that stopped it, and the marks.
+pub struct ListRun {
+    pub accepted: usize,
+    pub number: u8,
+    pub marks: Marks,
+}
+
+// What a plain run leaves.
+pub struct PlainRun {
+    pub accepted: u16,
     pub number: u8,
     pub marks: Marks,
 }
@@ -417,4 +433,119 @@ pub fn take_choice(
         return take_commit(plan, cells, pending, places, marks, room);
     }
     Taken { number: 22, marks }
+}
+
+// Is something enabled or held?
+pub fn busy(marks: Marks) -> bool
+    ensures { λ r. ⌜ ((cs ns ps : List ℕ) → r ≡ busy (live cs ns ps marks)) ⌝ }
+{
+    if masks::any(marks.ready) {
+        return true;
+    }
+    if masks::any(marks.due) {
+        return true;
+    }
+    masks::any(marks.held)
+}
+
+// The lowest enabled item, else the commit.
+pub fn plain_choice(plan: &PlanTable, marks: Marks) -> usize
+    ensures { λ r. ⌜ ((cs ns ps : List ℕ) → r ≡ plainChoice (planOf (now (plan .entry))) (live cs ns ps marks)) ⌝ }
+{
+    if masks::any(marks.ready) {
+        return masks::lowest(marks.ready);
+    }
+    if masks::any(marks.due) {
+        return plan::threads(plan) + masks::lowest(marks.due);
+    }
+    255
+}
+
+// A run over a list of choices. It ends at the first refused one.
+pub fn run_list(
+    plan: &PlanTable,
+    cells: &mut Cells,
+    pending: &mut [u64; 32],
+    places: &mut [u8; 8],
+    marks: Marks,
+    choices: &[u8],
+    room: u64,
+) -> ListRun
+    ensures { λ r. ⌜
+        run (r .accepted) (r .number)
+        (live (now (cells .exit)) (now (pending .exit)) (now (places .exit)) (r .marks))
+        ≡ runList (planOf (now (plan .entry))) (now (choices .entry)) room
+        (live (now (cells .entry)) (now (pending .entry)) (now (places .entry)) marks)
+        ⌝ }
+{
+    let mut m = marks;
+    let mut left = room;
+    let mut i: usize = 0;
+    while i < choices.len() {
+        let c = wide(choices[i]);
+        let t = take_choice(plan, cells, pending, places, m, c, left);
+        m = t.marks;
+        if t.number != 0 {
+            return ListRun {
+                accepted: i,
+                number: t.number,
+                marks: m,
+            };
+        }
+        left -= 1;
+        i += 1;
+    }
+    ListRun {
+        accepted: i,
+        number: 0,
+        marks: m,
+    }
+}
+
+// The plain run of at most `limit` choices.
+pub fn run_plain(
+    plan: &PlanTable,
+    cells: &mut Cells,
+    pending: &mut [u64; 32],
+    places: &mut [u8; 8],
+    marks: Marks,
+    limit: u16,
+    room: u64,
+) -> PlainRun
+    ensures { λ r. ⌜
+        run (r .accepted) (r .number)
+        (live (now (cells .exit)) (now (pending .exit)) (now (places .exit)) (r .marks))
+        ≡ runPlain (planOf (now (plan .entry))) limit room
+        (live (now (cells .entry)) (now (pending .entry)) (now (places .entry)) marks)
+        ⌝ }
+{
+    let mut m = marks;
+    let mut left = room;
+    let mut i: u16 = 0;
+    while i < limit {
+        if !busy(m) {
+            return PlainRun {
+                accepted: i,
+                number: 0,
+                marks: m,
+            };
+        }
+        let c = plain_choice(plan, m);
+        let t = take_choice(plan, cells, pending, places, m, c, left);
+        m = t.marks;
+        if t.number != 0 {
+            return PlainRun {
+                accepted: i,
+                number: t.number,
+                marks: m,
+            };
+        }
+        left -= 1;
+        i += 1;
+    }
+    PlainRun {
+        accepted: i,
+        number: 0,
+        marks: m,
+    }
 }
