@@ -1,3 +1,5 @@
 pub mod Standing
 pub mod Waking
 pub mod Moving
+pub mod Changing
+pub mod Steps
