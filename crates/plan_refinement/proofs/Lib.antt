@@ -3,3 +3,4 @@ pub mod Waking
 pub mod Moving
 pub mod Changing
 pub mod Steps
+pub mod Commits

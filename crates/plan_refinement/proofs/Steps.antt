@@ -49,12 +49,12 @@ use Rattle.plan_refinement.proofs.Changing.{at-put, store-seen}
 -- ---- slots: the pending cells
 
 -- States that share them.
-record SameSlots (s t : State) : Type 0 where
-  held : s .held ≡ t .held
-  pending : s .pending ≡ t .pending
-  unsure : s .unsure ≡ t .unsure
+pub record SameSlots (s t : State) : Type 0 where
+  pub held : s .held ≡ t .held
+  pub pending : s .pending ≡ t .pending
+  pub unsure : s .unsure ≡ t .unsure
 
-slots-same : (s t : State) (ns : List ℕ) (hs : List Bool) → SameSlots s t → Slots t ns hs → Slots s ns hs
+pub slots-same : (s t : State) (ns : List ℕ) (hs : List Bool) → SameSlots s t → Slots t ns hs → Slots s ns hs
 slots-same s t ns hs e z =
     record {
       long = z .long;
@@ -63,7 +63,7 @@ slots-same s t ns hs e z =
     }
 
 -- A change fires waits and marks wires, and keeps them.
-slots-react : (m : Module Expr) (f : ℕ → Value) (st : State) → SameSlots (react m f st) st
+pub slots-react : (m : Module Expr) (f : ℕ → Value) (st : State) → SameSlots (react m f st) st
 unfolding withPlace withPlaces withDue withMarks
 slots-react m f st =
     record {
