@@ -4,3 +4,4 @@ pub mod Moving
 pub mod Changing
 pub mod Steps
 pub mod Commits
+pub mod Choices

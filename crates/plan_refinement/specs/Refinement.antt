@@ -1,6 +1,6 @@
 -- How a state lies in one plane of cells, places and masks, and which plans belong to a module. proofs/ shows that the steps of
 -- `plan_engine` on them are the steps of the simulation cycle.
-use Prim.Native.Nat.{ℕ, _<_, _≤_}
+use Prim.Native.Nat.{ℕ, _+_, _<_, _≤_}
 use mathlib.Core.Path.{_≡_}
 use mathlib.Core.Bool.{Bool, true, false}
 use mathlib.Core.List.{List}
@@ -17,6 +17,10 @@ use Rattle.state.specs.declared.State.{State}
 use Rattle.state.specs.State.{valueOf}
 use Rattle.soundness.specs.Soundness.{Sound}
 use Rattle.events.specs.Cycle.{codeOf, instrAt, isWait, wireExpr}
+use Rattle.events.specs.declared.Chosen.{Chosen}
+use Rattle.events.specs.declared.Ran.{Ran}
+use Rattle.events.specs.declared.Rested.{Rested}
+use Rattle.events.specs.Verdict.{numberOfVerdict}
 use Rattle.refinement.specs.Refinement.{readyIn}
 use Rattle.cells.specs.Cells as cell
 use Rattle.cells.specs.Cells.{cellAt}
@@ -27,6 +31,8 @@ use Rattle.plan.specs.declared.Instruction.the-variants.{Wait, Act}
 use Rattle.plan.specs.Plan.{Plan}
 use Rattle.plan_changes.specs.Scene.{Scene}
 use Rattle.plan_engine.specs.Live.{Live, sceneOf, evaluate, worth}
+use Rattle.plan_engine.specs.Taking.{Taken}
+use Rattle.plan_engine.specs.Running.{Run}
 
 -- ---- Seen, Shows: how a state lies in cells, places and marks. The cells past the 80 variables' are scratch.
 
@@ -49,6 +55,26 @@ pub record Slots (st : State) (ns : List ℕ) (hs : List Bool) : Type 0 where
 pub record Shows (m : Module Expr) (st : State) (l : Live) : Type 0 where
   pub scene : Seen m st (sceneOf l)
   pub slots : Slots st (l .pending) (l .held)
+
+-- ---- Takes, Runs, Rests: a choice and a run on a plan answer as the simulation cycle does
+
+pub record Takes (m : Module Expr) (r : Chosen) (t : Taken) : Type 0 where
+  pub number : t .number ≡ r .number
+  pub left : Shows m (r .state) (t .left)
+
+pub record Runs (m : Module Expr) (r : Ran) (t : Run) : Type 0 where
+  pub accepted : t .accepted ≡ r .accepted
+  pub number : t .number ≡ r .number
+  pub left : Shows m (r .state) (t .left)
+
+pub record Rests (m : Module Expr) (r : Rested) (t : Run) : Type 0 where
+  pub accepted : t .accepted ≡ r .accepted
+  pub number : t .number ≡ numberOfVerdict (r .verdict)
+  pub left : Shows m (r .state) (t .left)
+
+-- The room that is left beside a count: "count (for a choice) at 4,294,967,295".
+abbrev pub Room : ℕ → State → Type 0
+Room room st = room + st .count ≡ 4294967295
 
 -- ---- PlanOf: the plan of a module
 
