@@ -9,7 +9,7 @@ use lib.ListN.{length, getD}
 use lib.Dec.{ltb, eqb}
 use borrow.Author.Tests.{lt-ltb, le-ltb, ltb-true, ltb-false, eqb-true, eqb-false, eq-eqb, ne-eqb}
 use Rattle.values.specs.declared.Value.{Value}
-use Rattle.values.specs.Values.{pick}
+use Rattle.values.specs.Values.{pick, fits}
 use Rattle.sheet.specs.Expression.{Expr}
 use Rattle.sheet.specs.Module.{Module}
 use Rattle.pseudocode.specs.Translation.{Instr}
@@ -28,20 +28,20 @@ use Rattle.events.proofs.Cycle.{absurd-bool, any-below, below-none}
 use Rattle.events.proofs.Choices.{enabled-wire}
 use Rattle.events.proofs.Runs.{plain-lowest, plain-commit}
 use Rattle.refinement.specs.Refinement.{readyIn}
-use Rattle.refinement.proofs.Kept.{Kept, flag-none, pending-flag, kept-counted}
+use Rattle.refinement.proofs.Kept.{Kept, flag-none, pending-flag, kept-counted, kept-timed}
 use Rattle.refinement.proofs.Ready.{ready-thread, ready-past, ready-places}
 use Rattle.plan.specs.declared.Action.{Action}
 use Rattle.plan.specs.declared.Instruction.{Instruction}
 use Rattle.plan.specs.declared.Instruction.the-variants.{Wait, Act}
 use Rattle.plan.specs.Plan.{Plan}
 use Rattle.plan_engine.specs.Live.{Live, sceneOf, withScene}
-use Rattle.plan_engine.specs.Acting.{act, settle, commit}
+use Rattle.plan_engine.specs.Acting.{act, settle, commit, feed}
 use Rattle.plan_engine.specs.Taking.{Taken, taken, unless, takeInstruction, takeThread, takeWire, takeCommit, takeChoice}
 use Rattle.plan_engine.specs.Running.{busy, plainChoice}
 use Rattle.plan_refinement.specs.Refinement.{Seen, Slots, Shows, Takes, Room, PlanOf}
 use Rattle.plan_refinement.specs.Refinement.{Fetched, a-wait, a-set, a-later, a-go, an-ifnot}
 use Rattle.plan_refinement.proofs.Steps.{act-shows, settle-shows}
-use Rattle.plan_refinement.proofs.Commits.{commit-shows}
+use Rattle.plan_refinement.proofs.Commits.{commit-shows, feed-shows}
 
 -- ---- numbers and tests
 
@@ -374,3 +374,12 @@ module _ {m : Module Expr} {q : Plan} (w : PlanOf m q) (st : State) (k : Kept m 
           wire-takes (c - length (m .threads)) (omega arith)
       by false e false f true = commit-takes
       by false e false f false = refused st (cycle.commit m (counted st)) l 22 (λ u. omega arith) z
+
+  -- ---- the inputs of an instant
+
+  -- An instant is made on the state with one more in time.
+  pub feed-timed-shows : (a : ℕ → Value) → ((n : ℕ) → n < m .scope .inputs → fits 32 (a n) ≡ true)
+      → Shows m (cycle.feed m a (timed st)) (feed q a l)
+  unfolding timed
+  feed-timed-shows a fit =
+      feed-shows w (timed st) (kept-timed k) l (shows-withCounters m st (st .time + 1) (st .count) l z) a fit

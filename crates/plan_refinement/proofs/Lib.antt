@@ -5,3 +5,4 @@ pub mod Changing
 pub mod Steps
 pub mod Commits
 pub mod Choices
+pub mod Runs
