@@ -1,21 +1,18 @@
 -- Laws of a choice: by the tests of the code, and that an accepted choice found room. Assumes nothing.
-use mathlib.Core.Path.{_≡_, refl, ap, _∙_}
+use mathlib.Core.Path.{_≡_, ap, _∙_}
 use Prim.Native.Nat.{ℕ, _+_, _-_, _≤_, _<_}
 use native.Mathlib.Omega.{arith}
 use mathlib.Core.Bool.{Bool, true, false, _||_, or-true}
-use mathlib.Core.List.{List}
 use lib.ListN.{getD}
 use lib.Dec.{ltb, eqb}
 use borrow.Author.Tests.{lt-ltb, le-ltb, eq-eqb, ne-eqb}
 use Rattle.values.specs.Values.{pick}
 use Rattle.masks.specs.Masks.{anyMark}
-use Rattle.plan.specs.declared.Action.{Action}
 use Rattle.plan.specs.declared.Instruction.{Instruction}
 use Rattle.plan.specs.declared.Instruction.the-variants.{Wait, Act}
 use Rattle.plan.specs.Plan.{Plan}
-use Rattle.plan_changes.specs.Scene.{Scene}
-use Rattle.plan_engine.specs.Live.{Live, alive, sceneOf}
-use Rattle.plan_engine.specs.Acting.{act, settle, commit}
+use Rattle.plan_engine.specs.Live.{Live}
+use Rattle.plan_engine.specs.Acting.{act, commit}
 use Rattle.plan_engine.specs.Taking.{Taken, taken, unless, takeInstruction, takeThread, takeWire, takeCommit, takeChoice}
 
 -- ---- unless

@@ -1,6 +1,6 @@
 -- One choice on a plan, with its number: 0 where it is accepted. `room` is how many choices may still be accepted.
 use Prim.Native.Nat.{ℕ, _+_, _-_}
-use mathlib.Core.Bool.{Bool, false, _||_}
+use mathlib.Core.Bool.{false, _||_}
 use lib.ListN.{getD}
 use lib.Dec.{ltb, eqb}
 use Rattle.values.specs.Values.{pick}

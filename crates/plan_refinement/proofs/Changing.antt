@@ -1,14 +1,13 @@
 -- A change of values on a plan: an invariant in the midst of it, kept by each cell put; at its end stands the simulation cycle's
 -- change. Assumes nothing.
 use mathlib.Core.Path.{_≡_, refl, sym, ap, _∙_}
-use mathlib.Core.Logic.{_≢_}
 use mathlib.Core.Bool.{Bool, true, false, not, _&&_, _||_, and-true, and-false, or-false, or-assoc}
 use mathlib.Core.List.{List}
-use Prim.Native.Nat.{ℕ, _<_, _≤_}
+use Prim.Native.Nat.{ℕ, _<_}
 use native.Mathlib.Omega.{arith}
 use lib.ListN.{length, getD, set, length-set}
 use lib.Seq.{getD-set-same}
-use lib.Dec.{ltb, eqb}
+use lib.Dec.{eqb}
 use borrow.Author.Tests.{lt-ltb, eqb-true, eqb-false}
 use Rattle.values.specs.declared.Value.{Value}
 use Rattle.values.specs.Values.{pick, same}
@@ -25,10 +24,9 @@ use Rattle.masks.proofs.Masks.{length-bits, length-either, getD-either, flags-s
 use Rattle.state.specs.declared.State.{State}
 use Rattle.state.specs.State.{Shaped, valueOf, withValue, withPlanes, placeOf, withPlace, withPlaces, isDue, withDue, withMarks}
 use Rattle.state.proofs.Accessors.{value-withValue-same, value-withValue-other, due-withValue, place-withValue}
-use Rattle.events.specs.Cycle.{variables, codeOf, instrAt, current, wireExpr, anyBelow, waitFires}
+use Rattle.events.specs.Cycle.{variables, current, wireExpr, waitFires}
 use Rattle.events.specs.Cycle.{fireBelow, touched, react}
 use Rattle.events.proofs.Cycle.{below-none, touched-none, terms-quiet, kept-markBelow, kept-react, shaped-react, due-react}
-use Rattle.refinement.specs.Refinement.{readyIn}
 use Rattle.refinement.proofs.Kept.{Kept, kept-withValue}
 use Rattle.refinement.proofs.Ready.{ready-places}
 use Rattle.refinement.proofs.Changing.{touched-put}
@@ -38,7 +36,7 @@ use Rattle.cells.proofs.Cells.{at-set-other}
 use Rattle.plan.specs.declared.Instruction.{Instruction}
 use Rattle.plan.specs.declared.Instruction.the-variants.{Wait, Act}
 use Rattle.plan.specs.Plan.{Plan}
-use Rattle.plan_changes.specs.Scene.{Changing, changing, Scene, scene, stand}
+use Rattle.plan_changes.specs.Scene.{Changing, changing, Scene}
 use Rattle.plan_changes.specs.Changes.{eight, termWakes, wakes, wake, put, opened, move, finish, store}
 use Rattle.plan_changes.proofs.Changes.{eight-most}
 use Rattle.plan_refinement.specs.Refinement.{Holds, Seen, PlanOf}

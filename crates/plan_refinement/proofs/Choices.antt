@@ -7,7 +7,7 @@ use Prim.Native.Nat.{ℕ, _+_, _-_, _≤_, _<_}
 use native.Mathlib.Omega.{arith}
 use lib.ListN.{length, getD}
 use lib.Dec.{ltb, eqb}
-use borrow.Author.Tests.{lt-ltb, le-ltb, ltb-true, ltb-false, eqb-true, eqb-false, eq-eqb, ne-eqb}
+use borrow.Author.Tests.{lt-ltb, le-ltb, ltb-true, ltb-false, eqb-true, eqb-false, ne-eqb}
 use Rattle.values.specs.declared.Value.{Value}
 use Rattle.values.specs.Values.{pick, fits}
 use Rattle.sheet.specs.Expression.{Expr}
@@ -18,8 +18,7 @@ use Rattle.masks.specs.Masks.{first, anyMark}
 use Rattle.masks.proofs.Masks.{any-none, any-some, first-lowest}
 use Rattle.state.specs.declared.State.{State}
 use Rattle.state.specs.State.{withCounters, valueOf, pendingOf, placeOf, isDue}
-use Rattle.events.specs.declared.Chosen.{Chosen}
-use Rattle.events.specs.Cycle.{codeOf, instrAt, current, anyBelow, isWait, threadEnabled, items, enabled, anyEnabled, isSome, anyPending}
+use Rattle.events.specs.Cycle.{current, anyBelow, isWait, threadEnabled, items, enabled, anyEnabled, isSome, anyPending}
 use Rattle.events.specs.Cycle.{quiet, runThread, runWire}
 use Rattle.events.specs.Cycle as cycle
 use Rattle.events.specs.Calls.{answer, spend, counted, timed, refusal, performed, chooseIn}
@@ -38,7 +37,7 @@ use Rattle.plan_engine.specs.Live.{Live, sceneOf, withScene}
 use Rattle.plan_engine.specs.Acting.{act, settle, commit, feed}
 use Rattle.plan_engine.specs.Taking.{Taken, taken, unless, takeInstruction, takeThread, takeWire, takeCommit, takeChoice}
 use Rattle.plan_engine.specs.Running.{busy, plainChoice}
-use Rattle.plan_refinement.specs.Refinement.{Seen, Slots, Shows, Takes, Room, PlanOf}
+use Rattle.plan_refinement.specs.Refinement.{Shows, Takes, Room, PlanOf}
 use Rattle.plan_refinement.specs.Refinement.{Fetched, a-wait, a-set, a-later, a-go, an-ifnot}
 use Rattle.plan_refinement.proofs.Steps.{act-shows, settle-shows}
 use Rattle.plan_refinement.proofs.Commits.{commit-shows, feed-shows}

@@ -5,7 +5,7 @@ use mathlib.Core.List.{List}
 use mathlib.Core.Option.{Option, none, some}
 use Prim.Native.Nat.{ℕ, zero, suc, _+_, _≤_, _<_}
 use native.Mathlib.Omega.{arith}
-use lib.ListN.{length, getD}
+use lib.ListN.{getD}
 use lib.Dec.{ltb}
 use borrow.Author.Tests.{ltb-true, ltb-false}
 use Rattle.values.specs.declared.Value.{Value}
@@ -22,16 +22,15 @@ use Rattle.events.specs.Cycle as cycle
 use Rattle.events.proofs.Cycle.{kept-storePending, shaped-storePending, pending-storePending}
 use Rattle.events.proofs.Cycle.{pending-storePending-above, value-storePending-other}
 use Rattle.events.proofs.Cycle.{kept-storeInputs, value-storeInputs-above}
-use Rattle.refinement.specs.Refinement.{readyIn}
 use Rattle.refinement.proofs.Kept.{Kept, flag-none, kept-withoutPending}
 use Rattle.refinement.proofs.Ready.{ready-places}
 use Rattle.cells.specs.Cells as cell
 use Rattle.cells.specs.Cells.{cellOf, cellAt}
 use Rattle.cells.proofs.Cells.{value-cell}
 use Rattle.plan.specs.Plan.{Plan}
-use Rattle.plan_changes.specs.Scene.{Changing, Scene}
+use Rattle.plan_changes.specs.Scene.{Changing}
 use Rattle.plan_changes.specs.Changes.{put, opened, finish}
-use Rattle.plan_engine.specs.Live.{Live, sceneOf}
+use Rattle.plan_engine.specs.Live.{Live}
 use Rattle.plan_engine.specs.Acting.{putRegister, putPending, committed, commit, putInputs, feed}
 use Rattle.plan_refinement.specs.Refinement.{Seen, Slots, Shows, PlanOf}
 use Rattle.plan_refinement.proofs.Changing.{Midway, midway-start, midway-put, midway-finish}

@@ -1,7 +1,7 @@
 -- An expression that lies flattened in the plan's nodes stands in the plan. Assumes nothing.
-use mathlib.Core.Path.{_≡_, refl, sym, ap, _∙_}
+use mathlib.Core.Path.{_≡_, ap, _∙_}
 use mathlib.Core.List.{List}
-use Prim.Native.Nat.{ℕ, suc, _+_, _-_, _<_, _≤_}
+use Prim.Native.Nat.{ℕ, _+_, _-_, _<_, _≤_}
 use native.Mathlib.Omega.{arith}
 use lib.ListN.{length, getD}
 use borrow.Author.Tests.{le-leb}
@@ -18,7 +18,7 @@ use Rattle.plan_nodes.specs.Nodes.{workFrom, work}
 use Rattle.plan_nodes.specs.Flat.{Flat, a-variable, a-constant, an-unknown, a-unary, a-binary, a-conditional}
 use Rattle.plan_nodes.proofs.Flat.{Done, flat-eval}
 use Rattle.plan_engine.specs.Live.{rootOf, evaluate, worth}
-use Rattle.plan_refinement.specs.Refinement.{Holds, Worked, Stands}
+use Rattle.plan_refinement.specs.Refinement.{Stands}
 
 -- The nodes from the first to the root are as many as the expression has.
 flat-count : {f : ℕ → Node} {base n r k : ℕ} {e : Expr} → base ≤ n → Flat f base n e r k → r + 1 - n ≡ k

@@ -1,16 +1,14 @@
 -- The steps on a plan are the steps of the simulation cycle: one instruction, one due wire, the commit, the inputs of an instant.
 -- Assumes nothing.
-use mathlib.Core.Path.{_≡_, refl, sym, ap, _∙_, subst}
+use mathlib.Core.Path.{_≡_, refl, sym, ap, _∙_}
 use mathlib.Core.Logic.{_≢_}
 use mathlib.Core.Bool.{Bool, true, false}
 use mathlib.Core.List.{List}
-use mathlib.Core.Option.{Option, none, some}
-use Prim.Native.Nat.{ℕ, zero, suc, _+_, _-_, _≤_, _<_}
+use Prim.Native.Nat.{ℕ, _+_, _-_, _<_}
 use native.Mathlib.Omega.{arith}
-use lib.ListN.{length, getD, set, length-set}
-use lib.Seq.{getD-set-same}
-use lib.Dec.{ltb, eqb}
-use borrow.Author.Tests.{lt-ltb, ltb-true, ltb-false, eqb-true, eqb-false}
+use lib.ListN.{length, set, length-set}
+use lib.Dec.{eqb}
+use borrow.Author.Tests.{lt-ltb, eqb-true, eqb-false}
 use Rattle.values.specs.declared.Value.{Value}
 use Rattle.values.specs.Values.{pick, holds}
 use Rattle.values.specs.Planes.{valueAt, numberOf, isUnknown}
@@ -21,13 +19,12 @@ use Rattle.evaluation.specs.Evaluation.{eval}
 use Rattle.pseudocode.specs.Translation.{Instr}
 use Rattle.state.specs.declared.State.{State}
 use Rattle.state.specs.State.{Shaped, withPlanes, withSlots, withPlaces, withMarks, valueOf, withValue}
-use Rattle.state.specs.State.{pendingOf, withPending, withoutPending, placeOf, withPlace, isDue, withDue}
+use Rattle.state.specs.State.{withPending, placeOf, withPlace, withDue}
 use Rattle.state.proofs.Accessors.{shaped-withValue, shaped-withPending}
 use Rattle.soundness.specs.Soundness.{SoundInstr, SoundTarget, sound-set, sound-later, sound-go, sound-ifnot}
-use Rattle.events.specs.Cycle.{variables, codeOf, current, wireExpr, wireVariable, react}
+use Rattle.events.specs.Cycle.{variables, codeOf, current, wireVariable, react}
 use Rattle.events.specs.Cycle.{runInstr, runThread, runWire}
 use Rattle.events.proofs.Cycle.{kept-react, shaped-react}
-use Rattle.refinement.specs.Refinement.{readyIn}
 use Rattle.refinement.proofs.Kept.{Kept, kept-unmarked, sound-at}
 use Rattle.refinement.proofs.Ready.{ready-places}
 use Rattle.cells.specs.Cells as cell
@@ -37,11 +34,11 @@ use Rattle.plan.specs.declared.Expression.{Expression}
 use Rattle.plan.specs.declared.Action.{Action}
 use Rattle.plan.specs.declared.Instruction.the-variants.{Act}
 use Rattle.plan.specs.Plan.{Plan}
-use Rattle.plan_changes.specs.Scene.{Stand, stand, Scene, scene}
+use Rattle.plan_changes.specs.Scene.{stand, Scene, scene}
 use Rattle.plan_changes.specs.Changes.{placed, store}
 use Rattle.plan_engine.specs.Live.{Live, alive, sceneOf, withScene, withCells, evaluate, worth}
 use Rattle.plan_engine.specs.Acting.{goes, pendingWith, heldWith, defer, leg, act, settle}
-use Rattle.plan_refinement.specs.Refinement.{Seen, Slots, Shows, Worked, Stands, PlanOf}
+use Rattle.plan_refinement.specs.Refinement.{Seen, Slots, Shows, Stands, PlanOf}
 use Rattle.plan_refinement.specs.Refinement.{Fetched, a-set, a-later, a-go, an-ifnot}
 use Rattle.plan_refinement.proofs.Moving.{standIn, after-at, placed-stand}
 use Rattle.plan_refinement.proofs.Changing.{at-put, store-seen}

@@ -2,9 +2,9 @@
 -- Assumes nothing.
 use mathlib.Core.Path.{_≡_, refl, sym, ap, _∙_}
 use mathlib.Core.Logic.{_≢_}
-use mathlib.Core.Bool.{Bool, true, false, not, _&&_, _||_, and-false, or-false, or-true}
+use mathlib.Core.Bool.{Bool, true, false, _&&_, _||_, and-false, or-false, or-true}
 use mathlib.Core.List.{List}
-use Prim.Native.Nat.{ℕ, zero, suc, _+_, _≤_, _<_}
+use Prim.Native.Nat.{ℕ, zero, suc, _≤_, _<_}
 use native.Mathlib.Omega.{arith}
 use lib.ListN.{length, getD, set, length-set}
 use lib.Seq.{getD-set-same, getD-set-other}
@@ -14,12 +14,11 @@ use Rattle.values.specs.declared.Value.{Value}
 use Rattle.values.specs.Values.{pick}
 use Rattle.values.specs.Edges.{fires}
 use Rattle.values.proofs.Edges.{fires-refl}
-use Rattle.sheet.specs.declared.EdgeTerm.{EdgeTerm}
 use Rattle.sheet.specs.Expression.{Expr}
 use Rattle.sheet.specs.Module.{Module}
 use Rattle.pseudocode.specs.declared.EdgeTerms.{EdgeTerms}
-use Rattle.pseudocode.specs.Translation.{Instr, wait!, set!, later!, go, ifnot}
-use Rattle.pseudocode.specs.Instruction.{noTerm, termsOf}
+use Rattle.pseudocode.specs.Translation.{Instr}
+use Rattle.pseudocode.specs.Instruction.{termsOf}
 use Rattle.pseudocode.specs.Fetching.{termAt}
 use Rattle.pseudocode.proofs.Fetching.{term-of}
 use Rattle.masks.specs.Masks.{anyMark}
@@ -29,7 +28,6 @@ use Rattle.events.proofs.Cycle.{absurd-bool, any-same, some-below}
 use Rattle.changes.specs.Changes as changes
 use Rattle.refinement.proofs.Firing.{waits-fire}
 use Rattle.plan.specs.declared.Instruction.{Instruction}
-use Rattle.plan.specs.declared.Instruction.the-variants.{Wait, Act}
 use Rattle.plan.specs.Plan.{Plan}
 use Rattle.plan_changes.specs.Changes.{eight, termWakes, wakes, wakeThread, wakeBelow, wake}
 use Rattle.plan_refinement.specs.Refinement.{Fetched, a-wait, a-set, a-later, a-go, an-ifnot, PlanOf}

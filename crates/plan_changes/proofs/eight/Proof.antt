@@ -1,7 +1,6 @@
 -- `plan_changes::eight` meets its contract. Assumes nothing.
 use borrow.Author.Tests.{lt-ltb, le-ltb}
 use Rattle.plan_changes.specs.Changes.{eight}
-use borrow.Author.Needs.{needs}
 use Rattle.plan_changes.proofs.eight.Statement.{statement}
 use Rattle.plan_changes.proofs.eight.Tie as tie
 

@@ -1,7 +1,6 @@
 -- `plan_changes::eight_threads` meets its contract. Assumes nothing.
 use borrow.Author.Tests.{lt-ltb, le-ltb}
 use Rattle.plan_changes.specs.Changes.{eight}
-use borrow.Author.Needs.{needs}
 use Rattle.plan_changes.proofs.eight_threads.Statement.{statement}
 use Rattle.plan_changes.proofs.eight_threads.Tie as tie
 

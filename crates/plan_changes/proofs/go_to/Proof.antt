@@ -1,5 +1,5 @@
 -- `plan_changes::go_to` meets its contract. Assumes nothing.
-use mathlib.Core.Path.{_≡_, refl, sym, _∙_}
+use mathlib.Core.Path.{sym, _∙_}
 use borrow.Author.Tests.{lt-ltb, le-ltb}
 use Rattle.plan_changes.specs.Changes.{placed}
 use borrow.Author.Needs.{needs}

@@ -39,7 +39,9 @@ loop-again c =
     let s = stand (at-start .args .places .now) (bits (at-start .args .ready)) in (
       omega arith,
       omega arith,
-      c .move-thread .ensures ∙ ap (moveThread q (bits (at-start .args .woken)) (at-loop .loop .i)) (at-loop .loop .inv .2) ∙ sym (move-more q _ (at-loop .loop .i) s),
+      c .move-thread .ensures
+          ∙ ap (moveThread q (bits (at-start .args .woken)) (at-loop .loop .i)) (at-loop .loop .inv .2)
+          ∙ sym (move-more q _ (at-loop .loop .i) s),
     )
 
 returns-2 : tie.Need-returns-2 Inv-loop μ-loop

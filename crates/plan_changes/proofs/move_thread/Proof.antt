@@ -1,5 +1,5 @@
 -- `plan_changes::move_thread` meets its contract. Assumes nothing.
-use mathlib.Core.Path.{_≡_, refl, sym, _∙_}
+use mathlib.Core.Path.{sym, _∙_}
 use Rattle.plan_changes.specs.Changes.{moveThread}
 use borrow.Author.Needs.{needs}
 use Rattle.plan_changes.proofs.move_thread.Statement.{statement}

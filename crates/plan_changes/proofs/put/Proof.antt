@@ -1,5 +1,5 @@
 -- `plan_changes::put` meets its contract. Assumes nothing.
-use mathlib.Core.Path.{_≡_, refl, sym, _∙_}
+use mathlib.Core.Path.{sym, _∙_}
 use borrow.Author.Tests.{lt-ltb, le-ltb}
 use Rattle.cells.specs.Cells.{cellAt}
 use Rattle.plan_changes.specs.Changes.{put}

@@ -1,8 +1,5 @@
 -- `plan_changes::store` meets its contract. Assumes nothing.
-use mathlib.Core.Path.{_≡_, refl}
-use Rattle.masks.specs.Masks.{bits}
-use Rattle.plan.specs.Plan.{planOf}
-use Rattle.plan_changes.specs.Scene.{stand, changing}
+use mathlib.Core.Path.{refl}
 use Rattle.plan_changes.specs.Changes.{store}
 use Rattle.plan_changes.proofs.Changes.{finish-made}
 use borrow.Author.Needs.{needs}

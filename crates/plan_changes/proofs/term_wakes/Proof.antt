@@ -1,8 +1,6 @@
 -- `plan_changes::term_wakes` meets its contract. Assumes nothing.
-use mathlib.Core.Path.{_≡_, refl, sym, ap, _∙_}
-use Prim.Native.Nat.{ℕ}
+use mathlib.Core.Path.{sym, _∙_}
 use borrow.Author.Tests.{eq-eqb, ne-eqb}
-use Rattle.sheet.specs.declared.EdgeTerm.{EdgeTerm}
 use Rattle.plan_changes.specs.Changes.{termWakes}
 use borrow.Author.Needs.{needs}
 use Rattle.plan_changes.proofs.term_wakes.Statement.{statement}
@@ -12,7 +10,6 @@ returns : tie.Need-returns
 unfolding termWakes
 returns c =
     let at-term-at = c .before .before .before in
-    let e = ap (λ (t : EdgeTerm). t .variable) (at-term-at .term-at .ensures) in
     rw (c .fires .ensures, ← at-term-at .term-at .ensures, eq-eqb _ _ (sym (c .before .before .wide .ensures) ∙ c .before .if1 .taken))
 
 returns-2 : tie.Need-returns-2

@@ -26,7 +26,8 @@ returns : tie.Need-returns Inv-loop μ-loop
 returns c =
     let at-loop = c .before .before .before in
     let at-start = at-loop .before in
-    sym (any-below _ (at-start .args .count) (at-loop .loop .k) (c .before .before .loop-test .taken) (sym (c .before .term-wakes .ensures) ∙ c .if1 .taken))
+    sym (any-below _ (at-start .args .count) (at-loop .loop .k) (c .before .before .loop-test .taken)
+    (sym (c .before .term-wakes .ensures) ∙ c .if1 .taken))
 
 loop-again : tie.Need-loop-again Inv-loop μ-loop
 loop-again c =

@@ -1,8 +1,5 @@
 -- `plan_changes::wake_thread` meets its contract. Assumes nothing.
-use mathlib.Core.Path.{_≡_, refl, sym, ap, _∙_}
-use mathlib.Core.Bool.{Bool, false}
-use mathlib.Core.List.{List}
-use lib.ListN.{getD}
+use mathlib.Core.Path.{sym, _∙_}
 use Rattle.plan_changes.specs.Changes.{wakeThread}
 use borrow.Author.Needs.{needs}
 use Rattle.plan_changes.proofs.wake_thread.Statement.{statement}
@@ -14,7 +11,12 @@ returns c =
     let at-if1 = c .before .before .before .before in
     let at-has = at-if1 .before in
     let at-watchers = at-has .before in
-    rw (← at-watchers .watchers .ensures, sym (at-has .has .ensures) ∙ at-if1 .if1 .taken, sym (c .before .before .wakes .ensures) ∙ c .before .if2 .taken, c .with .ensures)
+    rw (
+      ← at-watchers .watchers .ensures,
+      sym (at-has .has .ensures) ∙ at-if1 .if1 .taken,
+      sym (c .before .before .wakes .ensures) ∙ c .before .if2 .taken,
+      c .with .ensures,
+    )
 
 returns-2 : tie.Need-returns-2
 unfolding wakeThread

@@ -1,5 +1,5 @@
 -- `plan_changes::wakes` meets its contract. Assumes nothing.
-use mathlib.Core.Path.{_≡_, refl, sym, _∙_}
+use mathlib.Core.Path.{sym, _∙_}
 use Rattle.plan_changes.specs.Changes.{wakes}
 use borrow.Author.Needs.{needs}
 use Rattle.plan_changes.proofs.wakes.Statement.{statement}

@@ -1,5 +1,5 @@
 -- `plan_engine::busy` meets its contract. Assumes nothing.
-use mathlib.Core.Path.{_≡_, refl, sym, _∙_}
+use mathlib.Core.Path.{sym, _∙_}
 use Rattle.plan_engine.proofs.Running.{busy-thread, busy-wire, busy-held}
 use borrow.Author.Needs.{needs}
 use Rattle.plan_engine.proofs.busy.Statement.{statement}
@@ -15,7 +15,9 @@ returns-3 : tie.Need-returns-3
 returns-3 c =
     let at-if1 = c .before .before .before in
     let at-any = at-if1 .before in
-    λ cs ns ps. c .any3 .ensures ∙ busy-held _ (sym (at-any .any .ensures) ∙ at-if1 .if1 .left) (sym (c .before .before .any2 .ensures) ∙ c .before .if2 .left)
+    λ cs ns ps.
+    c .any3 .ensures
+    ∙ busy-held _ (sym (at-any .any .ensures) ∙ at-if1 .if1 .left) (sym (c .before .before .any2 .ensures) ∙ c .before .if2 .left)
 
 pub busy-spec : {M : Type 1} → statement M
 busy-spec =

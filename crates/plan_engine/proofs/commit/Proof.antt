@@ -9,7 +9,8 @@ returns : tie.Need-returns
 returns c =
     let at-start = c .before .before .before .before .before .before in
     let a = at-start .args in
-    commit-made _ (live (a .cells .now) (a .pending .now) (a .places .now) (a .marks)) _ _ (c .move-on .ensures) (c .before .before .put-pending .ensures)
+    commit-made _ (live (a .cells .now) (a .pending .now) (a .places .now) (a .marks)) _ _
+    (c .move-on .ensures) (c .before .before .put-pending .ensures)
 
 pub commit-spec : {M : Type 1} → statement M
 commit-spec =

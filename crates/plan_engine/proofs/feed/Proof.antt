@@ -9,7 +9,8 @@ returns : tie.Need-returns
 returns c =
     let at-start = c .before .before .before .before .before in
     let a = at-start .args in
-    feed-made _ (live (a .cells .now) (a .pending .now) (a .places .now) (a .marks)) _ _ (c .move-on .ensures) _ (c .before .before .put-inputs .ensures)
+    feed-made _ (live (a .cells .now) (a .pending .now) (a .places .now) (a .marks)) _ _
+    (c .move-on .ensures) _ (c .before .before .put-inputs .ensures)
 
 pub feed-spec : {M : Type 1} → statement M
 feed-spec =

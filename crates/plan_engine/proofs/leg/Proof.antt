@@ -1,5 +1,5 @@
 -- `plan_engine::leg` meets its contract. Assumes nothing.
-use mathlib.Core.Path.{_≡_, refl, sym, _∙_}
+use mathlib.Core.Path.{sym, _∙_}
 use Rattle.plan_engine.specs.Acting.{leg}
 use borrow.Author.Needs.{needs}
 use Rattle.plan_engine.proofs.leg.Statement.{statement}

@@ -1,8 +1,8 @@
 -- `plan_engine::plain_choice` meets its contract. Assumes nothing.
-use mathlib.Core.Path.{_≡_, refl, sym, ap, _∙_}
-use Prim.Native.Nat.{ℕ, _+_, _<_}
+use mathlib.Core.Path.{sym, ap, _∙_}
+use Prim.Native.Nat.{ℕ, _+_}
 use native.Mathlib.Omega.{arith}
-use Rattle.masks.specs.Masks.{bits, first}
+use Rattle.masks.specs.Masks.{bits}
 use Rattle.masks.proofs.Masks.{length-bits, first-lt}
 use Rattle.plan.specs.Plan.{planOf}
 use Rattle.plan_engine.specs.Live.{live}
@@ -14,7 +14,9 @@ use Rattle.plan_engine.proofs.plain_choice.Tie as tie
 returns : tie.Need-returns
 returns c =
     let at-start = c .before .before .before in
-    λ cs ns ps. c .lowest .ensures ∙ choice-thread _ (live cs ns ps (at-start .args .marks)) (sym (c .before .before .any .ensures) ∙ c .before .if1 .taken)
+    λ cs ns ps.
+    c .lowest .ensures
+    ∙ choice-thread _ (live cs ns ps (at-start .args .marks)) (sym (c .before .before .any .ensures) ∙ c .before .if1 .taken)
 
 add-result : tie.Need-add-result
 add-result c =
@@ -36,14 +38,16 @@ returns-2 c =
     λ cs ns ps.
     ap (λ (n : ℕ). n + c .lowest2 .result) (c .before .threads .ensures)
     ∙ ap (λ (n : ℕ). planOf (at-start .args .plan .now) .threads + n) (c .lowest2 .ensures)
-    ∙ choice-wire _ (live cs ns ps (at-start .args .marks)) (sym (at-any .any .ensures) ∙ at-if1 .if1 .left) (sym (at-any2 .any2 .ensures) ∙ c .before .before .if2 .taken)
+    ∙ choice-wire _ (live cs ns ps (at-start .args .marks)) (sym (at-any .any .ensures) ∙ at-if1 .if1 .left)
+    (sym (at-any2 .any2 .ensures) ∙ c .before .before .if2 .taken)
 
 returns-3 : tie.Need-returns-3
 returns-3 c =
     let at-any = c .before .before .before in
     let at-start = at-any .before in
     λ cs ns ps.
-    choice-commit _ (live cs ns ps (at-start .args .marks)) (sym (at-any .any .ensures) ∙ c .before .before .if1 .left) (sym (c .before .any2 .ensures) ∙ c .if2 .left)
+    choice-commit _ (live cs ns ps (at-start .args .marks)) (sym (at-any .any .ensures) ∙ c .before .before .if1 .left)
+    (sym (c .before .any2 .ensures) ∙ c .if2 .left)
 
 pub plain-choice-spec : {M : Type 1} → statement M
 plain-choice-spec =

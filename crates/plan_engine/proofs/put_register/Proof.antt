@@ -1,5 +1,5 @@
 -- `plan_engine::put_register` meets its contract. Assumes nothing.
-use mathlib.Core.Path.{_≡_, refl, sym, _∙_}
+use mathlib.Core.Path.{sym, _∙_}
 use Rattle.masks.proofs.Masks.{getD-bits-past}
 use Rattle.plan_engine.specs.Acting.{putRegister}
 use borrow.Author.Needs.{needs}

@@ -3,7 +3,6 @@ use native.Mathlib.Omega.{arith}
 use borrow.Author.Tests.{lt-ltb, le-ltb}
 use Rattle.plan.specs.Sections.{slotOf}
 use Rattle.plan_engine.specs.Live.{rootOf}
-use borrow.Author.Needs.{needs}
 use Rattle.plan_engine.proofs.root_of.Statement.{statement}
 use Rattle.plan_engine.proofs.root_of.Tie as tie
 

@@ -78,7 +78,8 @@ returns-2 c =
     let at-start = c .before .before .before in
     let p = c .before .loop in
     let q = planOf (at-start .args .plan .now) in
-    sym (list-end q (p .left) (live (p .cells) (p .pending) (p .places) (p .m)) (p .i) (at-start .args .choices .now) (omega arith)) ∙ p .inv .1
+    sym (list-end q (p .left) (live (p .cells) (p .pending) (p .places) (p .m)) (p .i) (at-start .args .choices .now) (omega arith))
+    ∙ p .inv .1
 
 pub run-list-spec : {M : Type 1} → statement M
 run-list-spec =

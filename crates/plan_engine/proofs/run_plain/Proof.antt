@@ -89,7 +89,8 @@ returns-3 : tie.Need-returns-3 Inv-loop μ-loop
 returns-3 c =
     let p = c .before .loop in
     let q = planOf (c .before .before .args .plan .now) in
-    sym (plain-end q (p .left) (live (p .cells) (p .pending) (p .places) (p .m)) (p .i) (c .before .before .args .limit) (omega arith)) ∙ p .inv .1
+    sym (plain-end q (p .left) (live (p .cells) (p .pending) (p .places) (p .m)) (p .i) (c .before .before .args .limit) (omega arith))
+    ∙ p .inv .1
 
 pub run-plain-spec : {M : Type 1} → statement M
 run-plain-spec =

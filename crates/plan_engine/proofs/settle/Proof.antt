@@ -1,5 +1,4 @@
 -- `plan_engine::settle` meets its contract. Assumes nothing.
-use mathlib.Core.Path.{_≡_, refl}
 use Rattle.plan_engine.proofs.Acting.{settle-made}
 use borrow.Author.Needs.{needs}
 use Rattle.plan_engine.proofs.settle.Statement.{statement}

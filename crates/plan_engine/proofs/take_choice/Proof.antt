@@ -1,5 +1,4 @@
 -- `plan_engine::take_choice` meets its contract. Assumes nothing.
-use mathlib.Core.Path.{_≡_, refl, sym, _∙_}
 use Rattle.plan_engine.proofs.Taking.{choice-thread, choice-wire, choice-commit, choice-none}
 use borrow.Author.Needs.{needs}
 use Rattle.plan_engine.proofs.take_choice.Statement.{statement}
@@ -17,7 +16,8 @@ returns-2 c =
     let at-wires = at-if2 .before in
     let at-if1 = at-wires .before in
     let at-threads = at-if1 .before in
-    choice-wire _ _ _ _ (rw (at-threads .threads .ensures) at (at-if1 .if1 .left)) _ (rw (at-threads .threads .ensures, at-wires .wires .ensures) at (at-if2 .if2 .taken))
+    choice-wire _ _ _ _ (rw (at-threads .threads .ensures) at (at-if1 .if1 .left))
+    _ (rw (at-threads .threads .ensures, at-wires .wires .ensures) at (at-if2 .if2 .taken))
     (rw (at-threads .threads .ensures) at (c .take-wire .ensures))
 
 returns-3 : tie.Need-returns-3
@@ -27,14 +27,16 @@ returns-3 c =
     let at-wires = at-if2 .before in
     let at-if1 = at-wires .before in
     let at-threads = at-if1 .before in
-    choice-commit _ _ _ _ (rw (at-threads .threads .ensures) at (at-if1 .if1 .left)) (rw (at-threads .threads .ensures, at-wires .wires .ensures) at (at-if2 .if2 .left)) _
+    choice-commit _ _ _ _ (rw (at-threads .threads .ensures) at (at-if1 .if1 .left))
+    (rw (at-threads .threads .ensures, at-wires .wires .ensures) at (at-if2 .if2 .left)) _
     (at-if3 .if3 .taken) (c .take-commit .ensures)
 
 returns-4 : tie.Need-returns-4
 returns-4 c =
     let at-if1 = c .before .before .before in
     let at-threads = at-if1 .before in
-    choice-none _ _ _ _ (rw (at-threads .threads .ensures) at (at-if1 .if1 .left)) (rw (at-threads .threads .ensures, c .before .before .wires .ensures) at (c .before .if2 .left))
+    choice-none _ _ _ _ (rw (at-threads .threads .ensures) at (at-if1 .if1 .left))
+    (rw (at-threads .threads .ensures, c .before .before .wires .ensures) at (c .before .if2 .left))
     (c .if3 .left)
 
 pub take-choice-spec : {M : Type 1} → statement M

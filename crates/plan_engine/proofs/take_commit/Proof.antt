@@ -1,5 +1,5 @@
 -- `plan_engine::take_commit` meets its contract. Assumes nothing.
-use mathlib.Core.Path.{_≡_, refl, sym, _∙_}
+use mathlib.Core.Path.{sym, _∙_}
 use borrow.Author.Tests.{not-true, not-false}
 use Rattle.plan_engine.proofs.Taking.{commit-thread, commit-wire, commit-none, commit-full, commit-all}
 use borrow.Author.Needs.{needs}

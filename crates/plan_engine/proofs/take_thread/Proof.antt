@@ -1,5 +1,5 @@
 -- `plan_engine::take_thread` meets its contract. Assumes nothing.
-use mathlib.Core.Path.{_≡_, refl, sym, _∙_}
+use mathlib.Core.Path.{sym, _∙_}
 use borrow.Author.Tests.{lt-ltb, le-ltb}
 use Rattle.plan_engine.specs.Taking.{takeInstruction, takeThread}
 use Rattle.plan_engine.proofs.Taking.{unless-full, unless-free}
@@ -22,7 +22,8 @@ unfolding takeThread takeInstruction
 returns-3 c =
     let at-fetch = c .before .before .before .before in
     let at-if1 = at-fetch .before .before in
-    rw (lt-ltb _ _ (at-if1 .if1 .left), sym (at-fetch .fetch .ensures) ∙ c .before .before .action .given .1) (unless-full _ _ _ (c .if2 .taken))
+    rw (lt-ltb _ _ (at-if1 .if1 .left), sym (at-fetch .fetch .ensures) ∙ c .before .before .action .given .1)
+    (unless-full _ _ _ (c .if2 .taken))
 
 returns-4 : tie.Need-returns-4
 unfolding takeThread takeInstruction
@@ -31,7 +32,8 @@ returns-4 c =
     let at-action = at-if2 .before .before in
     let at-fetch = at-action .before .before in
     let at-if1 = at-fetch .before .before in
-    rw (lt-ltb _ _ (at-if1 .if1 .left), sym (at-fetch .fetch .ensures) ∙ at-action .action .given .1, c .act .ensures) (unless-free _ _ _ (at-if2 .if2 .left))
+    rw (lt-ltb _ _ (at-if1 .if1 .left), sym (at-fetch .fetch .ensures) ∙ at-action .action .given .1, c .act .ensures)
+    (unless-free _ _ _ (at-if2 .if2 .left))
 
 pub take-thread-spec : {M : Type 1} → statement M
 take-thread-spec =

@@ -1,5 +1,5 @@
 -- `plan_engine::take_wire` meets its contract. Assumes nothing.
-use mathlib.Core.Path.{_≡_, refl, sym, ap, _∙_}
+use mathlib.Core.Path.{sym, ap, _∙_}
 use borrow.Author.Tests.{not-true, not-false}
 use Rattle.masks.specs.Masks.{bits}
 use Rattle.plan_engine.specs.Taking.{takeWire}
