@@ -31,10 +31,10 @@ pub record Marks (k : ℕ) (rs ss : List ℕ) (f : ℕ → Bool) : Type 0 where
   pub own : (v : ℕ) → v < 80 → bit ss v k ≡ (bit rs v k || f v)
   pub others : (v j : ℕ) → (j ≡ k → ⊥) → bit ss v j ≡ bit rs v j
 
-marks-none : (k : ℕ) (rs : List ℕ) → length rs ≡ 80 → Marks k rs rs (λ v. false)
+pub marks-none : (k : ℕ) (rs : List ℕ) → length rs ≡ 80 → Marks k rs rs (λ v. false)
 marks-none k rs long = record { long = long; own = λ v l. sym (or-false (bit rs v k)); others = λ v j n. refl }
 
-marks-then : {k : ℕ} {rs ss us : List ℕ} {f g : ℕ → Bool} → Marks k rs ss f → Marks k ss us g → Marks k rs us (λ v. f v || g v)
+pub marks-then : {k : ℕ} {rs ss us : List ℕ} {f g : ℕ → Bool} → Marks k rs ss f → Marks k ss us g → Marks k rs us (λ v. f v || g v)
 marks-then {k} {rs} {f = f} {g = g} a b =
     record {
       long = b .long;
@@ -75,7 +75,7 @@ module _ (k u : ℕ) (rs : List ℕ) where
         by true e = getD-set-other (bits (getD rs u 0)) k j true false n ∙ ap (λ (x : ℕ). bit rs x j) (eqb-true u v e)
         by false e = refl
 
-    marks-variable : Marks k rs (markVariable k u rs) (eqb u)
+    pub marks-variable : Marks k rs (markVariable k u rs) (eqb u)
     marks-variable =
         rw (markVariable-in k u rs hu)
         (record { long = length-set rs u (mask more) ∙ long; own = λ v l. stored-own v; others = stored-others })
@@ -118,7 +118,7 @@ module _ (wire : ℕ → Expr) where
     pub own : (v j : ℕ) → v < 80 → j < n → bit rs v j ≡ reads (wire j) v
     pub none : (v j : ℕ) → n ≤ j → bit rs v j ≡ false
 
-  zeros : (n v : ℕ) → _≡_ {A = ℕ} (getD (replicate n 0) v 0) 0
+  pub zeros : (n v : ℕ) → _≡_ {A = ℕ} (getD (replicate n 0) v 0) 0
   zeros zero v = refl
   zeros (suc n) zero = refl
   zeros (suc n) (suc v) = zeros n v
