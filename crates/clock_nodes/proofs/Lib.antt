@@ -1,1 +1,4 @@
 pub mod Turns
+pub mod Worth
+pub mod Copied
+pub mod Lows
