@@ -2,3 +2,4 @@ pub mod Turns
 pub mod Worth
 pub mod Copied
 pub mod Lows
+pub mod Ranges

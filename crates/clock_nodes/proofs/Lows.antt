@@ -173,7 +173,7 @@ module _ (ns : List ℕ) (ls : List ℕ) (l : length ls ≡ 4096) where
   lows-other n a d = rw (getD-set-other (lowsTo ns n ls) n a _ 0 d)
 
   lows-same : (n : ℕ) → n < 4096
-      → lowIn (lowsTo ns (suc n) ls) n ≡ lowest ns (lowsTo ns n ls) (80 + n) (kindAt ns n) (firstAt ns n) (secondAt ns n) (thirdAt ns n)
+      → lowIn (lowsTo ns (suc n) ls) n ≡ lowest ns (lowsTo ns n ls) n (kindAt ns n) (firstAt ns n) (secondAt ns n) (thirdAt ns n)
   unfolding lowsTo lowNode lowIn
   lows-same n h =
       rw (lt-ltb n 4096 h) (getD-set-same (lowsTo ns n ls) n _ 0 (omega (arith, length-lows n)))
@@ -194,25 +194,25 @@ module _ (ns : List ℕ) (ls : List ℕ) (l : length ls ≡ 4096) where
     Low n = lowIn (lowsTo ns count ls) n
 
     module _ (n : ℕ) (o : n < count) where
-      Known-low : Lowest ns (lowsTo ns n ls) (80 + n) (kindAt ns n) (firstAt ns n) (secondAt ns n) (thirdAt ns n) (Low n)
+      Known-low : Lowest ns (lowsTo ns n ls) n (kindAt ns n) (firstAt ns n) (secondAt ns n) (thirdAt ns n) (Low n)
       Known-low =
           rw (lows-early count (suc n) n o (omega arith), lows-same n (omega arith))
-          (lowest-is ns (lowsTo ns n ls) (80 + n) (kindAt ns n) (firstAt ns n) (secondAt ns n) (thirdAt ns n))
+          (lowest-is ns (lowsTo ns n ls) n (kindAt ns n) (firstAt ns n) (secondAt ns n) (thirdAt ns n))
 
-      pub low-self : Low n ≤ 80 + n
-      low-self = self-by ns (lowsTo ns n ls) (80 + n) (kindAt ns n) (firstAt ns n) (secondAt ns n) (thirdAt ns n) (Low n) Known-low
+      pub low-self : Low n ≤ n
+      low-self = self-by ns (lowsTo ns n ls) n (kindAt ns n) (firstAt ns n) (secondAt ns n) (thirdAt ns n) (Low n) Known-low
 
       pub low-first : 11 ≤ kindAt ns n → firstAt ns n < n → kindAt ns (firstAt ns n) ≢ 0 → Low n ≤ Low (firstAt ns n)
       low-first k b d =
           rw (lows-early count n (firstAt ns n) (omega arith) b)
-          (first-by ns (lowsTo ns n ls) (80 + n) (kindAt ns n) (firstAt ns n) (secondAt ns n) (thirdAt ns n) (Low n) k d Known-low)
+          (first-by ns (lowsTo ns n ls) n (kindAt ns n) (firstAt ns n) (secondAt ns n) (thirdAt ns n) (Low n) k d Known-low)
 
       pub low-second : 13 ≤ kindAt ns n → secondAt ns n < n → kindAt ns (secondAt ns n) ≢ 0 → Low n ≤ Low (secondAt ns n)
       low-second k b d =
           rw (lows-early count n (secondAt ns n) (omega arith) b)
-          (second-by ns (lowsTo ns n ls) (80 + n) (kindAt ns n) (firstAt ns n) (secondAt ns n) (thirdAt ns n) (Low n) k d Known-low)
+          (second-by ns (lowsTo ns n ls) n (kindAt ns n) (firstAt ns n) (secondAt ns n) (thirdAt ns n) (Low n) k d Known-low)
 
       pub low-third : 20 ≤ kindAt ns n → thirdAt ns n < n → kindAt ns (thirdAt ns n) ≢ 0 → Low n ≤ Low (thirdAt ns n)
       low-third k b d =
           rw (lows-early count n (thirdAt ns n) (omega arith) b)
-          (third-by ns (lowsTo ns n ls) (80 + n) (kindAt ns n) (firstAt ns n) (secondAt ns n) (thirdAt ns n) (Low n) k d Known-low)
+          (third-by ns (lowsTo ns n ls) n (kindAt ns n) (firstAt ns n) (secondAt ns n) (thirdAt ns n) (Low n) k d Known-low)

@@ -105,7 +105,7 @@ module _ (ns rs : List ℕ) (row : ℕ) where
 -- ---- a row's range
 
 module _ (ns ls rs : List ℕ) (row : ℕ) (written : List Bool) where
-  pub low-none : {e x : ℕ} → e ≡ entryAt rs row 32 → x ≡ lower ns ls e 4176 → x ≡ lowTo ns ls rs row written 0
+  pub low-none : {e x : ℕ} → e ≡ entryAt rs row 32 → x ≡ lower ns ls e 4096 → x ≡ lowTo ns ls rs row written 0
   unfolding lowTo
   low-none p q = rw (← p) q
 
@@ -147,6 +147,6 @@ module _ (ns ls rs : List ℕ) (row : ℕ) (written : List Bool) (us : List ℕ)
 
   pub row-here :
       {ts : List ℕ} {x y z : ℕ} → row < 32 → ts ≡ putEntries ns rs row 33 us → x ≡ lowTo ns ls rs row written 32 →
-      y ≡ highTo ns rs row written 32 → z ≡ x → set (set ts (35 * row + 33) z) (35 * row + 34) y ≡ fillRow ns ls rs row written us
+      y ≡ highTo ns rs row written 32 → z ≡ 80 + x → set (set ts (35 * row + 33) z) (35 * row + 34) y ≡ fillRow ns ls rs row written us
   unfolding fillRow
   row-here h p q r e = rw (lt-ltb row 32 h, ← p, ← q, ← r, e)

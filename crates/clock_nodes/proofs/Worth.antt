@@ -23,8 +23,8 @@ use Rattle.state.proofs.Rows.{length-listOf, getD-listOf}
 use Rattle.events.specs.Cycle.{variables}
 use Rattle.events.proofs.Cycle.{and-left, and-right, Below, at-end, before, below-suc}
 use Rattle.plan_nodes.proofs.Flat.{unary-small, binary-small}
-use Rattle.nextstate.specs.Nodes.{Node, aVariable, aConstant, anUnknown, aUnary, aBinary, aConditional, aBranch, nodeAt, nodeWidth, nodeValue, Worked, workOut, worked}
-use Rattle.nextstate.specs.CycleRun.{width?, nodeFits, nodesFit}
+use Rattle.nextstate.specs.Nodes.{Node, aVariable, aConstant, anUnknown, aUnary, aBinary, aConditional, aBranch, nodeFrom, nodeAt, nodeWidth, nodeValue, Worked, workOut, worked}
+use Rattle.nextstate.specs.CycleRun.{width?, nodeFits, nodesFit, widthsFrom}
 
 -- ---- the operands of a node that fits
 
@@ -99,6 +99,15 @@ module _ (ws : List ℕ) (f : ℕ → Value) where
   value-kept [] w a h = refl
   value-kept (n ∷ ns) w a h =
       value-kept ns (more w n) a (simp length-append (omega arith)) ∙ List·getD-append (w .values) _ Unknown a h
+
+pub widths-worked : (m : Module Expr) (f : ℕ → Value) (ns : List Node) (w : Worked) → workOut (m .scope .widths) f ns w .widths ≡ widthsFrom m ns (w .widths)
+unfolding workOut widthsFrom
+widths-worked m f [] w = refl
+widths-worked m f (d ∷ ns) w = widths-worked m f ns (more (m .scope .widths) f w d)
+
+pub table-widths : (m : Module Expr) (f : ℕ → Value) (ns : List Node) → worked (m .scope .widths) f ns .widths ≡ widthsFrom m ns []
+unfolding worked
+table-widths m f ns = widths-worked m f ns (record { widths = []; values = [] })
 
 -- ---- one node of a table whose widths and values are uu and vv
 
@@ -207,6 +216,10 @@ pub record Fit (m : Module Expr) (ns : List ℕ) : Type 0 where
   pub nodes : nodesFit m (listOf 4096 (nodeAt ns)) [] ≡ true
   pub narrow : (v : ℕ) → v < variables m → getD (m .scope .widths) v 0 ≤ 32
 
+node-words : (ns : List ℕ) (n : ℕ) → nodeAt ns n ≡ nodeFrom (getD ns (4 * n) 0) (getD ns (4 * n + 1) 0) (getD ns (4 * n + 2) 0) (getD ns (4 * n + 3) 0)
+unfolding nodeAt
+node-words ns n = refl
+
 module _ (m : Module Expr) (ns : List ℕ) (t : Fit m ns) (f : ℕ → Value) where
   abbrev pub table : Worked
   table = worked (m .scope .widths) f (listOf 4096 (nodeAt ns))
@@ -215,6 +228,12 @@ module _ (m : Module Expr) (ns : List ℕ) (t : Fit m ns) (f : ℕ → Value) wh
   ordered n h =
       let k : n < length (listOf 4096 (nodeAt ns)) = rw (length-listOf (nodeAt ns) 4096) h in
       rw (getD-listOf (nodeAt ns) 4096 n (anUnknown 0) h) at (table-ordered m f (listOf 4096 (nodeAt ns)) (t .nodes) n k)
+
+  -- By its four words.
+  pub ordered-words :
+      (n : ℕ) → n < 4096 →
+      Ordered m f (table .widths) (table .values) n (nodeFrom (getD ns (4 * n) 0) (getD ns (4 * n + 1) 0) (getD ns (4 * n + 2) 0) (getD ns (4 * n + 3) 0))
+  ordered-words n h = rw (node-words ns n) at (ordered n h)
 
   abbrev Narrow : ℕ → Type 0
   Narrow n = (a : ℕ) → a < n → getD (table .widths) a 0 ≤ 32

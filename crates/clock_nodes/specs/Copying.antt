@@ -42,7 +42,7 @@ module _ (ns us : List ℕ) where
   unfoldable pub copyAll : ℕ → List ℕ → List ℕ
   copyAll count ws = pick (leb count 4096) (copyTo count ws) ws
 
--- ---- lows: for each node the cell of the lowest node that its value needs
+-- ---- lows: for each node the lowest node that its value needs
 
 unfoldable pub lowIn : List ℕ → ℕ → ℕ
 lowIn ls n = pick (ltb n 4096) (getD ls n 0) 0
@@ -65,7 +65,7 @@ module _ (ns ls : List ℕ) where
 
 unfoldable pub lowNode : List ℕ → ℕ → List ℕ → List ℕ
 lowNode ns n ls =
-    set ls n (lowest ns ls (80 + n) (getD ns (4 * n) 0) (getD ns (4 * n + 1) 0) (getD ns (4 * n + 2) 0) (getD ns (4 * n + 3) 0))
+    set ls n (lowest ns ls n (getD ns (4 * n) 0) (getD ns (4 * n + 1) 0) (getD ns (4 * n + 2) 0) (getD ns (4 * n + 3) 0))
 
 -- Of the nodes below n.
 unfoldable pub lowsTo : List ℕ → ℕ → List ℕ → List ℕ

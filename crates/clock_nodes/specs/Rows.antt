@@ -30,7 +30,7 @@ lowBy ns ls counts e x = pick counts (lower ns ls e x) x
 
 -- The place and the registers below r; `written` says which of them count.
 unfoldable pub lowTo : List ℕ → List ℕ → List ℕ → ℕ → List Bool → ℕ → ℕ
-lowTo ns ls rs row written zero = lower ns ls (entryAt rs row 32) 4176
+lowTo ns ls rs row written zero = lower ns ls (entryAt rs row 32) 4096
 lowTo ns ls rs row written (suc r) = lowBy ns ls (getD written r false) (entryAt rs row r) (lowTo ns ls rs row written r)
 
 -- The higher of x and the cell after node n's; a variable needs no node.
@@ -49,6 +49,6 @@ highTo ns rs row written (suc r) = highBy ns (getD written r false) (entryAt rs 
 unfoldable pub fillRow : List ℕ → List ℕ → List ℕ → ℕ → List Bool → List ℕ → List ℕ
 fillRow ns ls rs row written ts =
     pick (ltb row 32)
-    (set (set (putEntries ns rs row 33 ts) (rowPlace row + 33) (lowTo ns ls rs row written 32)) (rowPlace row + 34)
+    (set (set (putEntries ns rs row 33 ts) (rowPlace row + 33) (80 + lowTo ns ls rs row written 32)) (rowPlace row + 34)
     (highTo ns rs row written 32))
     ts

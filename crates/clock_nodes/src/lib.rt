@@ -9,7 +9,7 @@ ghost use Rattle.masks.specs.Masks.{bits};
 ghost use Rattle.clock_nodes.specs.Copying.{cellIn, firstOf, secondOf, thirdOf, copyNode, copyAll, lowIn, lower, lowest, lowNode, lowAll};
 ghost use Rattle.clock_nodes.specs.Rows.{entryAt, putEntries, lowBy, lowTo, higher, highBy, highTo, fillRow};
 
-// For each node the cell of the lowest node that its value needs.
+// For each node the lowest node that its value needs.
 pub type Lows = [u16; 4096];
 
 // 32 rows of 35 words: the cells of 32 registers and of the place, then the first cell that is worked out, and the one after the last.
@@ -120,7 +120,7 @@ pub fn copy_nodes(nodes: &[u16], sizes: &[u8], count: u16, plan: &mut PlanTable)
 
 // ---- the lowest node that a node needs
 
-// The cell of the lowest node that node `n` needs; past the last the first cell.
+// The lowest node that node `n` needs; past the last node 0.
 fn low_in(lows: &Lows, n: u16) -> u16
     ensures { λ r. ⌜ r ≡ lowIn (now (lows .entry)) n ⌝ }
 {
@@ -131,7 +131,7 @@ fn low_in(lows: &Lows, n: u16) -> u16
     lows[i]
 }
 
-// The lower of a cell and the lowest that node `n` needs, if it isn't a variable.
+// The lower of node `x` and the lowest that node `n` needs, if that isn't a variable.
 fn lower(nodes: &[u16], lows: &Lows, n: u16, x: u16) -> u16
     ensures { λ r. ⌜ r ≡ lower (now (nodes .entry)) (now (lows .entry)) n x ⌝ }
 {
@@ -142,7 +142,7 @@ fn lower(nodes: &[u16], lows: &Lows, n: u16, x: u16) -> u16
     if l < x { l } else { x }
 }
 
-// The lowest of a cell and those that the operands of kind `k` need.
+// The lowest of node `x` and those that its operands need, by its kind `k`.
 fn lowest(nodes: &[u16], lows: &Lows, x: u16, k: u16, a: u16, b: u16, c: u16) -> u16
     ensures { λ r. ⌜ r ≡ lowest (now (nodes .entry)) (now (lows .entry)) x k a b c ⌝ }
 {
@@ -170,7 +170,7 @@ fn low_node(nodes: &[u16], n: u16, lows: &mut Lows)
     let a = word_at(nodes, i + 1);
     let b = word_at(nodes, i + 2);
     let c = word_at(nodes, i + 3);
-    let x = lowest(nodes, lows, 80 + n, k, a, b, c);
+    let x = lowest(nodes, lows, n, k, a, b, c);
     lows[wide(n)] = x;
 }
 
@@ -211,7 +211,7 @@ fn put_entries(nodes: &[u16], rows: &[u16], row: usize, table: &mut RowTable)
     }
 }
 
-// The lower of a cell and the lowest that an entry needs, if it counts.
+// The lower of node `x` and the lowest that an entry needs, if it counts.
 fn low_by(nodes: &[u16], lows: &Lows, counts: bool, entry: u16, x: u16) -> u16
     ensures { λ r. ⌜ r ≡ lowBy (now (nodes .entry)) (now (lows .entry)) counts entry x ⌝ }
 {
@@ -222,12 +222,12 @@ fn low_by(nodes: &[u16], lows: &Lows, counts: bool, entry: u16, x: u16) -> u16
     }
 }
 
-// The cell of the lowest node that a row needs: of its place, and of the registers that are written.
+// The lowest node that a row needs: for its place, and for the registers that are written.
 fn low_row(nodes: &[u16], lows: &Lows, rows: &[u16], row: usize, written: u32) -> u16
     requires { ⌜ row < 32 ⌝ }
     ensures { λ r. ⌜ r ≡ lowTo (now (nodes .entry)) (now (lows .entry)) (now (rows .entry)) row (bits written) 32 ⌝ }
 {
-    let mut x = lower(nodes, lows, entry_at(rows, row, 32), 4176);
+    let mut x = lower(nodes, lows, entry_at(rows, row, 32), 4096);
     let mut r: usize = 0;
     while r < 32 {
         x = low_by(
@@ -294,6 +294,6 @@ pub fn fill_row(
     put_entries(nodes, rows, row, table);
     let lo = low_row(nodes, lows, rows, row, written);
     let hi = high_row(nodes, rows, row, written);
-    table[35 * row + 33] = long(lo);
+    table[35 * row + 33] = 80 + long(lo);
     table[35 * row + 34] = hi;
 }
