@@ -240,9 +240,15 @@ module _ (ns ls rs : List ℕ) (row : ℕ) (written : List Bool) where
   unfolding lowTo lowBy
   low-entry r w d = rw w (lower-node ns ls (entryAt rs row r) (lowTo ns ls rs row written r) d)
 
-  pub row-low-place : kindAt ns (entryAt rs row 32) ≢ 0 → lowTo ns ls rs row written 32 ≤ lowIn ls (entryAt rs row 32)
+  low-zero : lowTo ns ls rs row written 0 ≡ lower ns ls (entryAt rs row 32) 4096
   unfolding lowTo
-  row-low-place d = omega (arith, low-downs 0 32, lower-node ns ls (entryAt rs row 32) 4096 d)
+  low-zero = refl
+
+  pub row-low-place : kindAt ns (entryAt rs row 32) ≢ 0 → lowTo ns ls rs row written 32 ≤ lowIn ls (entryAt rs row 32)
+  row-low-place d =
+      let e : 0 + 32 ≡ 32 = omega arith in
+      let k = rw e at (low-downs 0 32) in
+      omega (arith, k, low-zero, lower-node ns ls (entryAt rs row 32) 4096 d)
 
   pub row-low : (r : ℕ) → r < 32 → getD written r false ≡ true → kindAt ns (entryAt rs row r) ≢ 0
       → lowTo ns ls rs row written 32 ≤ lowIn ls (entryAt rs row r)
@@ -296,9 +302,15 @@ module _ (ns rs : List ℕ) (row : ℕ) (written : List Bool) where
   unfolding highTo highBy
   high-entry r w d = rw w (higher-node (entryAt rs row r) (highTo ns rs row written r) d)
 
-  pub row-high-place : kindAt ns (entryAt rs row 32) ≢ 0 → 81 + entryAt rs row 32 ≤ highTo ns rs row written 32
+  high-zero : highTo ns rs row written 0 ≡ higher ns (entryAt rs row 32) 0
   unfolding highTo
-  row-high-place d = omega (arith, high-ups 0 32, higher-node (entryAt rs row 32) 0 d)
+  high-zero = refl
+
+  pub row-high-place : kindAt ns (entryAt rs row 32) ≢ 0 → 81 + entryAt rs row 32 ≤ highTo ns rs row written 32
+  row-high-place d =
+      let e : 0 + 32 ≡ 32 = omega arith in
+      let k = rw e at (high-ups 0 32) in
+      omega (arith, k, high-zero, higher-node (entryAt rs row 32) 0 d)
 
   pub row-high : (r : ℕ) → r < 32 → getD written r false ≡ true → kindAt ns (entryAt rs row r) ≢ 0
       → 81 + entryAt rs row r ≤ highTo ns rs row written 32

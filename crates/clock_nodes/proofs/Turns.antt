@@ -7,6 +7,7 @@ use native.Mathlib.Numerals.{add-one}
 use native.Mathlib.Omega.{arith}
 use borrow.Author.Tests.{lt-ltb, le-ltb, eq-eqb, ne-eqb, le-leb, lt-leb}
 use lib.ListN.{getD, set}
+use Rattle.masks.specs.Masks.{bits}
 use Rattle.clock_nodes.specs.Copying.{cellIn, copyNode, copyTo, copyAll, lowIn, least, lower, lowNode, lowsTo, lowAll}
 use Rattle.clock_nodes.specs.Rows.{entryAt, putEntries, lowBy, lowTo, higher, highBy, highTo, fillRow}
 
@@ -98,7 +99,7 @@ module _ (ns rs : List ℕ) (row : ℕ) where
 
   pub entries-more :
       (c : ℕ) (us : List ℕ) {ts : List ℕ} {e v : ℕ} → ts ≡ putEntries ns rs row c us → e ≡ entryAt rs row c → v ≡ cellIn ns e →
-      set ts (35 * row + c) v ≡ putEntries ns rs row (c + 1) us
+      set ts (36 * row + c) v ≡ putEntries ns rs row (c + 1) us
   unfolding putEntries
   entries-more c us p q r = rw (add-one c, ← p, ← q, ← r)
 
@@ -140,13 +141,14 @@ module _ (ns rs : List ℕ) (row : ℕ) (written : List Bool) where
   unfolding highTo
   high-next r p q m h = rw (add-one r, ← p, ← q, ← m) h
 
-module _ (ns ls rs : List ℕ) (row : ℕ) (written : List Bool) (us : List ℕ) where
-  pub row-past : 32 ≤ row → us ≡ fillRow ns ls rs row written us
+module _ (ns ls rs : List ℕ) (row mask : ℕ) (us : List ℕ) where
+  pub row-past : 32 ≤ row → us ≡ fillRow ns ls rs row mask us
   unfolding fillRow
   row-past h = rw (le-ltb row 32 h)
 
   pub row-here :
-      {ts : List ℕ} {x y z : ℕ} → row < 32 → ts ≡ putEntries ns rs row 33 us → x ≡ lowTo ns ls rs row written 32 →
-      y ≡ highTo ns rs row written 32 → z ≡ 80 + x → set (set ts (35 * row + 33) z) (35 * row + 34) y ≡ fillRow ns ls rs row written us
+      {ts : List ℕ} {x y z : ℕ} → row < 32 → ts ≡ putEntries ns rs row 33 us → x ≡ lowTo ns ls rs row (bits mask) 32 →
+      y ≡ highTo ns rs row (bits mask) 32 → z ≡ 80 + x →
+      set (set (set ts (36 * row + 33) z) (36 * row + 34) y) (36 * row + 35) mask ≡ fillRow ns ls rs row mask us
   unfolding fillRow
   row-here h p q r e = rw (lt-ltb row 32 h, ← p, ← q, ← r, e)

@@ -6,16 +6,17 @@ use Prim.Native.Nat.{ℕ, zero, suc, _+_, _*_}
 use lib.Dec.{ltb}
 use lib.ListN.{getD, set}
 use Rattle.values.specs.Values.{pick, _is_then_else_}
+use Rattle.masks.specs.Masks.{bits}
 use Rattle.clock_nodes.specs.Copying.{cellIn, lower}
 
 -- "Rows, by thread and wait: 32 register nodes .., then the place."
 unfoldable pub entryAt : List ℕ → ℕ → ℕ → ℕ
 entryAt rs row c = getD rs (33 * row + c) 0
 
--- ---- a row of the table has 35 words: the cells of the 33 entries, then lo and hi
+-- ---- a row of the table has 36 words: the cells of the 33 entries, then lo and hi, then the mask of the registers that are written
 
 abbrev pub rowPlace : ℕ → ℕ
-rowPlace row = 35 * row
+rowPlace row = 36 * row
 
 -- The entries below c.
 unfoldable pub putEntries : List ℕ → List ℕ → ℕ → ℕ → List ℕ → List ℕ
@@ -46,9 +47,12 @@ highTo ns rs row written (suc r) = highBy ns (getD written r false) (entryAt rs 
 
 -- ---- a row
 
-unfoldable pub fillRow : List ℕ → List ℕ → List ℕ → ℕ → List Bool → List ℕ → List ℕ
-fillRow ns ls rs row written ts =
+unfoldable pub fillRow : List ℕ → List ℕ → List ℕ → ℕ → ℕ → List ℕ → List ℕ
+fillRow ns ls rs row mask ts =
     pick (ltb row 32)
-    (set (set (putEntries ns rs row 33 ts) (rowPlace row + 33) (80 + lowTo ns ls rs row written 32)) (rowPlace row + 34)
-    (highTo ns rs row written 32))
+    (set
+    (set (set (putEntries ns rs row 33 ts) (rowPlace row + 33) (80 + lowTo ns ls rs row (bits mask) 32)) (rowPlace row + 34)
+    (highTo ns rs row (bits mask) 32))
+    (rowPlace row + 35)
+    mask)
     ts

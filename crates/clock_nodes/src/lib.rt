@@ -12,8 +12,9 @@ ghost use Rattle.clock_nodes.specs.Rows.{entryAt, putEntries, lowBy, low
 // For each node the lowest node that its value needs.
 pub type Lows = [u16; 4096];
 
-// 32 rows of 35 words: the cells of 32 registers and of the place, then the first cell that is worked out, and the one after the last.
-pub type RowTable = [u32; 1120];
+// 32 rows of 36 words: the cells of 32 registers and of the place, then the first cell that is worked out and the one after the last, and
+// the mask of the registers that are written.
+pub type RowTable = [u32; 1152];
 
 // A word as a place.
 fn wide(w: u16) -> usize
@@ -206,7 +207,7 @@ fn put_entries(nodes: &[u16], rows: &[u16], row: usize, table: &mut RowTable)
 {
     let mut c: usize = 0;
     while c < 33 {
-        table[35 * row + c] = cell_in(nodes, entry_at(rows, row, c));
+        table[36 * row + c] = cell_in(nodes, entry_at(rows, row, c));
         c += 1;
     }
 }
@@ -285,7 +286,7 @@ pub fn fill_row(
 )
     ensures { λ _. ⌜
         now (table .exit)
-        ≡ fillRow (now (nodes .entry)) (now (lows .entry)) (now (rows .entry)) row (bits written) (now (table .entry))
+        ≡ fillRow (now (nodes .entry)) (now (lows .entry)) (now (rows .entry)) row written (now (table .entry))
         ⌝ }
 {
     if 32 <= row {
@@ -294,6 +295,7 @@ pub fn fill_row(
     put_entries(nodes, rows, row, table);
     let lo = low_row(nodes, lows, rows, row, written);
     let hi = high_row(nodes, rows, row, written);
-    table[35 * row + 33] = 80 + long(lo);
-    table[35 * row + 34] = hi;
+    table[36 * row + 33] = 80 + long(lo);
+    table[36 * row + 34] = hi;
+    table[36 * row + 35] = written;
 }
