@@ -2,7 +2,8 @@
 use mathlib.Core.Path.{_≡_, refl, sym, _∙_}
 use mathlib.Core.Bool.{Bool, true, false}
 use mathlib.Core.List.{List, [], _∷_, _++_}
-use Prim.Native.Nat.{ℕ, zero, suc, _+_, _-_, _≤_}
+use Prim.Native.Nat.{ℕ, zero, suc, _+_, _-_, _<_, _≤_}
+use native.Mathlib.Nat.{not-suc-le-zero, le-of-suc-le-suc}
 use native.Mathlib.Omega.{arith}
 use borrow.Author.Tests.{eq-eqb, ne-eqb, le-ltb}
 use lib.ListN.{length, getD, replicate, List·getD-eq-default}
@@ -33,6 +34,11 @@ use Rattle.halves.specs.Halves.{fedState, registersIn, withCycle, isExpr
 module _ {A : Type 0} where
   pub getD-past : (l : List A) (d : A) (v : ℕ) → length l ≤ v → d ≡ getD l v d
   getD-past l d v h = sym (List·getD-eq-default l d {n = v} h)
+
+  pub getD-any : (l : List A) (d e : A) (v : ℕ) → v < length l → getD l v d ≡ getD l v e
+  getD-any [] d e v h = absurd (not-suc-le-zero h)
+  getD-any (x ∷ l) d e zero h = refl
+  getD-any (x ∷ l) d e (suc v) h = getD-any l d e v (le-of-suc-le-suc h)
 
   -- 15 elements stored in front of 16
   pub items-whole : (d : A) (f : ℕ → A) → sets (replicate 16 d) 0 (listOf 15 f) ≡ listOf 15 f ++ (d ∷ [])
@@ -75,7 +81,7 @@ row-inputs-is inputs n row a x e h k = rw (e, h, k)
 
 pub registers-is :
     (inputs : ℕ) (st : State) (a : List ℕ) (x : List Bool) → a ≡ listOf 32 (λ r. getD (st .value) (inputs + r) 0) →
-    x ≡ listOf 32 (λ r. getD (st .unknown) (inputs + r) false) →
+    x ≡ listOf 32 (λ r. getD (st .unknown) (inputs + r) true) →
     _≡_ {A = Registers} (record { value = a; unknown = x; places = st .places }) (registersIn inputs st)
 unfolding registersIn
 registers-is inputs st a x e h = rw (e, h)

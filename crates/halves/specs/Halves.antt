@@ -37,7 +37,7 @@ unfoldable pub registersIn : ℕ → State → Registers
 registersIn inputs st =
     record {
       value = listOf 32 (λ r. getD (st .value) (inputs + r) 0);
-      unknown = listOf 32 (λ r. getD (st .unknown) (inputs + r) false);
+      unknown = listOf 32 (λ r. getD (st .unknown) (inputs + r) true);
       places = st .places;
     }
 

@@ -13,7 +13,7 @@ use options::Way;
 use state::State;
 use values::Value;
 ghost use mathlib.Core.Path.{_≡_};
-ghost use mathlib.Core.Bool.{false};
+ghost use mathlib.Core.Bool.{true, false};
 ghost use Prim.Native.Nat.{_+_};
 ghost use lib.ListN.{getD};
 ghost use Rattle.values.specs.Planes.{valueAt};
@@ -111,12 +111,12 @@ fn number_at(numbers: &[u32], v: usize) -> u32
     numbers[v]
 }
 
-// The flag in a slot; past the end down.
+// The flag in a slot; past the end up.
 fn flag_at(flags: &[bool], v: usize) -> bool
-    ensures { λ r. ⌜ r ≡ getD (now (flags .entry)) v false ⌝ }
+    ensures { λ r. ⌜ r ≡ getD (now (flags .entry)) v true ⌝ }
 {
     if flags.len() <= v {
-        return false;
+        return true;
     }
     flags[v]
 }
@@ -137,7 +137,7 @@ fn numbers_from(numbers: &[u32], from: u8) -> [u32; 32]
 
 // 32 flags from a slot on.
 fn flags_from(flags: &[bool], from: u8) -> [bool; 32]
-    ensures { λ r. ⌜ r ≡ listOf 32 (λ k. getD (now (flags .entry)) (from + k) false) ⌝ }
+    ensures { λ r. ⌜ r ≡ listOf 32 (λ k. getD (now (flags .entry)) (from + k) true) ⌝ }
 {
     let first = place(from);
     let mut out = [false; 32];

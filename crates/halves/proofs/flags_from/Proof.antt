@@ -5,14 +5,14 @@ use native.Mathlib.Omega.{arith}
 use borrow.Author.Needs.{needs}
 use lib.ListN.{getD}
 use lib.Seq.{sets}
-use mathlib.Core.Bool.{false}
+use mathlib.Core.Bool.{true}
 use Rattle.state.specs.Saved.{listOf}
 use Rattle.state.proofs.Rows.{listOf-step, listOf-whole}
 use Rattle.halves.proofs.flags_from.Statement.{statement}
 use Rattle.halves.proofs.flags_from.Tie as tie
 
 abbrev Inv-loop : tie.InvT-loop
-Inv-loop flags from first out₀ k₀ out k = (k ≤ 32) × (out ≡ sets out₀ 0 (listOf k (λ v. getD flags (from + v) false)))
+Inv-loop flags from first out₀ k₀ out k = (k ≤ 32) × (out ≡ sets out₀ 0 (listOf k (λ v. getD flags (from + v) true)))
 
 abbrev μ-loop : tie.MeasureT-loop
 μ-loop flags from first out₀ k₀ out k = 32 - k
@@ -26,14 +26,14 @@ loop-again c =
     let l = c .before .before .loop in
     let at-place = c .before .before .before in
     let a = at-place .before .before .args in
-    (search needs, rw (c .flag-at .ensures, at-place .place .ensures, l .inv .1) (listOf-step (λ v. getD (a .flags .now) (a .from + v) false) _ (l .k)))
+    (search needs, rw (c .flag-at .ensures, at-place .place .ensures, l .inv .1) (listOf-step (λ v. getD (a .flags .now) (a .from + v) true) _ (l .k)))
 
 returns : tie.Need-returns Inv-loop μ-loop
 returns c =
     let l = c .before .loop in
     let a = c .before .before .before .before .args in
     let e : l .k ≡ 32 = omega arith in
-    rw e at (l .inv .1) ∙ listOf-whole (λ v. getD (a .flags .now) (a .from + v) false) _ 32 refl
+    rw e at (l .inv .1) ∙ listOf-whole (λ v. getD (a .flags .now) (a .from + v) true) _ 32 refl
 
 pub flags-from-spec : {M : Type 1} → statement M
 flags-from-spec =
