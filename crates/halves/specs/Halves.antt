@@ -4,11 +4,14 @@ use mathlib.Core.Bool.{Bool, true, false}
 use mathlib.Core.List.{List}
 use Prim.Native.Nat.{ℕ, _+_, _*_, _%_}
 use lib.ListN.{getD}
+use lib.Dec.{ltb}
 use Rattle.values.specs.declared.Value.the-variants.{Known}
 use Rattle.values.specs.Values.{pick, _is_then_else_}
 use Rattle.values.specs.Planes.{valueAt}
 use Rattle.options.specs.declared.Way.{Way}
 use Rattle.options.specs.declared.Way.the-variants.{Plain, Drawn, Expressed}
+use Rattle.options.specs.declared.Outcome.{Outcome}
+use Rattle.options.specs.declared.Outcome.the-variants.{Done, Mistaken}
 use Rattle.state.specs.declared.State.{State}
 use Rattle.state.specs.State.{withPlanes, withPlaces}
 use Rattle.state.specs.Saved.{listOf}
@@ -82,6 +85,12 @@ module _ (s : List ℕ) (m : Shape) (ns rs : List ℕ) where
   whole r row =
       let low = half r 0 row in
       record { low = low; high = pick (low .rested) (half low 1 row) low }
+
+-- ---- lineOutcome: how a run ends at a line of its inputs that gives no cycle, by the line's error (`stimulus`): 1 is a blank line or the
+-- end of the file, more is a line that is wrong
+
+unfoldable pub lineOutcome : ℕ → Outcome
+lineOutcome error = pick (ltb error 2) Done Mistaken
 
 -- ---- timeOf: the time of a half in a waveform, ten units a cycle
 

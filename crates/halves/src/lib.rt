@@ -1,4 +1,6 @@
 // A clock cycle of a module in two halves, by events or by the extracted expressions. Each function equals its definition in specs/.
+mod saying;
+
 use clocking::place;
 use clocking::put_all;
 use clocking::put_value;
@@ -9,7 +11,9 @@ use engine::Shape;
 use events::Inputs;
 use nextstate::Clocked;
 use nextstate::Registers;
+use options::Outcome;
 use options::Way;
+pub use saying::put_restless;
 use state::State;
 use values::Value;
 ghost use mathlib.Core.Path.{_≡_};
@@ -21,7 +25,7 @@ ghost use Rattle.state.specs.State.{withPlanes};
 ghost use Rattle.state.specs.Saved.{listOf};
 ghost use Rattle.clocking.specs.Running.{planes, putAll};
 ghost use Rattle.cycles.specs.Many.{itemsFrom, rowInputs};
-ghost use Rattle.halves.specs.Halves.{fedState, registersIn, withCycle, isExpressed, cycleOf, byExpressions, half, whole, timeOf};
+ghost use Rattle.halves.specs.Halves.{fedState, registersIn, withCycle, isExpressed, cycleOf, byExpressions, half, whole, lineOutcome, timeOf};
 
 // Both halves of a cycle.
 pub struct Cycle {
@@ -276,6 +280,16 @@ pub fn whole(sheet: &[u8], m: Shape, nodes: &[u16], rows: &[u16], r: Rest, row: 
         return Cycle { low, high };
     }
     Cycle { low, high: low }
+}
+
+// How a run ends at a line of its inputs that is none of a cycle: its end is right, and so is a blank one.
+pub fn line_outcome(error: u8) -> Outcome
+    ensures { λ o. ⌜ o ≡ lineOutcome error ⌝ }
+{
+    if error < 2 {
+        return Outcome::Done;
+    }
+    Outcome::Mistaken
 }
 
 // The time of a cycle's inputs, or of its rise, in a waveform.
