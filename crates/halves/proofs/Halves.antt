@@ -12,6 +12,7 @@ use Rattle.values.specs.declared.Value.{Value}
 use Rattle.values.specs.declared.Value.the-variants.{Known}
 use Rattle.values.specs.Values.{pick}
 use Rattle.values.specs.Planes.{valueAt}
+use Rattle.options.specs.declared.Way.{Way}
 use Rattle.state.specs.declared.State.{State}
 use Rattle.state.specs.State.{withPlanes, withPlaces}
 use Rattle.state.specs.Saved.{listOf}
@@ -25,9 +26,9 @@ use Rattle.clocking.specs.Running.{Planes, planes, putAt, putAll}
 use Rattle.cycles.specs.Many.{itemsFrom, inputsFrom, rowInputs}
 use Rattle.driving.specs.declared.Rest.{Rest}
 use Rattle.driving.specs.declared.Row.{Row}
-use Rattle.driving.specs.Driving.{left, byEvents}
+use Rattle.driving.specs.Driving.{left, begun, byEvents}
 use Rattle.halves.specs.declared.Cycle.{Cycle}
-use Rattle.halves.specs.Halves.{fedState, registersIn, withCycle, isExpressed, cycleOf, byExpressions, half, whole}
+use Rattle.halves.specs.Halves.{fedState, registersIn, withCycle, isExpressed, items, started, cycleOf, byExpressions, half, whole}
 
 -- ---- lists
 
@@ -92,6 +93,10 @@ pick-cycle :
     (t : Bool) (low a b : Rest) → t ≡ true → _≡_ {A = Cycle} (record { low = low; high = a }) (record { low = low; high = pick t a b })
 pick-cycle t low a b e = rw e
 
+pub started-is : (s : List ℕ) (m : Shape) (way : Way) (n : ℕ) → n ≡ items m → begun s n way ≡ started s m way
+unfolding started
+started-is s m way n e = rw e
+
 module _ (s : List ℕ) (m : Shape) (ns rs : List ℕ) where
   pub cycle-of-is :
       (st : State) (row : Row) (g : Registers) (a : Inputs) (c : Clocked) → g ≡ registersIn (m .inputs) st →
@@ -121,9 +126,9 @@ module _ (s : List ℕ) (m : Shape) (ns rs : List ℕ) where
       half-expressed h = rw (← e, h)
 
       pub half-events :
-          t ≡ false → byEvents s (m .threads + m .wires) r (m .inputs) clock row ≡ half s m ns rs r clock row
+          t ≡ false → (n : ℕ) → n ≡ items m → byEvents s n r (m .inputs) clock row ≡ half s m ns rs r clock row
       unfolding half
-      half-events h = rw (← e, h)
+      half-events h n k = rw (← e, h, k)
 
   module _ (r : Rest) (row : Row) (low : Rest) (e : low ≡ half s m ns rs r 0 row) where
     pub whole-stopped : low .rested ≡ false → record { low = low; high = low } ≡ whole s m ns rs r row

@@ -23,7 +23,7 @@ use Rattle.clocking.specs.Running.{planes, putAt, putAll}
 use Rattle.cycles.specs.Many.{rowInputs}
 use Rattle.driving.specs.declared.Rest.{Rest}
 use Rattle.driving.specs.declared.Row.{Row}
-use Rattle.driving.specs.Driving.{left, byEvents}
+use Rattle.driving.specs.Driving.{left, begun, byEvents}
 use Rattle.halves.specs.declared.Cycle.{Cycle}
 
 -- ---- fedState: a state with a row's inputs, and the clock
@@ -59,6 +59,14 @@ isExpressed Plain = false
 isExpressed (Drawn n) = false
 isExpressed Expressed = true
 
+-- What can be chosen in a state beside a commit: threads and wires.
+abbrev pub items : Shape → ℕ
+items m = m .threads + m .wires
+
+-- From the start to rest, by events whichever the way.
+unfoldable pub started : List ℕ → Shape → Way → Rest
+started s m way = begun s (items m) way
+
 module _ (s : List ℕ) (m : Shape) (ns rs : List ℕ) where
   -- The cycle run of a row, from a state.
   unfoldable pub cycleOf : State → Row → Clocked
@@ -74,10 +82,9 @@ module _ (s : List ℕ) (m : Shape) (ns rs : List ℕ) where
       c .number is 0 then left r 0 true (withCycle m c st) else
       left r (c .number) false (r .state)
 
-  -- What can be chosen in a state beside a commit: threads and wires.
   unfoldable pub half : Rest → ℕ → Row → Rest
   half r clock row =
-      pick (isExpressed (r .way)) (byExpressions r clock row) (byEvents s (m .threads + m .wires) r (m .inputs) clock row)
+      pick (isExpressed (r .way)) (byExpressions r clock row) (byEvents s (items m) r (m .inputs) clock row)
 
   -- ---- whole: both halves; the second where the first comes to rest
 

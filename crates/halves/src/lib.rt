@@ -25,7 +25,7 @@ ghost use Rattle.state.specs.State.{withPlanes};
 ghost use Rattle.state.specs.Saved.{listOf};
 ghost use Rattle.clocking.specs.Running.{planes, putAll};
 ghost use Rattle.cycles.specs.Many.{itemsFrom, rowInputs};
-ghost use Rattle.halves.specs.Halves.{fedState, registersIn, withCycle, isExpressed, cycleOf, byExpressions, half, whole, lineOutcome, timeOf};
+ghost use Rattle.halves.specs.Halves.{fedState, registersIn, withCycle, isExpressed, items, started, cycleOf, byExpressions, half, whole, lineOutcome, timeOf};
 
 // Both halves of a cycle.
 pub struct Cycle {
@@ -217,6 +217,20 @@ pub fn is_expressed(way: Way) -> bool
     }
 }
 
+// What can be chosen in a state beside a commit.
+fn items(m: Shape) -> u64
+    ensures { λ n. ⌜ n ≡ items m ⌝ }
+{
+    m.threads as u64 + m.wires as u64
+}
+
+// The state at the start, at rest.
+pub fn begin(sheet: &[u8], m: Shape, way: Way) -> Rest
+    ensures { λ e. ⌜ e ≡ started (now (sheet .entry)) m way ⌝ }
+{
+    driving::begin(sheet, items(m), way)
+}
+
 // The cycle run of a row, from a state.
 fn cycle_of(sheet: &[u8], m: Shape, nodes: &[u16], rows: &[u16], st: State, row: Row) -> Clocked
     ensures { λ c. ⌜ c ≡ cycleOf (now (sheet .entry)) m (now (nodes .entry)) (now (rows .entry)) st row ⌝ }
@@ -266,8 +280,7 @@ pub fn half(
     if is_expressed(way) {
         return by_expressions(sheet, m, nodes, rows, r, clock, row);
     }
-    let items = m.threads as u64 + m.wires as u64;
-    driving::by_events(sheet, items, r, m.inputs, clock, row)
+    driving::by_events(sheet, items(m), r, m.inputs, clock, row)
 }
 
 // A cycle.

@@ -184,6 +184,27 @@ pub fn refuse_extraction(index: usize, sheet: &[u8]) {
 
 // ---- runs
 
+// Not at rest after so many choices.
+fn say_restless(most: usize) {
+    let mut text = [0u8; 65536];
+    let p = halves::put_restless(most, &mut text, 0);
+    flush(STDERR_FILENO, &text, p);
+}
+
+// A cycle that did not come to rest.
+pub fn restless(index: usize, cycle: usize, most: usize) {
+    wrong_with(index, b": cycle #: ", cycle);
+    say_restless(most);
+    io::write_all(STDERR_FILENO, b"\n");
+}
+
+// A sheet that did not come to rest from the start.
+pub fn unstarted(index: usize, most: usize) {
+    wrong_with(index, b": ", 0);
+    say_restless(most);
+    io::write_all(STDERR_FILENO, b" from the start\n");
+}
+
 // A cycle that could not be run.
 pub fn stopped(index: usize, cycle: usize, number: u8) {
     wrong_with(index, b": cycle #: ", cycle);
