@@ -4,8 +4,8 @@ mod comparing;
 mod display;
 mod feed;
 mod files;
-mod labels;
 mod machine;
+mod names;
 mod nets;
 mod report;
 mod running;
@@ -57,7 +57,7 @@ where the clock is the only input; # comments.
 // What a command does with a sheet that is read.
 fn perform(c: Command, sheet: &[u8], layout: Layout, widths: &[u8]) -> Outcome {
     let mut names = [0u8; 2560];
-    if !labels::fill(options::names_of(c), layout, &mut names) {
+    if !names::fill(options::names_of(c), layout, &mut names) {
         return Outcome::Mistaken;
     }
     match c {

@@ -17,6 +17,7 @@ advanced-spec =
     Inv-loop
     μ-loop
     (λ c κs. search needs)
+    (λ c. search needs)
     (λ c. tt)
     (λ c. search needs)
     (λ c. search needs)
