@@ -1,5 +1,5 @@
 // The rows of an inputs file, a line a cycle, read as the run goes on.
-use crate::report::wrong_at;
+use crate::report::wrong_inputs;
 use stimulus::Waiting;
 
 // How far the file is read: its descriptor, the part of the buffer that waits, the line it begins with, and whether the file is at its
@@ -95,31 +95,6 @@ fn no_row(feed: Feed, more: bool, error: u8) -> Row {
     }
 }
 
-// What is wrong with a line.
-fn complain(index: usize, line: usize, column: usize, error: u8) {
-    match error {
-        2 => wrong_at(
-            index,
-            line,
-            column,
-            b"no number: decimal, 0x and hexadecimal, or x is allowed\n",
-        ),
-        3 => wrong_at(index, line, column, b"too wide for its input\n"),
-        4 => wrong_at(
-            index,
-            line,
-            column,
-            b"too few values: one for each input but the clock is allowed\n",
-        ),
-        _ => wrong_at(
-            index,
-            line,
-            column,
-            b"too many values: one for each input but the clock is allowed, - where there is none\n",
-        ),
-    }
-}
-
 // The row of a line.
 fn row_of(index: usize, line: &[u8], widths: &[u8], inputs: u8, feed: Feed) -> Row {
     let p = stimulus::parse(line, widths, inputs);
@@ -127,7 +102,7 @@ fn row_of(index: usize, line: &[u8], widths: &[u8], inputs: u8, feed: Feed) -> R
         return no_row(feed, true, 1);
     }
     if p.error != 0 {
-        complain(index, feed.line, p.column, p.error);
+        wrong_inputs(index, feed.line, p.column, p.error);
         return no_row(feed, false, p.error);
     }
     let value = p.value;

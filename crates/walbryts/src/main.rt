@@ -91,7 +91,7 @@ fn with_text(c: Command, view: &[u8]) -> Outcome {
     let mut bytes = [0u8; 8193];
     let d = hextext::decode(view, &mut bytes);
     if d.error != 0 {
-        misread(index, d.line, d.column, d.error);
+        report::wrong_hex(index, d.line, d.column, d.error);
         return Outcome::Mistaken;
     }
     let length = d.length;
@@ -99,15 +99,6 @@ fn with_text(c: Command, view: &[u8]) -> Outcome {
         return Outcome::Mistaken;
     }
     with_bytes(c, &bytes[..length], view, true)
-}
-
-// What is wrong with hexadecimal text.
-fn misread(index: usize, line: usize, column: usize, error: u8) {
-    if error == 1 {
-        report::wrong_at(index, line, column, b"no hexadecimal digit\n");
-        return;
-    }
-    report::wrong_at(index, line, column, b"a digit without its second\n");
 }
 
 // A file's bytes: a sheet, or hexadecimal text.

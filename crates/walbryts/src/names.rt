@@ -1,22 +1,8 @@
 // The names of the variables: i0.., r0.., w0.., or those of a names file, which `labels` takes.
 use crate::files::read_whole;
-use crate::report::wrong_at;
+use crate::report::wrong_names;
 use crate::report::wrong_with;
 use sheet::Layout;
-
-// What is wrong with a line.
-fn complain(index: usize, line: usize, column: usize, error: u8) {
-    match error {
-        2 => wrong_at(index, line, column, b"no such variable\n"),
-        3 => wrong_at(
-            index,
-            line,
-            column,
-            b"a name that is not allowed: 1 to 31 letters, digits and _, no digit first\n",
-        ),
-        _ => wrong_at(index, line, column, b"another variable has this name\n"),
-    }
-}
 
 // The names of a file's bytes. Are they right? If not, says why.
 fn taken(index: usize, bytes: &[u8], layout: Layout, names: &mut [u8; 2560]) -> bool {
@@ -24,7 +10,7 @@ fn taken(index: usize, bytes: &[u8], layout: Layout, names: &mut [u8; 2560]) -> 
     if m.error == 0 {
         return true;
     }
-    complain(index, m.line, m.column, m.error);
+    wrong_names(index, m.line, m.column, m.error);
     false
 }
 
