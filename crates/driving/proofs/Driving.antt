@@ -17,7 +17,8 @@ use Rattle.options.specs.declared.Way.the-variants.{Plain, Drawn, Expressed}
 use Rattle.driving.specs.declared.Rest.{Rest}
 use Rattle.driving.specs.declared.Row.{Row}
 use Rattle.driving.specs.declared.Ending.the-variants.{Rested, Refused, Restless}
-use Rattle.driving.specs.Driving.{rest, left, plainMost, drawnMost, isQuiet, plainly, nextSeed, drawnChoice, draw, drawn, byWay, toRest, seedOf, begun, inputsOf, byEvents}
+use Rattle.driving.specs.Driving.{rest, left, plainMost, drawnMost, isQuiet, plainly, nextSeed, drawnChoice}
+use Rattle.driving.specs.Driving.{draw, drawn, byWay, toRest, seedOf, begun, inputsOf, byEvents}
 use Rattle.driving.specs.Endings.{mostOf, endingOf}
 
 pick-second : (t : Bool) (a b : Rest) → t ≡ false → pick t a b ≡ b

@@ -25,7 +25,8 @@ ghost use Rattle.state.specs.State.{withPlanes};
 ghost use Rattle.state.specs.Saved.{listOf};
 ghost use Rattle.clocking.specs.Running.{planes, putAll};
 ghost use Rattle.cycles.specs.Many.{itemsFrom, rowInputs};
-ghost use Rattle.halves.specs.Halves.{fedState, registersIn, withCycle, isExpressed, items, started, cycleOf, byExpressions, half, whole, lineOutcome, timeOf};
+ghost use Rattle.halves.specs.Halves.{fedState, registersIn, withCycle, isExpressed, items, started};
+ghost use Rattle.halves.specs.Halves.{cycleOf, byExpressions, half, whole, lineOutcome, timeOf};
 
 // Both halves of a cycle.
 pub struct Cycle {

@@ -9,7 +9,9 @@ use Rattle.findings.proofs.put_clock.Tie as tie
 returns : tie.Need-returns
 unfolding ascii clockWords
 returns c =
-    rw (c .before .before .before .before .before .before .before .before .if1 .taken) (both _ _ _ _ _ (both _ _ _ _ _ (c .before .before .before .before .before .put-word .ensures) (c .before .before .before .put-decimal .ensures)) (c .put-word2 .ensures))
+    rw (c .before .before .before .before .before .before .before .before .if1 .taken)
+    (both _ _ _ _ _ (both _ _ _ _ _ (c .before .before .before .before .before .put-word .ensures)
+    (c .before .before .before .put-decimal .ensures)) (c .put-word2 .ensures))
 
 returns-2 : tie.Need-returns-2
 unfolding ascii clockWords

@@ -12,15 +12,27 @@ returns c = rw (eq-eqb _ _ (c .before .before .before .if1 .taken)) (c .put-word
 
 returns-2 : tie.Need-returns-2
 unfolding ascii inputWords
-returns-2 c = rw (ne-eqb _ _ (c .before .before .before .before .if1 .left), eq-eqb _ _ (c .before .before .before .if2 .taken)) (c .put-word2 .ensures)
+returns-2 c =
+    rw (ne-eqb _ _ (c .before .before .before .before .if1 .left), eq-eqb _ _ (c .before .before .before .if2 .taken))
+    (c .put-word2 .ensures)
 
 returns-3 : tie.Need-returns-3
 unfolding ascii inputWords
-returns-3 c = rw (ne-eqb _ _ (c .before .before .before .before .before .if1 .left), ne-eqb _ _ (c .before .before .before .before .if2 .left), eq-eqb _ _ (c .before .before .before .if3 .taken)) (c .put-word3 .ensures)
+returns-3 c =
+    rw (
+      ne-eqb _ _ (c .before .before .before .before .before .if1 .left),
+      ne-eqb _ _ (c .before .before .before .before .if2 .left),
+      eq-eqb _ _ (c .before .before .before .if3 .taken),
+    ) (c .put-word3 .ensures)
 
 returns-4 : tie.Need-returns-4
 unfolding ascii inputWords
-returns-4 c = rw (ne-eqb _ _ (c .before .before .before .before .before .if1 .left), ne-eqb _ _ (c .before .before .before .before .if2 .left), ne-eqb _ _ (c .before .before .before .if3 .left)) (c .put-word4 .ensures)
+returns-4 c =
+    rw (
+      ne-eqb _ _ (c .before .before .before .before .before .if1 .left),
+      ne-eqb _ _ (c .before .before .before .before .if2 .left),
+      ne-eqb _ _ (c .before .before .before .if3 .left),
+    ) (c .put-word4 .ensures)
 
 pub put-input-error-spec : {M : Type 1} → statement M
 put-input-error-spec =

@@ -12,11 +12,15 @@ returns c = rw (eq-eqb _ _ (c .before .before .before .if1 .taken)) (c .put-word
 
 returns-2 : tie.Need-returns-2
 unfolding ascii nameWords
-returns-2 c = rw (ne-eqb _ _ (c .before .before .before .before .if1 .left), eq-eqb _ _ (c .before .before .before .if2 .taken)) (c .put-word2 .ensures)
+returns-2 c =
+    rw (ne-eqb _ _ (c .before .before .before .before .if1 .left), eq-eqb _ _ (c .before .before .before .if2 .taken))
+    (c .put-word2 .ensures)
 
 returns-3 : tie.Need-returns-3
 unfolding ascii nameWords
-returns-3 c = rw (ne-eqb _ _ (c .before .before .before .before .if1 .left), ne-eqb _ _ (c .before .before .before .if2 .left)) (c .put-word3 .ensures)
+returns-3 c =
+    rw (ne-eqb _ _ (c .before .before .before .before .if1 .left), ne-eqb _ _ (c .before .before .before .if2 .left))
+    (c .put-word3 .ensures)
 
 pub put-name-error-spec : {M : Type 1} → statement M
 put-name-error-spec =

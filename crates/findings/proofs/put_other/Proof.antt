@@ -12,15 +12,31 @@ returns c = rw (eq-eqb _ _ (c .before .before .before .before .if1 .taken)) (c .
 
 returns-2 : tie.Need-returns-2
 unfolding ascii otherWords
-returns-2 c = rw (ne-eqb _ _ (c .before .before .before .before .before .before .if1 .left), eq-eqb _ _ (c .before .before .before .before .if2 .taken)) (c .put-two2 .ensures)
+returns-2 c =
+    rw (
+      ne-eqb _ _ (c .before .before .before .before .before .before .if1 .left),
+      eq-eqb _ _ (c .before .before .before .before .if2 .taken),
+    ) (c .put-two2 .ensures)
 
 returns-3 : tie.Need-returns-3
 unfolding ascii otherWords
-returns-3 c = rw (ne-eqb _ _ (c .before .before .before .before .before .before .before .if1 .left), ne-eqb _ _ (c .before .before .before .before .before .if2 .left), c .before .before .before .before .if3 .taken) (c .put-two3 .ensures)
+returns-3 c =
+    rw (
+      ne-eqb _ _ (c .before .before .before .before .before .before .before .if1 .left),
+      ne-eqb _ _ (c .before .before .before .before .before .if2 .left),
+      c .before .before .before .before .if3 .taken,
+    )
+    (c .put-two3 .ensures)
 
 returns-4 : tie.Need-returns-4
 unfolding ascii otherWords
-returns-4 c = rw (ne-eqb _ _ (c .before .before .before .before .before .before .before .if1 .left), ne-eqb _ _ (c .before .before .before .before .before .if2 .left), c .before .before .before .before .if3 .left) (c .put-two4 .ensures)
+returns-4 c =
+    rw (
+      ne-eqb _ _ (c .before .before .before .before .before .before .before .if1 .left),
+      ne-eqb _ _ (c .before .before .before .before .before .if2 .left),
+      c .before .before .before .before .if3 .left,
+    )
+    (c .put-two4 .ensures)
 
 pub put-other-spec : {M : Type 1} → statement M
 put-other-spec =

@@ -9,7 +9,8 @@ use Rattle.findings.proofs.put_register.Tie as tie
 returns : tie.Need-returns
 unfolding ascii registerWords
 returns c =
-    both _ _ _ _ _ (both _ _ _ _ _ (both _ _ _ _ _ (c .before .before .before .before .before .before .before .put-word .ensures) (c .before .before .before .before .before .put-decimal .ensures)) (c .before .before .put-word2 .ensures))
+    both _ _ _ _ _ (both _ _ _ _ _ (both _ _ _ _ _ (c .before .before .before .before .before .before .before .put-word .ensures)
+    (c .before .before .before .before .before .put-decimal .ensures)) (c .before .before .put-word2 .ensures))
     (c .put-other .ensures)
 
 pub put-register-spec : {M : Type 1} → statement M

@@ -6,7 +6,8 @@ use Rattle.findings.proofs.put_two.Tie as tie
 
 returns : tie.Need-returns
 returns c =
-    both _ _ _ _ _ (both _ _ _ _ _ (both _ _ _ _ _ (c .before .before .before .before .before .before .put-word .ensures) (c .before .before .before .before .put-decimal .ensures)) (c .before .before .put-word2 .ensures))
+    both _ _ _ _ _ (both _ _ _ _ _ (both _ _ _ _ _ (c .before .before .before .before .before .before .put-word .ensures)
+    (c .before .before .before .before .put-decimal .ensures)) (c .before .before .put-word2 .ensures))
     (c .put-decimal2 .ensures)
 
 pub put-two-spec : {M : Type 1} → statement M

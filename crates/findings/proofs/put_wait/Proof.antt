@@ -13,11 +13,20 @@ returns c = rw (eq-eqb _ _ (c .before .before .before .before .if1 .taken)) (c .
 
 returns-2 : tie.Need-returns-2
 unfolding ascii waitWords
-returns-2 c = rw (ne-eqb _ _ (c .before .before .before .before .before .before .if1 .left), eq-eqb _ _ (c .before .before .before .before .if2 .taken)) (c .put-two2 .ensures)
+returns-2 c =
+    rw (
+      ne-eqb _ _ (c .before .before .before .before .before .before .if1 .left),
+      eq-eqb _ _ (c .before .before .before .before .if2 .taken),
+    ) (c .put-two2 .ensures)
 
 returns-3 : tie.Need-returns-3
 unfolding ascii waitWords
-returns-3 c = rw (ne-eqb _ _ (c .before .before .before .before .before .before .before .before .before .if1 .left), ne-eqb _ _ (c .before .before .before .before .before .before .before .if2 .left)) (both _ _ _ _ _ (c .before .before .before .put-two3 .ensures) (c .put-word .ensures))
+returns-3 c =
+    rw (
+      ne-eqb _ _ (c .before .before .before .before .before .before .before .before .before .if1 .left),
+      ne-eqb _ _ (c .before .before .before .before .before .before .before .if2 .left),
+    )
+    (both _ _ _ _ _ (c .before .before .before .put-two3 .ensures) (c .put-word .ensures))
 
 pub put-wait-spec : {M : Type 1} → statement M
 put-wait-spec =

@@ -11,15 +11,27 @@ returns c = rw (eq-eqb _ _ (c .before .before .if1 .taken)) (c .put-register .en
 
 returns-2 : tie.Need-returns-2
 unfolding witnessWords
-returns-2 c = rw (ne-eqb _ _ (c .before .before .before .before .if1 .left), eq-eqb _ _ (c .before .before .if2 .taken)) (c .put-register2 .ensures)
+returns-2 c =
+    rw (ne-eqb _ _ (c .before .before .before .before .if1 .left), eq-eqb _ _ (c .before .before .if2 .taken))
+    (c .put-register2 .ensures)
 
 returns-3 : tie.Need-returns-3
 unfolding witnessWords
-returns-3 c = rw (ne-eqb _ _ (c .before .before .before .before .before .before .if1 .left), ne-eqb _ _ (c .before .before .before .before .if2 .left), eq-eqb _ _ (c .before .before .if3 .taken)) (c .put-register3 .ensures)
+returns-3 c =
+    rw (
+      ne-eqb _ _ (c .before .before .before .before .before .before .if1 .left),
+      ne-eqb _ _ (c .before .before .before .before .if2 .left),
+      eq-eqb _ _ (c .before .before .if3 .taken),
+    ) (c .put-register3 .ensures)
 
 returns-4 : tie.Need-returns-4
 unfolding witnessWords
-returns-4 c = rw (ne-eqb _ _ (c .before .before .before .before .before .before .if1 .left), ne-eqb _ _ (c .before .before .before .before .if2 .left), ne-eqb _ _ (c .before .before .if3 .left)) (c .put-rest .ensures)
+returns-4 c =
+    rw (
+      ne-eqb _ _ (c .before .before .before .before .before .before .if1 .left),
+      ne-eqb _ _ (c .before .before .before .before .if2 .left),
+      ne-eqb _ _ (c .before .before .if3 .left),
+    ) (c .put-rest .ensures)
 
 pub put-witness-spec : {M : Type 1} → statement M
 put-witness-spec =

@@ -25,8 +25,11 @@ loop-again : tie.Need-loop-again Inv-loop μ-loop
 loop-again c =
     let l = c .before .before .loop in
     let at-place = c .before .before .before in
-    let a = at-place .before .before .args in
-    (search needs, rw (c .flag-at .ensures, at-place .place .ensures, l .inv .1) (listOf-step (λ v. getD (a .flags .now) (a .from + v) true) _ (l .k)))
+    let a = at-place .before .before .args in (
+      search needs,
+      rw (c .flag-at .ensures, at-place .place .ensures, l .inv .1) (listOf-step (λ v. getD (a .flags .now)
+          (a .from + v) true) _ (l .k)),
+    )
 
 returns : tie.Need-returns Inv-loop μ-loop
 returns c =

@@ -9,7 +9,9 @@ returns : tie.Need-returns
 returns c = c .by-expressions .ensures ∙ half-expressed _ _ _ _ _ _ _ _ (c .before .before .is-expressed .ensures) (c .before .if1 .taken)
 
 returns-2 : tie.Need-returns-2
-returns-2 c = c .by-events .ensures ∙ half-events _ _ _ _ _ _ _ _ (c .before .before .before .is-expressed .ensures) (c .before .before .if1 .left) _ (c .before .items .ensures)
+returns-2 c =
+    c .by-events .ensures ∙ half-events _ _ _ _ _ _ _ _ (c .before .before .before .is-expressed .ensures)
+    (c .before .before .if1 .left) _ (c .before .items .ensures)
 
 pub half-spec : {M : Type 1} → statement M
 half-spec =

@@ -5,7 +5,9 @@ use Rattle.halves.proofs.inputs_of.Statement.{statement}
 use Rattle.halves.proofs.inputs_of.Tie as tie
 
 returns : tie.Need-returns
-returns c = row-inputs-is _ _ _ _ _ (c .upper .ensures) (c .before .before .before .before .upper-numbers .ensures) (c .before .upper-flags .ensures)
+returns c =
+    row-inputs-is _ _ _ _ _ (c .upper .ensures) (c .before .before .before .before .upper-numbers .ensures)
+    (c .before .upper-flags .ensures)
 
 pub inputs-of-spec : {M : Type 1} → statement M
 inputs-of-spec =

@@ -24,8 +24,11 @@ loop-again : tie.Need-loop-again Inv-loop μ-loop
 loop-again c =
     let l = c .before .before .loop in
     let at-place = c .before .before .before in
-    let a = at-place .before .before .args in
-    (search needs, rw (c .number-at .ensures, at-place .place .ensures, l .inv .1) (listOf-step (λ v. getD (a .numbers .now) (a .from + v) 0) _ (l .k)))
+    let a = at-place .before .before .args in (
+      search needs,
+      rw (c .number-at .ensures, at-place .place .ensures, l .inv .1) (listOf-step (λ v. getD (a .numbers .now)
+          (a .from + v) 0) _ (l .k)),
+    )
 
 returns : tie.Need-returns Inv-loop μ-loop
 returns c =

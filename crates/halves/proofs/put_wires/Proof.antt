@@ -8,7 +8,11 @@ returns : tie.Need-returns
 returns c = put-all-past _ _ _ _ _ (rw (← c .before .before .place .ensures, ← c .before .place2 .ensures) (c .if1 .taken))
 
 returns-2 : tie.Need-returns-2
-returns-2 c = rw (← c .before .before .before .before .before .before .before .before .before .before .place .ensures, ← c .before .before .before .before .before .before .before .before .before .place2 .ensures) (c .put-all .ensures)
+returns-2 c =
+    rw (
+      ← c .before .before .before .before .before .before .before .before .before .before .place .ensures,
+      ← c .before .before .before .before .before .before .before .before .before .place2 .ensures,
+    ) (c .put-all .ensures)
 
 pub put-wires-spec : {M : Type 1} → statement M
 put-wires-spec =

@@ -7,7 +7,9 @@ use Rattle.halves.proofs.with_cycle.Tie as tie
 
 returns : tie.Need-returns
 unfolding withPlaces
-returns c = rw (c .with-planes .ensures) (cycle-in _ _ _ _ _ _ _ (c .before .before .before .before .before .put-all .ensures) (c .before .before .put-wires .ensures))
+returns c =
+    rw (c .with-planes .ensures) (cycle-in _ _ _ _ _ _ _ (c .before .before .before .before .before .put-all .ensures)
+    (c .before .before .put-wires .ensures))
 
 pub with-cycle-spec : {M : Type 1} → statement M
 with-cycle-spec =

@@ -10,7 +10,9 @@ returns : tie.Need-returns
 returns c = line-blank _ _ _ _ _ _ _ (c .before .before .before .parse-name .ensures) (c .before .if1 .taken) _ (c .marked .ensures)
 
 returns-2 : tie.Need-returns-2
-returns-2 c = line-wrong _ _ _ _ _ _ _ (c .before .before .before .before .before .parse-name .ensures) (c .before .before .before .if1 .left) (c .before .if2 .taken) _ (c .marked2 .ensures)
+returns-2 c =
+    line-wrong _ _ _ _ _ _ _ (c .before .before .before .before .before .parse-name .ensures) (c .before .before .before .if1 .left)
+    (c .before .if2 .taken) _ (c .marked2 .ensures)
 
 sub-named : tie.Need-sub-named
 sub-named c =
@@ -28,7 +30,8 @@ part-named-end c =
     omega arith
 
 returns-3 : tie.Need-returns-3
-returns-3 c = c .named .ensures ∙ line-named _ _ _ _ _ _ _ (c .before .before .before .before .before .before .before .before .parse-name .ensures) (c .before .before .before .before .before .before .if1 .left) (c .before .before .before .before .if2 .left)
+returns-3 c =
+    c .named .ensures ∙ line-named _ _ _ _ _ _ _ (c .before .before .before .before .before .before .before .before .parse-name .ensures) (c .before .before .before .before .before .before .if1 .left) (c .before .before .before .before .if2 .left)
 
 pub take-line-spec : {M : Type 1} → statement M
 take-line-spec =

@@ -19,26 +19,39 @@ unfolding linesTaken
 loop-holds c = refl
 
 returns : tie.Need-returns Inv-loop μ-loop
-returns c = rw (c .marked .ensures) (lines-over _ _ _ (c .before .before .before .before .before .args .bytes .now) (c .before .before .before .loop .left) (c .before .before .before .loop .from) (c .before .before .before .loop .number) (c .before .before .before .loop .names) (c .before .before .loop-test .taken) (c .before .if1 .taken) ∙ c .before .before .before .loop .inv)
+returns c =
+    rw (c .marked .ensures) (lines-over _ _ _ (c .before .before .before .before .before .args .bytes .now)
+    (c .before .before .before .loop .left) (c .before .before .before .loop .from) (c .before .before .before .loop .number)
+    (c .before .before .before .loop .names) (c .before .before .loop-test .taken)
+    (c .before .if1 .taken) ∙ c .before .before .before .loop .inv)
 
 sub-take-line : tie.Need-sub-take-line Inv-loop μ-loop
 sub-take-line c =
-    let x = rw (← c .line-end .ensures) at (line-inside (c .before .before .before .before .before .args .bytes .now) (c .before .before .before .loop .from) _ (c .before .if1 .left)) in
+    let x = rw (← c .line-end .ensures) at (line-inside (c .before .before .before .before .before .args .bytes .now)
+    (c .before .before .before .loop .from) _ (c .before .if1 .left)) in
     omega arith
 
 part-take-line-start : tie.Need-part-take-line-start Inv-loop μ-loop
 part-take-line-start c =
-    let x = rw (← c .line-end .ensures) at (line-inside (c .before .before .before .before .before .args .bytes .now) (c .before .before .before .loop .from) _ (c .before .if1 .left)) in
+    let x = rw (← c .line-end .ensures) at (line-inside (c .before .before .before .before .before .args .bytes .now)
+    (c .before .before .before .loop .from) _ (c .before .if1 .left)) in
     omega arith
 
 part-take-line-end : tie.Need-part-take-line-end Inv-loop μ-loop
 part-take-line-end c =
-    let x = rw (← c .line-end .ensures) at (line-inside (c .before .before .before .before .before .args .bytes .now) (c .before .before .before .loop .from) _ (c .before .if1 .left)) in
+    let x = rw (← c .line-end .ensures) at (line-inside (c .before .before .before .before .before .args .bytes .now)
+    (c .before .before .before .loop .from) _ (c .before .if1 .left)) in
     omega arith
 
 returns-2 : tie.Need-returns-2 Inv-loop μ-loop
 returns-2 c =
-    lines-stopped _ _ _ (c .before .before .before .before .before .before .before .before .before .before .args .bytes .now) (c .before .before .before .before .before .before .before .before .loop .left) (c .before .before .before .before .before .before .before .before .loop .from) (c .before .before .before .before .before .before .before .before .loop .number) (c .before .before .before .before .before .before .before .before .loop .names) (c .before .before .before .before .before .before .before .loop-test .taken) (c .before .before .before .before .before .before .if1 .left) _ (c .before .before .before .before .before .line-end .ensures) _ _ (c .before .before .take-line .ensures) (c .if2 .taken)
+    lines-stopped _ _ _ (c .before .before .before .before .before .before .before .before .before .before .args .bytes .now)
+    (c .before .before .before .before .before .before .before .before .loop .left)
+    (c .before .before .before .before .before .before .before .before .loop .from)
+    (c .before .before .before .before .before .before .before .before .loop .number)
+    (c .before .before .before .before .before .before .before .before .loop .names)
+    (c .before .before .before .before .before .before .before .loop-test .taken)
+    (c .before .before .before .before .before .before .if1 .left) _ (c .before .before .before .before .before .line-end .ensures) _ _ (c .before .before .take-line .ensures) (c .if2 .taken)
     ∙ c .before .before .before .before .before .before .before .before .loop .inv
 
 loop-again : tie.Need-loop-again Inv-loop μ-loop
@@ -47,7 +60,10 @@ loop-again c =
     ∙ c .before .before .before .before .before .before .before .before .before .before .loop .inv
 
 returns-3 : tie.Need-returns-3 Inv-loop μ-loop
-returns-3 c = rw (c .marked2 .ensures) (lines-none _ _ _ (c .before .before .before .before .args .bytes .now) (c .before .before .loop .left) (c .before .before .loop .from) (c .before .before .loop .number) (c .before .before .loop .names) (c .before .loop-test .left) ∙ c .before .before .loop .inv)
+returns-3 c =
+    rw (c .marked2 .ensures) (lines-none _ _ _ (c .before .before .before .before .args .bytes .now) (c .before .before .loop .left)
+    (c .before .before .loop .from) (c .before .before .loop .number) (c .before .before .loop .names)
+    (c .before .loop-test .left) ∙ c .before .before .loop .inv)
 
 pub take-lines-spec : {M : Type 1} → statement M
 take-lines-spec =

@@ -14,7 +14,8 @@ returns-2 : tie.Need-returns-2
 unfolding grouped
 returns-2 c =
     rw (le-ltb _ _ (c .before .before .before .before .before .before .if1 .left))
-    (both _ _ _ _ _ (both _ _ _ _ _ (c .before .before .before .before .put-thousands2 .ensures) (c .before .before .put-three .ensures)) (c .put-three2 .ensures))
+    (both _ _ _ _ _ (both _ _ _ _ _ (c .before .before .before .before .put-thousands2 .ensures)
+    (c .before .before .put-three .ensures)) (c .put-three2 .ensures))
 
 pub put-grouped-spec : {M : Type 1} → statement M
 put-grouped-spec =

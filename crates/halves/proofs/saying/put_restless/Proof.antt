@@ -8,7 +8,9 @@ use Rattle.halves.proofs.saying.put_restless.Tie as tie
 
 returns : tie.Need-returns
 unfolding ascii restlessWords
-returns c = both _ _ _ _ _ (both _ _ _ _ _ (c .before .before .before .before .before .put-word .ensures) (c .before .before .before .put-grouped .ensures)) (c .put-word2 .ensures)
+returns c =
+    both _ _ _ _ _ (both _ _ _ _ _ (c .before .before .before .before .before .put-word .ensures)
+    (c .before .before .before .put-grouped .ensures)) (c .put-word2 .ensures)
 
 pub put-restless-spec : {M : Type 1} → statement M
 put-restless-spec =

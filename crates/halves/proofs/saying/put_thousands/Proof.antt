@@ -12,7 +12,9 @@ returns c = rw (lt-ltb _ _ (c .before .before .if1 .taken)) (c .put-decimal .ens
 
 returns-2 : tie.Need-returns-2
 unfolding thousands
-returns-2 c = rw (le-ltb _ _ (c .before .before .before .before .if1 .left)) (both _ _ _ _ _ (c .before .before .put-decimal2 .ensures) (c .put-three .ensures))
+returns-2 c =
+    rw (le-ltb _ _ (c .before .before .before .before .if1 .left)) (both _ _ _ _ _ (c .before .before .put-decimal2 .ensures)
+    (c .put-three .ensures))
 
 pub put-thousands-spec : {M : Type 1} → statement M
 put-thousands-spec =

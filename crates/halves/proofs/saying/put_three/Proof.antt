@@ -6,7 +6,12 @@ use Rattle.halves.proofs.saying.put_three.Tie as tie
 
 returns : tie.Need-returns
 unfolding three
-returns c = rw (← c .before .before .before .before .before .last-digit .ensures, ← c .before .before .before .before .last-digit2 .ensures, ← c .before .before .before .last-digit3 .ensures) (c .put-word .ensures)
+returns c =
+    rw (
+      ← c .before .before .before .before .before .last-digit .ensures,
+      ← c .before .before .before .before .last-digit2 .ensures,
+      ← c .before .before .before .last-digit3 .ensures,
+    ) (c .put-word .ensures)
 
 pub put-three-spec : {M : Type 1} → statement M
 put-three-spec =
