@@ -10,14 +10,15 @@ use Rattle.verilog_tokens.specs.Tokens.{Token, Name, tokens, places}
 use Rattle.verilog_tokens.specs.Table.{kinds, numbers, numberIn, idOf}
 use Rattle.verilog_grammar.specs.Meaning.{aWire, Driven, Part}
 use Rattle.verilog_source.specs.Names as Source
-use Rattle.verilog_source.specs.Names.{variables, driven, threads, numberOf, faults, lowest}
+use Rattle.verilog_source.specs.Names.{Variable, variables, driven, threads, numberOf, faults, lowest}
 use Rattle.verilog_source.specs.Written.{valueFor, writtenWires, writtenThreads, written}
 use Rattle.verilog_names.specs.declared.Fault.{Fault}
+use Rattle.verilog_names.specs.Chosen.{chosen, hasRole}
 use Rattle.verilog_names.specs.Faults.{faultOf}
 use Rattle.verilog_names.specs.Numbers.{numbered}
 use Rattle.verilog_names.specs.Head.{headOf}
 use Rattle.verilog_names.specs.Order.{targetOf}
-use Rattle.verilog_names.specs.Tables.{Stands, Drives, Scanned, Noted}
+use Rattle.verilog_names.specs.Tables.{Along, Stands, Drives, Scanned, Noted}
 
 -- ---- ids are equal exactly where the spellings are
 
@@ -40,6 +41,10 @@ unfoldable pub SameFaults : Type 0
 SameFaults = (index : List ℕ → ℕ) (ts : List Token) (ps : List Part) (kinds ids places roles widths : List ℕ)
     → Scanned ts kinds ids places → Noted index ts ps roles widths
     → faultOf kinds ids places roles (length ts) ≡ faultBy (faults ts ps)
+
+-- None is found exactly where there is none.
+unfoldable pub Faultless : Type 0
+Faultless = (ns : List Name) → faultBy ns .found ≡ false → ns ≡ []
 
 -- ---- numbers: each name has its variable's
 
@@ -66,3 +71,11 @@ SameTarget = (index : List ℕ → ℕ) (ts : List Token) (ps : List Part) (kind
     → Scanned ts kinds ids places → Noted index ts ps roles widths
     → (t : ℕ) (n : Name) → Stands ts t n → Source.isAmong (map Source.targetOf (driven ps)) n ≡ true
     → Found index ts ps (targetOf ids roles (length ts) (getD ids t 0)) (n .spelled)
+
+-- Where no name is at fault, each wire's declaration finds its target.
+unfoldable pub WiresFound : Type 0
+WiresFound = (index : List ℕ → ℕ) (ts : List Token) (ps : List Part) (kinds ids places roles widths : List ℕ)
+    → Scanned ts kinds ids places → Noted index ts ps roles widths → faults ts ps ≡ []
+    → Along (λ (t : ℕ) (v : Variable). Found index ts ps (targetOf ids roles (length ts) (getD ids t 0)) (v .named .spelled))
+    (chosen (hasRole roles 3) (length ts) 0)
+    (variables aWire ps)
