@@ -332,4 +332,8 @@ module _ (index : List ℕ → ℕ) (ts : List Token) (ps : List Part) (kinds id
 pub wires-found : WiresFound
 unfolding WiresFound faults
 wires-found index ts ps kinds ids places roles widths sc nt e =
-    found-along index ts ps kinds ids places roles widths sc nt (nt .wires) (right-empty _ _ e)
+    let ds = map Source.targetOf (driven ps) in
+    let ws = map nameOf (variables aWire ps) in
+    let vs = Source.declared ps in
+    let others = Source.missing (used ts) vs ++ Source.repeated [] vs ++ Source.missing ds ws ++ Source.repeated [] ds in
+    found-along index ts ps kinds ids places roles widths sc nt (nt .wires) (right-empty others (Source.missing ws ds) e)
