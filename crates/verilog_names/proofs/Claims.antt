@@ -2,33 +2,31 @@
 use mathlib.Core.Path.{_≡_, refl, sym, _∙_, ap}
 use mathlib.Core.Logic.{_≢_}
 use mathlib.Core.Bool.{Bool, true, false}
-use mathlib.Core.List.{List, [], _∷_, _++_, map, append-assoc, append-nil}
-use Prim.Native.Nat.{ℕ, zero, suc, _+_, _-_, _<_, _≤_}
-use native.Mathlib.Nat.{add-zero, zero-add}
+use mathlib.Core.List.{List, [], _∷_, _++_, map}
+use Prim.Native.Nat.{ℕ, suc, _+_, _-_, _<_, _≤_}
+use native.Mathlib.Nat.{zero-add}
 use native.Mathlib.Omega.{arith}
-use borrow.Author.Tests.{lt-ltb, eq-eqb, ne-eqb}
+use borrow.Author.Tests.{lt-ltb, ne-eqb}
 use lib.Dec.{ltb, eqb}
-use lib.ListN.{length, getD, take, drop, length-map}
+use lib.ListN.{length, getD, drop, length-map}
 use lib.Seq.{sets, sets-eq, drop-drop}
 use Rattle.values.specs.Values.{pick}
 use Rattle.naming.specs.Naming.{sameText}
 use Rattle.verilog_tokens.specs.Tokens.{Token, terminal, name, number, known, unknown, broken, Name}
 use Rattle.verilog_tokens.specs.Table.{kindOf, nameIn, namesIn, idOf, numberIn}
 use Rattle.verilog_tokens.specs.Table as Table
-use Rattle.verilog_grammar.specs.Meaning.{upTo, anInput, aRegister, aWire, Driven, Part}
+use Rattle.verilog_grammar.specs.Meaning.{upTo, aWire, Driven, Part}
 use Rattle.verilog_source.specs.Names as Source
-use Rattle.verilog_source.specs.Names.{Variable, variables, inOrder, declared, driven, threads}
+use Rattle.verilog_source.specs.Names.{Variable, variables, inOrder, driven}
 use Rattle.verilog_source.specs.Names.{nameOf, used, faults, lower, lowest, numberOf}
-use Rattle.verilog_source.specs.Written.{writtenWidths, valueFor, writtenWires, writtenThreads, written}
-use Rattle.verilog_names.specs.declared.Class.the-variants.{Used, Declared, Wire, Target}
-use Rattle.verilog_names.specs.declared.Fault.{Fault}
-use Rattle.verilog_names.specs.Chosen.{here, chosen, hasRole, isUsed, isDeclared, isIn, countOf}
-use Rattle.verilog_names.specs.Faults.{isAmong, missing, repeated, nearest, ofClass, faultsIn, faultAt, faultOf}
+use Rattle.verilog_source.specs.Written.{writtenWidths, valueFor, written}
+use Rattle.verilog_names.specs.Chosen.{here, chosen, hasRole, isUsed, isIn}
+use Rattle.verilog_names.specs.Faults.{isAmong, missing, repeated, nearest, faultsIn, faultAt, faultOf}
 use Rattle.verilog_names.specs.Numbers.{ordered, placeOf, numberAt, numbersFrom, numbered}
 use Rattle.verilog_names.specs.Head.{widthsOf, headOf}
 use Rattle.verilog_names.specs.Order.{firstOr, isTarget, targetOf}
-use Rattle.verilog_names.specs.Tables.{Along, none, next, Stands, Declares, Drives, Runs, Scanned, Noted}
-use Rattle.verilog_names.specs.Claims.{SameIds, faultBy, SameFaults, SameNumbers, SameHead, Found, SameTarget}
+use Rattle.verilog_names.specs.Tables.{Along, none, next, Stands, Declares, Drives, Scanned, Noted}
+use Rattle.verilog_names.specs.Claims.{SameIds, faultBy, SameFaults, Faultless, SameNumbers, SameHead, Found, SameTarget, WiresFound}
 use Rattle.verilog_names.proofs.Chosen.{here-in, here-out, chosen-none, chosen-suc}
 use Rattle.verilog_names.proofs.AtFault.{lower-most, lower-few}
 use Rattle.verilog_names.proofs.Kept.{kept, kept-chosen}
@@ -257,6 +255,11 @@ unfolding SameFaults faultOf
 same-faults index ts ps kinds ids places roles widths sc nt =
     nearest-along ts kinds ids places sc (faults-along ts kinds ids places sc index ps roles widths nt)
 
+pub faultless : Faultless
+unfolding Faultless faultBy
+faultless [] e = refl
+faultless (n ∷ ns) e = cc
+
 pub same-numbers : SameNumbers
 unfolding SameNumbers numbered
 same-numbers index ts ps kinds ids places roles widths table sc nt h =
@@ -295,3 +298,42 @@ same-target index ts ps kinds ids places roles widths sc nt t n r e =
       drives = rw (kept-chosen (hasRole roles 4) same (length ts) 0) (f .1);
       value = f .2;
     }
+
+-- ---- all wires
+
+right-empty : {A : Type 0} (xs ys : List A) → xs ++ ys ≡ [] → ys ≡ []
+right-empty [] ys e = e
+right-empty (x ∷ xs) ys e = cc
+
+-- The first of some names is among others, and so are the rest.
+all-among : (ms : List Name) (n : Name) (ns : List Name) → Source.missing (n ∷ ns) ms ≡ []
+    → (Source.isAmong ms n ≡ true) × (Source.missing ns ms ≡ [])
+unfolding Source.missing
+all-among ms n ns e = by (Source.isAmong ms n) refl e
+  where
+    by : (b : Bool) → Source.isAmong ms n ≡ b → pick b [] (n ∷ []) ++ Source.missing ns ms ≡ []
+        → (Source.isAmong ms n ≡ true) × (Source.missing ns ms ≡ [])
+    by true q e = (q, e)
+    by false q e = let z : _≡_ {A = ℕ} 0 1 = cc in absurd (omega arith)
+
+module _ (index : List ℕ → ℕ) (ts : List Token) (ps : List Part) (kinds ids places roles widths : List ℕ)
+    (sc : Scanned ts kinds ids places) (nt : Noted index ts ps roles widths) where
+  found-along : {xs : List ℕ} {vs : List Variable} → Along (Declares ts widths) xs vs
+      → Source.missing (map nameOf vs) (map Source.targetOf (driven ps)) ≡ []
+      → Along (λ (t : ℕ) (v : Variable). Found index ts ps (targetOf ids roles (length ts) (getD ids t 0)) (v .named .spelled)) xs vs
+  unfolding SameTarget nameOf
+  found-along none e = none
+  found-along (next {a = t} {b = v} {xs = xs} {ys = vs} r p) e =
+      let f = all-among (map Source.targetOf (driven ps)) (v .named) (map nameOf vs) e in
+      next
+      (same-target index ts ps kinds ids places roles widths sc nt t (v .named) (r .named) (f .0))
+      (found-along {xs = xs} {vs = vs} p (f .1))
+
+pub wires-found : WiresFound
+unfolding WiresFound faults
+wires-found index ts ps kinds ids places roles widths sc nt e =
+    let ds = map Source.targetOf (driven ps) in
+    let ws = map nameOf (variables aWire ps) in
+    let vs = Source.declared ps in
+    let others = Source.missing (used ts) vs ++ Source.repeated [] vs ++ Source.missing ds ws ++ Source.repeated [] ds in
+    found-along index ts ps kinds ids places roles widths sc nt (nt .wires) (right-empty others (Source.missing ws ds) e)
