@@ -17,7 +17,7 @@ use Rattle.verilog_tokens.specs.Table.{kindOf, kinds, nameIn, placeOf, idOf, nu
 use Rattle.verilog_tokens.specs.Pieces.{piece, pieceAt, unnamed}
 use Rattle.verilog_scan.specs.Scan.{stored, overwritten, starts, overlong, Filled, Scanned, spelledAt, nameAt, namesAt, gapFrom}
 use Rattle.verilog_scan.proofs.Spelling.{numbered, numbered-ids}
-use Rattle.verilog_scan.proofs.Rest.{restAt, lexAt, nextAt, gap-inside, rest-first, rest-past, rest-next, lex-few, lex-piece, next-after, next-inside, Named, lex-named}
+use Rattle.verilog_scan.proofs.Rest.{tokens-few, restAt, lexAt, nextAt, gap-inside, rest-first, rest-past, rest-next, lex-few, lex-piece, next-after, next-inside, Named, lex-named}
 
 -- ---- a column of the table from a place on, with what stands behind the last token
 
@@ -177,6 +177,17 @@ module _ (text : List ℕ) where
   starts-length =
       length-append (map (λ (l : Located). l .place) (located text)) (length text ∷ [])
       ∙ ap (λ n. n + 1) (length-map (located text) (λ (l : Located). l .place) ∙ sym (length-map (located text) (λ (l : Located). l .token)))
+
+-- A text that is read has at most 16,384 tokens: tables of 16,385 entries have room for them and for what stands behind.
+module _ (text table : List ℕ) (l : length text ≤ 16384) (h : length table ≡ 16385) where
+  pub kinds-front : stored (kinds text) table ≡ overwritten (kinds text) table
+  kinds-front = stored-front (kinds text) table (omega (arith, kinds-length text, tokens-few text))
+
+  pub numbers-front : stored (numbers text) table ≡ overwritten (numbers text) table
+  numbers-front = stored-front (numbers text) table (omega (arith, numbers-length text, tokens-few text))
+
+  pub places-front : stored (starts text) table ≡ overwritten (starts text) table
+  places-front = stored-front (starts text) table (omega (arith, starts-length text, tokens-few text))
 
 -- ---- the loop's state: the tables, the names' places, their number, the number of tokens, the place
 

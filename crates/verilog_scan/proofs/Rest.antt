@@ -7,7 +7,7 @@ use native.Mathlib.Numerals.{add-one}
 use native.Mathlib.Omega.{arith}
 use borrow.Author.Tests.{lt-ltb, le-ltb, ltb-true, ltb-false, eqb-true, eqb-false, eq-eqb, ne-eqb}
 use lib.Dec.{ltb, eqb}
-use lib.ListN.{length, getD, take, drop, length-drop, length-take, drop-of-length-le}
+use lib.ListN.{length, getD, take, drop, length-map, length-drop, drop-of-length-le}
 use lib.Seq.{drop-cons, drop-drop}
 use Rattle.values.specs.Values.{pick}
 use Rattle.verilog_tokens.specs.declared.Class.{Class}
@@ -118,6 +118,32 @@ gap-spare (suc f) (suc g) p s h k =
 token-spare : (f g p : ℕ) (s : List ℕ) → length s ≤ f → length s ≤ g → fromToken (fromGap f) p s ≡ fromToken (fromGap g) p s
 token-spare f g p s h k =
     token-by (fromGap f) (fromGap g) (length s) (λ q r l. gap-spare f g q r (omega arith) (omega arith)) p s (omega arith)
+
+-- ---- no text has more tokens than bytes
+
+count-by : (F : ℕ → List ℕ → List Located) → ((p : ℕ) (s : List ℕ) → length (F p s) ≤ length s) →
+    (p : ℕ) (s : List ℕ) → length (fromToken F p s) ≤ length s
+unfolding fromToken andThen
+count-by F h p [] = omega arith
+count-by F h p (b ∷ s) = by (goesOn (tokenBy (opening b) p b s .token)) refl
+  where
+    by : (v : Bool) → goesOn (tokenBy (opening b) p b s .token) ≡ v →
+        suc (length (andThen v F (p + tokenBy (opening b) p b s .size) (drop (tokenBy (opening b) p b s .size) (b ∷ s)))) ≤ suc (length s)
+    by true e =
+        let n = tokenBy (opening b) p b s .size in
+        omega (arith, h (p + n) (drop n (b ∷ s)), token-some p b s e, length-drop n (b ∷ s))
+    by false e = omega arith
+
+count-gap : (f p : ℕ) (s : List ℕ) → length (fromGap f p s) ≤ length s
+unfolding fromGap
+count-gap zero p s = omega arith
+count-gap (suc f) p s =
+    omega (arith, count-by (fromGap f) (count-gap f) (p + gap s) (drop (gap s) s), length-drop (gap s) s)
+
+pub tokens-few : (text : List ℕ) → length (tokens text) ≤ length text
+unfolding tokens located
+tokens-few text =
+    omega (arith, count-gap (suc (length text)) 0 text, length-map (fromGap (suc (length text)) 0 text) (λ (l : Located). l .token))
 
 -- ---- the tokens from a place on
 
