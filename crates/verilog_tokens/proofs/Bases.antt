@@ -78,7 +78,7 @@ digits-few radix s = by (eqb radix 2) (eqb radix 8) (eqb radix 10)
     by false false true = decimal-few s
     by false false false = span-few Hexadecimal s
 
-digits-by : (r : Radix) (s : List ℕ) → digitsBy (radixOf r) s ≡ digitsIn r s
+pub digits-by : (r : Radix) (s : List ℕ) → digitsBy (radixOf r) s ≡ digitsIn r s
 unfolding digitsBy radixOf digitsIn
 digits-by binary s = refl
 digits-by octal s = refl

@@ -90,6 +90,9 @@ first-front (w ∷ ws) s = by (opensWith w s) refl (first-front ws s)
     by true e h = opens-is w s e
     by false e h = h
 
+pub first-few : (ws : List (List ℕ)) (s : List ℕ) → length (firstOf ws s) ≤ length s
+first-few ws s = omega (arith, ap length (first-front ws s), length-take (length (firstOf ws s)) s)
+
 module _ (text : List ℕ) (at n : ℕ) (q : n ≡ length (firstOf signs (take (length text - at) (drop at text)))) where
   sign-length : n ≡ length (firstOf signs (drop at text))
   sign-length = q ∙ ap (λ s. length (firstOf signs s)) (take-all (length text - at) (drop at text) (omega (arith, length-drop at text)))
@@ -98,7 +101,7 @@ module _ (text : List ℕ) (at n : ℕ) (q : n ≡ length (firstOf signs (take (
   sign-few =
       let s = drop at text in
       let e = sign-length in
-      omega (arith, ap length (first-front signs s), length-take (length (firstOf signs s)) s, length-drop at text)
+      omega (arith, first-few signs s, length-drop at text)
 
   pub sign-none : n ≡ 0 → piece 69 0 0 ≡ pieceIn (sign (drop at text))
   unfolding pieceIn pieceOf sign signToken kindOf numberIn

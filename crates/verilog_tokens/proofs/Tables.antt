@@ -227,6 +227,15 @@ terminal-count : length terminals ≡ 39
 unfolding terminals
 terminal-count = refl
 
+-- A terminal's number is at most 39, or 70.
+pub terminal-kinds : (word : List ℕ) (k : ℕ) → 39 < k → k < 70 → numberFrom 1 terminals word ≡ k → ⊥
+terminal-kinds word k h j e = by (ltb (rowIn terminals word) 39) refl (number-place 1 terminals word)
+  where
+    by : (t : Bool) → ltb (rowIn terminals word) 39 ≡ t →
+        pick (ltb (rowIn terminals word) (length terminals)) (rowIn terminals word + 1) 70 ≡ numberFrom 1 terminals word → ⊥
+    by true q z = let y = rw (terminal-count, q) at z in omega (arith, ltb-true (rowIn terminals word) 39 q)
+    by false q z = let y = rw (terminal-count, q) at z in omega arith
+
 module _ (table word : List ℕ) (n : ℕ) (q : n ≡ rowIn (rowsOf table) word) where
   pub keyword-place : table ≡ lines keywords → ltb n 124 ≡ isKeyword word
   unfolding isKeyword

@@ -8,6 +8,11 @@ mod rows;
 mod tokens;
 mod words;
 
+pub use characters::run_end;
+pub use gaps::gap_end;
+pub use rows::same;
+pub use tokens::token_at;
+
 // Kinds of characters: white space; what a word goes on with; what a one-line comment holds; digits of each base with what may
 // stand among them; underscores.
 pub enum Class {
