@@ -81,7 +81,8 @@ module _ (bs : List ℕ) where
     unfolding Exprs.valueAt
     calm-value width i =
         rw (puts-full bs (constantBytes width (rowAt numbers i)), puts-full bs (0x04 ∷ width ∷ []))
-        (quiet-pick (eqb (rowAt kinds i) 67) _ _ (calm-passed (i + 1)) (quiet-pick (eqb (rowAt kinds i) 68) _ _ (calm-passed (i + 1)) (calm-refused i)))
+        (quiet-pick (eqb (rowAt kinds i) 67) _ _ (calm-passed (i + 1)) (quiet-pick (eqb (rowAt kinds i) 68) _ _ (calm-passed (i + 1))
+        (calm-refused i)))
 
     calm-atom : Calm (Exprs.atomAt kinds numbers)
     unfolding Exprs.atomAt
@@ -101,24 +102,29 @@ module _ (bs : List ℕ) where
 
       calm-prefix : (o : ℕ) → Calm (Exprs.prefixAt kinds numbers inner o)
       unfolding Exprs.prefixAt
-      calm-prefix o i = calm-text (Exprs.primaryAt kinds numbers inner) calm-primary (i + 1) (puts (filled bs 65536) (0x11 ∷ o ∷ [])) (puts-full bs (0x11 ∷ o ∷ []))
+      calm-prefix o i = calm-text (Exprs.primaryAt kinds numbers inner) calm-primary (i + 1) (puts (filled bs 65536) (0x11 ∷ o ∷ []))
+          (puts-full bs (0x11 ∷ o ∷ []))
 
       calm-operand : Calm (Exprs.operandAt kinds numbers inner)
       unfolding Exprs.operandAt
       calm-operand i =
-          calm-pick (eqb (rowAt kinds i) 33) _ _ i (calm-prefix 1 i) (calm-pick (eqb (rowAt kinds i) 34) _ _ i (calm-prefix 2 i) (calm-primary i))
+          calm-pick (eqb (rowAt kinds i) 33) _ _ i (calm-prefix 1 i) (calm-pick (eqb (rowAt kinds i) 34) _ _ i (calm-prefix 2 i)
+          (calm-primary i))
 
       calm-join : (again : Step) → Calm again → Calm (Exprs.joinAt kinds numbers inner again 65536)
       unfolding Exprs.joinAt
       calm-join again h i =
-          calm-then _ again (calm-text (inner (Exprs.precedenceOf (rowAt kinds i) + 1)) (ih (Exprs.precedenceOf (rowAt kinds i) + 1)) (i + 1)
-          (fronted 65536 (0x31 ∷ Exprs.operatorOf (rowAt kinds i) ∷ []) (filled bs 65536)) (fronted-full bs (0x31 ∷ Exprs.operatorOf (rowAt kinds i) ∷ []))) h
+          calm-then _ again (calm-text (inner (Exprs.precedenceOf (rowAt kinds i) + 1)) (ih (Exprs.precedenceOf (rowAt kinds i) + 1))
+          (i + 1)
+          (fronted 65536 (0x31 ∷ Exprs.operatorOf (rowAt kinds i) ∷ []) (filled bs 65536))
+          (fronted-full bs (0x31 ∷ Exprs.operatorOf (rowAt kinds i) ∷ []))) h
 
       calm-climb : (g level : ℕ) → Calm (Exprs.climbAt kinds numbers inner g level 65536)
       unfolding Exprs.climbAt
       calm-climb zero level i = calm-refused i
       calm-climb (suc g) level i =
-          calm-pick (Exprs.binds level (rowAt kinds i)) _ _ i (calm-join (Exprs.climbAt kinds numbers inner g level 65536) (calm-climb g level) i) (calm-passed i)
+          calm-pick (Exprs.binds level (rowAt kinds i)) _ _ i (calm-join (Exprs.climbAt kinds numbers inner g level 65536)
+          (calm-climb g level) i) (calm-passed i)
 
       calm-choice : Calm (Exprs.choiceAt kinds numbers inner 65536)
       unfolding Exprs.choiceAt
