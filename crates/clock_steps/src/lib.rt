@@ -4,11 +4,13 @@ use clock_nodes::RowTable;
 use plan::Cells;
 use plan::PlanTable;
 ghost use mathlib.Core.Path.{_≡_};
-ghost use Prim.Native.Nat.{_%_, _<_, _≤_};
+ghost use Prim.Native.Nat.{_+_, _%_, _<_, _≤_};
 ghost use Rattle.values.specs.Planes.{numberOf};
 ghost use Rattle.cells.specs.Cells.{valueOf};
 ghost use Rattle.plan.specs.Sections.{slotOf};
 ghost use Rattle.plan.specs.Plan.{planOf};
+ghost use Rattle.nextstate.specs.Rules.{one};
+ghost use Rattle.clock_steps.specs.Numbers.{waitsIn, numberThread, numberRows};
 ghost use Rattle.clock_steps.specs.Settling.{putCell, settleWire, settle};
 ghost use Rattle.clock_steps.specs.Taking.{rowIn, workRow, takeRegister, takeRegisters, taking, takeThread, takeBelow, loadTo, storeTo, atMost, stand, step};
 
@@ -249,4 +251,62 @@ pub fn step(
     );
     store(first, count, &news, cells);
     settle(plan, cells);
+}
+
+// ---- the rows' numbers
+
+// A place below 256 as a byte.
+fn byte(p: usize) -> u8
+    requires { ⌜ p < 256 ⌝ }
+    ensures { λ r. ⌜ r ≡ p ⌝ }
+{
+    p as u8
+}
+
+// The low byte of a number.
+fn low(k: u16) -> u8
+    ensures { λ r. ⌜ r ≡ k % 256 ⌝ }
+{
+    let b = k % 256;
+    b as u8
+}
+
+// 1 where a test holds, else 0.
+fn one(t: bool) -> u16
+    ensures { λ r. ⌜ r ≡ one t ⌝ }
+    ensures { λ r. ⌜ r ≤ 1 ⌝ }
+{
+    if t { 1 } else { 0 }
+}
+
+// Numbers the places of thread `i`, whose first wait has the row `first`. Gives the row after its last.
+fn number_thread(plan: &PlanTable, i: usize, first: u16, numbers: &mut RowNumbers) -> u16
+    requires { ⌜ i < 8 ⌝ }
+    requires { ⌜ first ≤ 2048 ⌝ }
+    ensures { λ _. ⌜ now (numbers .exit) ≡ numberThread (planOf (now (plan .entry))) i first (now (numbers .entry)) ⌝ }
+    ensures { λ r. ⌜ r ≡ first + waitsIn (planOf (now (plan .entry))) i ⌝ }
+    ensures { λ r. ⌜ r ≤ first + 256 ⌝ }
+{
+    let n = at_most(256, plan::size(plan, i));
+    let mut k = first;
+    let mut p: usize = 0;
+    while p < n {
+        numbers[256 * i + p] = low(k);
+        k += one(plan::waits(plan, i, byte(p)));
+        p += 1;
+    }
+    k
+}
+
+// Numbers the places of all threads, once a call.
+pub fn number_rows(plan: &PlanTable, numbers: &mut RowNumbers)
+    ensures { λ _. ⌜ now (numbers .exit) ≡ numberRows (planOf (now (plan .entry))) (now (numbers .entry)) ⌝ }
+{
+    let threads = at_most(8, plan::threads(plan));
+    let mut k: u16 = 0;
+    let mut i: usize = 0;
+    while i < threads {
+        k = number_thread(plan, i, k, numbers);
+        i += 1;
+    }
 }
