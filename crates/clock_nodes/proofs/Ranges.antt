@@ -96,13 +96,13 @@ module _ (m : Module Expr) (ns us ls : List ℕ) (P : ℕ → plan.Node) (count 
         (w .before) (w .fit)
         (λ z. let v = fit-variable m (w .before) k a b c (w .fit) z in rw (slot-same a (omega (arith, t .few))) (vars a v))
         (λ g. narrow-node m ns (t .fit) f a
-          (omega (arith, fit-first m (w .before) k a b c (w .fit) g, w .long, t .most)))
+        (omega (arith, fit-first m (w .before) k a b c (w .fit) g, w .long, t .most)))
         (λ g. let o : a < n = omega (arith, fit-first m (w .before) k a b c (w .fit) g, w .long) in
-          operand a o (λ d. omega (arith, low-first ns ls (t .lows) count (t .most) n here g o d)))
+        operand a o (λ d. omega (arith, low-first ns ls (t .lows) count (t .most) n here g o d)))
         (λ g. let o : b < n = omega (arith, fit-second m (w .before) k a b c (w .fit) g, w .long) in
-          operand b o (λ d. omega (arith, low-second ns ls (t .lows) count (t .most) n here g o d)))
+        operand b o (λ d. omega (arith, low-second ns ls (t .lows) count (t .most) n here g o d)))
         (λ g. let o : c < n = omega (arith, fit-third m (w .before) k a b c (w .fit) g, w .long) in
-          operand c o (λ d. omega (arith, low-third ns ls (t .lows) count (t .most) n here g o d)))
+        operand c o (λ d. omega (arith, low-third ns ls (t .lows) count (t .most) n here g o d)))
         ∙ sym (w .worth)
 
   -- ---- the plane ds after the nodes from lo to hi were worked out on cs
@@ -137,8 +137,8 @@ module _ (m : Module Expr) (ns us ls : List ℕ) (P : ℕ → plan.Node) (count 
         by : (n : ℕ) → n < suc hi → lo ≤ low n → Dec (n ≡ hi) → cellAt (set ds (80 + hi) (cellOf (worthOf (cellAt ds) (P (80 + hi))))) (80 + n) ≡ value n
         by n o g (yes e) =
             let p = node-right ds lo hi h (rw e at g)
-                (λ v u. at-same ds cs v (r .kept v (omega (arith, t .few))) ∙ vars v u)
-                (λ x u k. r .right x u k) in
+            (λ v u. at-same ds cs v (r .kept v (omega (arith, t .few))) ∙ vars v u)
+            (λ x u k. r .right x u k) in
             rw (e, p) (at-set-same ds (80 + hi) (value hi) (omega (arith, r .long, t .most)) (small-node m ns (t .fit) f small hi (omega (arith, t .most))))
         by n o g (no d) = at-set-other ds (80 + hi) (80 + n) _ (λ q. omega arith) ∙ r .right n (omega arith) g
 

@@ -6,7 +6,7 @@ use Rattle.clock_nodes.proofs.copy_node.Tie as tie
 
 returns : tie.Need-returns
 unfolding copyNode putWords
-returns c = 
+returns c =
     rw (
       c .put-node .ensures,
       c .before .before .long .ensures,

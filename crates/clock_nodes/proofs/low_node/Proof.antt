@@ -6,7 +6,7 @@ use Rattle.clock_nodes.proofs.low_node.Tie as tie
 
 returns : tie.Need-returns
 unfolding lowNode
-returns c = 
+returns c =
     rw (
       c .before .lowest .ensures,
       c .before .before .before .before .before .before .word-at .ensures,

@@ -19,15 +19,14 @@ loop-holds : tie.Need-loop-holds Inv-loop μ-loop
 loop-holds c = (omega arith, low-none (c .before .before .before .before .args .nodes .now) (c .before .before .before .before .args .lows .now) (c .before .before .before .before .args .rows .now) (c .before .before .before .before .args .row) (bits (c .before .before .before .before .args .written)) (c .before .entry-at .ensures) (c .lower .ensures))
 
 loop-again : tie.Need-loop-again Inv-loop μ-loop
-loop-again c = 
-    (
-      omega arith,
-      low-more (c .before .before .before .before .before .before .before .before .before .args .nodes .now) (c .before .before .before .before .before .before .before .before .before .args .lows .now) (c .before .before .before .before .before .before .before .before .before .args .rows .now) (c .before .before .before .before .before .before .before .before .before .args .row) (bits (c .before .before .before .before .before .before .before .before .before .args .written)) _ (c .before .before .before .before .loop .inv .1) (c .before .before .has .ensures) (c .before .entry-at2 .ensures)
+loop-again c = (
+  omega arith,
+  low-more (c .before .before .before .before .before .before .before .before .before .args .nodes .now) (c .before .before .before .before .before .before .before .before .before .args .lows .now) (c .before .before .before .before .before .before .before .before .before .args .rows .now) (c .before .before .before .before .before .before .before .before .before .args .row) (bits (c .before .before .before .before .before .before .before .before .before .args .written)) _ (c .before .before .before .before .loop .inv .1) (c .before .before .has .ensures) (c .before .entry-at2 .ensures)
       (c .low-by .ensures),
-    )
+)
 
 returns : tie.Need-returns Inv-loop μ-loop
-returns c = 
+returns c =
     let e : c .before .loop .r ≡ 32 = omega arith in
     rw e at (c .before .loop .inv .1)
 

@@ -21,7 +21,7 @@ loop-again : tie.Need-loop-again Inv-loop μ-loop
 loop-again c = (omega arith, entries-more (c .before .before .before .before .before .before .args .nodes .now) (c .before .before .before .before .before .before .args .rows .now) (c .before .before .before .before .before .before .args .row) _ _ (c .before .before .before .loop .inv .1) (c .before .entry-at .ensures) (c .cell-in .ensures))
 
 returns : tie.Need-returns Inv-loop μ-loop
-returns c = 
+returns c =
     let e : c .before .loop .c ≡ 33 = omega arith in
     rw e at (c .before .loop .inv .1)
 
