@@ -174,7 +174,8 @@ fn registers_in(inputs: u8, st: State) -> Registers
 fn put_wires(m: Shape, c: Clocked, value: &mut [u32; 80], unknown: &mut [bool; 80])
     ensures { λ _. ⌜
         planes (now (value .exit)) (now (unknown .exit))
-        ≡ putAll 80 (m .inputs + m .registers) (valueAt (c .wire) (c .unsure)) (m .wires) (planes (now (value .entry)) (now (unknown .entry)))
+        ≡ putAll 80 (m .inputs + m .registers) (valueAt (c .wire) (c .unsure)) (m .wires)
+        (planes (now (value .entry)) (now (unknown .entry)))
         ⌝ }
 {
     let first = place(m.inputs) + place(m.registers);

@@ -16,22 +16,36 @@ returns-2 c =
 
 sub-named : tie.Need-sub-named
 sub-named c =
-    let x = rw (← c .before .before .before .before .before .before .parse-name .ensures) at (name-inside (c .before .before .before .before .before .before .before .before .args .line .now) (c .before .before .before .before .before .before .before .before .args .inputs) (c .before .before .before .before .before .before .before .before .args .registers) (c .before .before .before .before .before .before .before .before .args .wires)) in
+    let x = rw (← c .before .before .before .before .before .before .parse-name .ensures) at (name-inside
+    (c .before .before .before .before .before .before .before .before .args .line .now)
+    (c .before .before .before .before .before .before .before .before .args .inputs)
+    (c .before .before .before .before .before .before .before .before .args .registers)
+    (c .before .before .before .before .before .before .before .before .args .wires)) in
     omega arith
 
 part-named-start : tie.Need-part-named-start
 part-named-start c =
-    let x = rw (← c .before .before .before .before .before .before .parse-name .ensures) at (name-inside (c .before .before .before .before .before .before .before .before .args .line .now) (c .before .before .before .before .before .before .before .before .args .inputs) (c .before .before .before .before .before .before .before .before .args .registers) (c .before .before .before .before .before .before .before .before .args .wires)) in
+    let x = rw (← c .before .before .before .before .before .before .parse-name .ensures) at (name-inside
+    (c .before .before .before .before .before .before .before .before .args .line .now)
+    (c .before .before .before .before .before .before .before .before .args .inputs)
+    (c .before .before .before .before .before .before .before .before .args .registers)
+    (c .before .before .before .before .before .before .before .before .args .wires)) in
     omega arith
 
 part-named-end : tie.Need-part-named-end
 part-named-end c =
-    let x = rw (← c .before .before .before .before .before .before .parse-name .ensures) at (name-inside (c .before .before .before .before .before .before .before .before .args .line .now) (c .before .before .before .before .before .before .before .before .args .inputs) (c .before .before .before .before .before .before .before .before .args .registers) (c .before .before .before .before .before .before .before .before .args .wires)) in
+    let x = rw (← c .before .before .before .before .before .before .parse-name .ensures) at (name-inside
+    (c .before .before .before .before .before .before .before .before .args .line .now)
+    (c .before .before .before .before .before .before .before .before .args .inputs)
+    (c .before .before .before .before .before .before .before .before .args .registers)
+    (c .before .before .before .before .before .before .before .before .args .wires)) in
     omega arith
 
 returns-3 : tie.Need-returns-3
 returns-3 c =
-    c .named .ensures ∙ line-named _ _ _ _ _ _ _ (c .before .before .before .before .before .before .before .before .parse-name .ensures) (c .before .before .before .before .before .before .if1 .left) (c .before .before .before .before .if2 .left)
+    c .named .ensures ∙ line-named _ _ _ _ _ _ _
+    (c .before .before .before .before .before .before .before .before .parse-name .ensures)
+    (c .before .before .before .before .before .before .if1 .left) (c .before .before .before .before .if2 .left)
 
 pub take-line-spec : {M : Type 1} → statement M
 take-line-spec =

@@ -51,12 +51,23 @@ returns-2 c =
     (c .before .before .before .before .before .before .before .before .loop .number)
     (c .before .before .before .before .before .before .before .before .loop .names)
     (c .before .before .before .before .before .before .before .loop-test .taken)
-    (c .before .before .before .before .before .before .if1 .left) _ (c .before .before .before .before .before .line-end .ensures) _ _ (c .before .before .take-line .ensures) (c .if2 .taken)
+    (c .before .before .before .before .before .before .if1 .left) _
+    (c .before .before .before .before .before .line-end .ensures) _ _ (c .before .before .take-line .ensures) (c .if2 .taken)
     ∙ c .before .before .before .before .before .before .before .before .loop .inv
 
 loop-again : tie.Need-loop-again Inv-loop μ-loop
 loop-again c =
-    sym (lines-more _ _ _ (c .before .before .before .before .before .before .before .before .before .before .before .before .args .bytes .now) (c .before .before .before .before .before .before .before .before .before .before .loop .left) (c .before .before .before .before .before .before .before .before .before .before .loop .from) (c .before .before .before .before .before .before .before .before .before .before .loop .number) (c .before .before .before .before .before .before .before .before .before .before .loop .names) (c .before .before .before .before .before .before .before .before .before .loop-test .taken) (c .before .before .before .before .before .before .before .before .if1 .left) _ (c .before .before .before .before .before .before .before .line-end .ensures) _ _ (c .before .before .before .before .take-line .ensures) (c .before .before .if2 .left) _ _ _ (omega arith) (c .before .counted .ensures) (c .counted2 .ensures))
+    sym (lines-more _ _ _
+    (c .before .before .before .before .before .before .before .before .before .before .before .before .args .bytes .now)
+    (c .before .before .before .before .before .before .before .before .before .before .loop .left)
+    (c .before .before .before .before .before .before .before .before .before .before .loop .from)
+    (c .before .before .before .before .before .before .before .before .before .before .loop .number)
+    (c .before .before .before .before .before .before .before .before .before .before .loop .names)
+    (c .before .before .before .before .before .before .before .before .before .loop-test .taken)
+    (c .before .before .before .before .before .before .before .before .if1 .left) _
+    (c .before .before .before .before .before .before .before .line-end .ensures) _ _
+    (c .before .before .before .before .take-line .ensures) (c .before .before .if2 .left) _ _ _ (omega arith)
+    (c .before .counted .ensures) (c .counted2 .ensures))
     ∙ c .before .before .before .before .before .before .before .before .before .before .loop .inv
 
 returns-3 : tie.Need-returns-3 Inv-loop μ-loop
