@@ -20,7 +20,8 @@ use Rattle.events.proofs.Cycle.{absurd-bool}
 use Rattle.plan.specs.Sections.{slotOf}
 use Rattle.plan.specs.Plan.{node}
 use Rattle.plan_nodes.specs.Nodes.{leafOf, worthOf}
-use Rattle.plan_nodes.proofs.Nodes.{leaf-constant, leaf-variable, leaf-none, worth-leaf, worth-unary, worth-binary, worth-choice, worth-branch}
+use Rattle.plan_nodes.proofs.Nodes.{leaf-constant, leaf-variable, leaf-none, worth-leaf, worth-unary, worth-binary, worth-choice}
+use Rattle.plan_nodes.proofs.Nodes.{worth-branch}
 use Rattle.nextstate.specs.Nodes.{Node, aVariable, aConstant, anUnknown, aUnary, aBinary, aConditional, aBranch, nodeFrom, nodeValue}
 use Rattle.nextstate.specs.CycleRun.{width?, nodeFits}
 use Rattle.clock_nodes.specs.Copying.{cellIn, firstOf, secondOf, thirdOf}
@@ -234,7 +235,16 @@ module _ (ns uu : List ℕ) (f g : ℕ → Value) (vv : List Value) (k a b c x y
   unary-worth h l w r =
       let u : getD uu a 0 % 256 ≡ getD uu a 0 = mod-eq-of-lt (omega arith) in
       worth-unary g k x y z h l
-      ∙ rw (px, first-operand ns k a (λ q. omega arith), pz, third-width ns uu k a c (omega arith), u, number (omega arith), r, from-unary k a b c h l)
+      ∙ rw (
+        px,
+        first-operand ns k a (λ q. omega arith),
+        pz,
+        third-width ns uu k a c (omega arith),
+        u,
+        number (omega arith),
+        r,
+        from-unary k a b c h l,
+      )
 
   binary-worth : 13 ≤ k → k < 20 → getD uu a 0 ≤ 32 → Right a → Right b → Copied
   unfolding nodeValue

@@ -11,7 +11,8 @@ use lib.Seq.{getD-set-same, getD-set-other}
 use Rattle.plan.specs.Plan.{Node, node, nodeAt}
 use Rattle.plan_exprs.specs.Flatten.{putNode}
 use Rattle.plan_exprs.proofs.Flatten.{put-length, put-same, put-below, node-kept}
-use Rattle.clock_nodes.specs.Copying.{cellIn, firstOf, secondOf, thirdOf, putWords, copyNode, copyTo, lowIn, least, lower, lowest, lowNode, lowsTo}
+use Rattle.clock_nodes.specs.Copying.{cellIn, firstOf, secondOf, thirdOf, putWords, copyNode, copyTo, lowIn, least, lower, lowest}
+use Rattle.clock_nodes.specs.Copying.{lowNode, lowsTo}
 
 -- ---- the words of node n
 
@@ -66,7 +67,8 @@ module _ (ns us : List ℕ) where
       ∙ copied-more ws n j (omega arith) l)
 
   -- Node n lies in cell 80 + n.
-  pub copied-at : (ws : List ℕ) (count n : ℕ) → count ≤ 4096 → n < count → 16704 ≤ length ws → nodeAt (copyTo ns us count ws) (80 + n) ≡ copyOf n
+  pub copied-at : (ws : List ℕ) (count n : ℕ) → count ≤ 4096 → n < count → 16704 ≤ length ws →
+      nodeAt (copyTo ns us count ws) (80 + n) ≡ copyOf n
   copied-at ws count n h o l =
       let e : n + suc (count - suc n) ≡ count = omega arith in
       rw e at (copied-more ws n (count - suc n) (omega arith) l)

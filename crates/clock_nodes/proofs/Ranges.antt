@@ -32,7 +32,8 @@ use Rattle.clock_nodes.specs.Copying.{cellIn, lowIn, lower}
 use Rattle.clock_nodes.specs.Rows.{entryAt, lowBy, lowTo, higher, highBy, highTo}
 use Rattle.clock_nodes.proofs.Worth.{Ordered, Fit, table, table-widths, ordered-words, narrow-node, small-node}
 use Rattle.clock_nodes.proofs.Copied.{fit-variable, fit-first, fit-second, fit-third, copied-worth}
-use Rattle.clock_nodes.proofs.Lows.{kindAt, firstAt, secondAt, thirdAt, copyOf, Low, lower-self, lower-node, low-self, low-first, low-second, low-third}
+use Rattle.clock_nodes.proofs.Lows.{kindAt, firstAt, secondAt, thirdAt, copyOf, Low, lower-self, lower-node, low-self, low-first}
+use Rattle.clock_nodes.proofs.Lows.{low-second, low-third}
 
 -- ---- cellIn
 
@@ -134,12 +135,14 @@ module _ (m : Module Expr) (ns us ls : List ℕ) (P : ℕ → plan.Node) (count 
           right = λ n o g. by n o g (ℕ-discrete n hi);
         }
       where
-        by : (n : ℕ) → n < suc hi → lo ≤ low n → Dec (n ≡ hi) → cellAt (set ds (80 + hi) (cellOf (worthOf (cellAt ds) (P (80 + hi))))) (80 + n) ≡ value n
+        by : (n : ℕ) → n < suc hi → lo ≤ low n → Dec (n ≡ hi) →
+            cellAt (set ds (80 + hi) (cellOf (worthOf (cellAt ds) (P (80 + hi))))) (80 + n) ≡ value n
         by n o g (yes e) =
             let p = node-right ds lo hi h (rw e at g)
             (λ v u. at-same ds cs v (r .kept v (omega (arith, t .few))) ∙ vars v u)
             (λ x u k. r .right x u k) in
-            rw (e, p) (at-set-same ds (80 + hi) (value hi) (omega (arith, r .long, t .most)) (small-node m ns (t .fit) f small hi (omega (arith, t .most))))
+            rw (e, p) (at-set-same ds (80 + hi) (value hi) (omega (arith, r .long, t .most))
+            (small-node m ns (t .fit) f small hi (omega (arith, t .most))))
         by n o g (no d) = at-set-other ds (80 + hi) (80 + n) _ (λ q. omega arith) ∙ r .right n (omega arith) g
 
     range-from : (j : ℕ) → lo + j ≤ count → Range cs (workFrom P (80 + lo) j cs) lo (lo + j)
@@ -199,7 +202,8 @@ module _ (m : Module Expr) (ns us ls : List ℕ) (P : ℕ → plan.Node) (count 
             rw (e) (record {
               long = r .long;
               kept = λ i u. r .kept i (omega arith);
-              right = entry-right (work P (80 + lo) (80 + k) cs) (80 + k) (λ i u. r .kept i (omega arith)) (λ n u g b. r .right n (omega arith) g);
+              right = entry-right (work P (80 + lo) (80 + k) cs) (80 + k) (λ i u. r .kept i (omega arith))
+                  (λ n u g b. r .right n (omega arith) g);
             })
 
         by : Dec (80 + lo < hi) → Done (work P (80 + lo) hi cs) hi
@@ -226,7 +230,9 @@ module _ (ns ls rs : List ℕ) (row : ℕ) (written : List Bool) where
   unfolding lowTo lowBy
   low-down r = by (getD written r false)
     where
-      by : (t : Bool) → pick t (lower ns ls (entryAt rs row r) (lowTo ns ls rs row written r)) (lowTo ns ls rs row written r) ≤ lowTo ns ls rs row written r
+      by : (t : Bool) →
+          pick t (lower ns ls (entryAt rs row r) (lowTo ns ls rs row written r)) (lowTo ns ls rs row written r)
+          ≤ lowTo ns ls rs row written r
       by true = lower-self ns ls (entryAt rs row r) (lowTo ns ls rs row written r)
       by false = omega arith
 
@@ -236,7 +242,8 @@ module _ (ns ls rs : List ℕ) (row : ℕ) (written : List Bool) where
       let e : r + suc j ≡ suc (r + j) = omega arith in
       rw e (omega (arith, low-down (r + j), low-downs r j))
 
-  low-entry : (r : ℕ) → getD written r false ≡ true → kindAt ns (entryAt rs row r) ≢ 0 → lowTo ns ls rs row written (suc r) ≤ lowIn ls (entryAt rs row r)
+  low-entry : (r : ℕ) → getD written r false ≡ true → kindAt ns (entryAt rs row r) ≢ 0 →
+      lowTo ns ls rs row written (suc r) ≤ lowIn ls (entryAt rs row r)
   unfolding lowTo lowBy
   low-entry r w d = rw w (lower-node ns ls (entryAt rs row r) (lowTo ns ls rs row written r) d)
 
@@ -288,7 +295,8 @@ module _ (ns rs : List ℕ) (row : ℕ) (written : List Bool) where
   unfolding highTo highBy
   high-up r = by (getD written r false)
     where
-      by : (t : Bool) → highTo ns rs row written r ≤ pick t (higher ns (entryAt rs row r) (highTo ns rs row written r)) (highTo ns rs row written r)
+      by : (t : Bool) →
+          highTo ns rs row written r ≤ pick t (higher ns (entryAt rs row r) (highTo ns rs row written r)) (highTo ns rs row written r)
       by true = higher-self (entryAt rs row r) (highTo ns rs row written r)
       by false = omega arith
 
@@ -298,7 +306,8 @@ module _ (ns rs : List ℕ) (row : ℕ) (written : List Bool) where
       let e : r + suc j ≡ suc (r + j) = omega arith in
       rw e (omega (arith, high-up (r + j), high-ups r j))
 
-  high-entry : (r : ℕ) → getD written r false ≡ true → kindAt ns (entryAt rs row r) ≢ 0 → 81 + entryAt rs row r ≤ highTo ns rs row written (suc r)
+  high-entry : (r : ℕ) → getD written r false ≡ true → kindAt ns (entryAt rs row r) ≢ 0 →
+      81 + entryAt rs row r ≤ highTo ns rs row written (suc r)
   unfolding highTo highBy
   high-entry r w d = rw w (higher-node (entryAt rs row r) (highTo ns rs row written r) d)
 

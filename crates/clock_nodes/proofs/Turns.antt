@@ -40,7 +40,8 @@ module _ (ns us : List ℕ) where
   unfolding copyAll
   copy-past count ws h = rw (lt-leb count 4096 h)
 
-  pub copy-within : (n count : ℕ) (ws : List ℕ) {ps : List ℕ} → n ≡ count → count ≤ 4096 → ps ≡ copyTo ns us n ws → ps ≡ copyAll ns us count ws
+  pub copy-within : (n count : ℕ) (ws : List ℕ) {ps : List ℕ} → n ≡ count → count ≤ 4096 → ps ≡ copyTo ns us n ws →
+      ps ≡ copyAll ns us count ws
   unfolding copyAll
   copy-within n count ws e h p = rw (le-leb count 4096 h, ← e) p
 

@@ -23,7 +23,8 @@ use Rattle.state.proofs.Rows.{length-listOf, getD-listOf}
 use Rattle.events.specs.Cycle.{variables}
 use Rattle.events.proofs.Cycle.{and-left, and-right, Below, at-end, before, below-suc}
 use Rattle.plan_nodes.proofs.Flat.{unary-small, binary-small}
-use Rattle.nextstate.specs.Nodes.{Node, aVariable, aConstant, anUnknown, aUnary, aBinary, aConditional, aBranch, nodeFrom, nodeAt, nodeWidth, nodeValue, Worked, workOut, worked}
+use Rattle.nextstate.specs.Nodes.{Node, aVariable, aConstant, anUnknown, aUnary, aBinary, aConditional, aBranch, nodeFrom, nodeAt}
+use Rattle.nextstate.specs.Nodes.{nodeWidth, nodeValue, Worked, workOut, worked}
 use Rattle.nextstate.specs.CycleRun.{width?, nodeFits, nodesFit, widthsFrom}
 
 -- ---- the operands of a node that fits
@@ -94,13 +95,15 @@ module _ (ws : List ℕ) (f : ℕ → Value) where
   width-kept (n ∷ ns) w a h =
       width-kept ns (more w n) a (simp length-append (omega arith)) ∙ List·getD-append (w .widths) _ 0 a h
 
-  value-kept : (ns : List Node) (w : Worked) (a : ℕ) → a < length (w .values) → getD (workOut ws f ns w .values) a Unknown ≡ getD (w .values) a Unknown
+  value-kept : (ns : List Node) (w : Worked) (a : ℕ) → a < length (w .values) →
+      getD (workOut ws f ns w .values) a Unknown ≡ getD (w .values) a Unknown
   unfolding workOut
   value-kept [] w a h = refl
   value-kept (n ∷ ns) w a h =
       value-kept ns (more w n) a (simp length-append (omega arith)) ∙ List·getD-append (w .values) _ Unknown a h
 
-pub widths-worked : (m : Module Expr) (f : ℕ → Value) (ns : List Node) (w : Worked) → workOut (m .scope .widths) f ns w .widths ≡ widthsFrom m ns (w .widths)
+pub widths-worked : (m : Module Expr) (f : ℕ → Value) (ns : List Node) (w : Worked) →
+    workOut (m .scope .widths) f ns w .widths ≡ widthsFrom m ns (w .widths)
 unfolding workOut widthsFrom
 widths-worked m f [] w = refl
 widths-worked m f (d ∷ ns) w = widths-worked m f ns (more (m .scope .widths) f w d)
@@ -207,7 +210,8 @@ module _ (m : Module Expr) (narrow : (v : ℕ) → v < variables m → getD (m .
         choice-fits 32 (getD vv c Unknown) (getD vv a Unknown) (getD vv b Unknown) (s a (arm-left us a b x)) (s b (arm-right us a b x))
     worth-small r s (aBranch c a b) h =
         let x = both us c a b h in
-        pick-fits 32 (holds (getD vv c Unknown)) (getD vv a Unknown) (getD vv b Unknown) (s a (arm-left us a b x)) (s b (arm-right us a b x))
+        pick-fits 32 (holds (getD vv c Unknown)) (getD vv a Unknown) (getD vv b Unknown) (s a (arm-left us a b x))
+        (s b (arm-right us a b x))
 
 -- ---- the 4,096 nodes of the lent words
 
@@ -216,7 +220,8 @@ pub record Fit (m : Module Expr) (ns : List ℕ) : Type 0 where
   pub nodes : nodesFit m (listOf 4096 (nodeAt ns)) [] ≡ true
   pub narrow : (v : ℕ) → v < variables m → getD (m .scope .widths) v 0 ≤ 32
 
-node-words : (ns : List ℕ) (n : ℕ) → nodeAt ns n ≡ nodeFrom (getD ns (4 * n) 0) (getD ns (4 * n + 1) 0) (getD ns (4 * n + 2) 0) (getD ns (4 * n + 3) 0)
+node-words : (ns : List ℕ) (n : ℕ) →
+    nodeAt ns n ≡ nodeFrom (getD ns (4 * n) 0) (getD ns (4 * n + 1) 0) (getD ns (4 * n + 2) 0) (getD ns (4 * n + 3) 0)
 unfolding nodeAt
 node-words ns n = refl
 
@@ -232,7 +237,8 @@ module _ (m : Module Expr) (ns : List ℕ) (t : Fit m ns) (f : ℕ → Value) wh
   -- By its four words.
   pub ordered-words :
       (n : ℕ) → n < 4096 →
-      Ordered m f (table .widths) (table .values) n (nodeFrom (getD ns (4 * n) 0) (getD ns (4 * n + 1) 0) (getD ns (4 * n + 2) 0) (getD ns (4 * n + 3) 0))
+      Ordered m f (table .widths) (table .values) n
+      (nodeFrom (getD ns (4 * n) 0) (getD ns (4 * n + 1) 0) (getD ns (4 * n + 2) 0) (getD ns (4 * n + 3) 0))
   ordered-words n h = rw (node-words ns n) at (ordered n h)
 
   abbrev Narrow : ℕ → Type 0

@@ -6,7 +6,8 @@ ghost use mathlib.Core.Path.{_≡_};
 ghost use Prim.Native.Nat.{_<_};
 ghost use lib.ListN.{getD};
 ghost use Rattle.masks.specs.Masks.{bits};
-ghost use Rattle.clock_nodes.specs.Copying.{cellIn, firstOf, secondOf, thirdOf, copyNode, copyAll, lowIn, lower, lowest, lowNode, lowAll};
+ghost use Rattle.clock_nodes.specs.Copying.{cellIn, firstOf, secondOf, thirdOf, copyNode, copyAll, lowIn, lower, lowest, lowNode};
+ghost use Rattle.clock_nodes.specs.Copying.{lowAll};
 ghost use Rattle.clock_nodes.specs.Rows.{entryAt, putEntries, lowBy, lowTo, higher, highBy, highTo, fillRow};
 
 // For each node the lowest node that its value needs.

@@ -34,7 +34,8 @@ module _ (q : Plan) (i first : ℕ) where
   unfolding numberTo
   number-more p ns e w r = rw (add-one p, ← e, ← w, ← r)
 
-  pub number-all : (n : ℕ) (ns : List ℕ) {ms : List ℕ} {s p : ℕ} → s ≡ q .size i → n ≡ atMost 256 s → p ≡ n → ms ≡ numberTo q i first p ns → ms ≡ numberThread q i first ns
+  pub number-all : (n : ℕ) (ns : List ℕ) {ms : List ℕ} {s p : ℕ} → s ≡ q .size i → n ≡ atMost 256 s → p ≡ n → ms ≡ numberTo q i first p ns →
+      ms ≡ numberThread q i first ns
   unfolding numberThread
   number-all n ns e a p r = r ∙ ap (λ (j : ℕ). numberTo q i first j ns) (p ∙ a ∙ ap (atMost 256) e)
 
@@ -61,6 +62,7 @@ module _ (q : Plan) where
   unfolding numbersTo
   numbers-more i ns e r s = rw (add-one i, ← e, ← r) s
 
-  pub numbers-all : (n : ℕ) (ns : List ℕ) {ms : List ℕ} {s i : ℕ} → s ≡ q .threads → n ≡ atMost 8 s → i ≡ n → ms ≡ numbersTo q i ns → ms ≡ numberRows q ns
+  pub numbers-all : (n : ℕ) (ns : List ℕ) {ms : List ℕ} {s i : ℕ} → s ≡ q .threads → n ≡ atMost 8 s → i ≡ n → ms ≡ numbersTo q i ns →
+      ms ≡ numberRows q ns
   unfolding numberRows
   numbers-all n ns e a p r = r ∙ ap (λ (j : ℕ). numbersTo q j ns) (p ∙ a ∙ ap (atMost 8) e)

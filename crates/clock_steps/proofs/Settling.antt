@@ -139,7 +139,8 @@ module _ (m : Module Expr) (q : Plan) (w : Wired m q) where
 
   -- ---- all wires
 
-  settled-to : (k : ℕ) → k ≤ length (m .wires) → (f : ℕ → Value) (cs : List ℕ) → Settled f cs → Settled (book.settleBelow m k f) (settleTo q k cs)
+  settled-to : (k : ℕ) → k ≤ length (m .wires) → (f : ℕ → Value) (cs : List ℕ) → Settled f cs →
+      Settled (book.settleBelow m k f) (settleTo q k cs)
   unfolding settleTo book.settleBelow
   settled-to zero h f cs s = s
   settled-to (suc k) h f cs s =

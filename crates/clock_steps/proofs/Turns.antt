@@ -8,7 +8,8 @@ use lib.ListN.{getD, set, replicate}
 use Rattle.plan.specs.Sections.{slotOf}
 use Rattle.plan.specs.Plan.{Node, Plan}
 use Rattle.clock_steps.specs.Settling.{putCell, settleWire, settleTo, settle}
-use Rattle.clock_steps.specs.Taking.{takeRegister, takeRegisters, Taking, taking, takeThread, takeBelow, loadTo, storeTo, Stand, stand, atMost, rise, step}
+use Rattle.clock_steps.specs.Taking.{takeRegister, takeRegisters, Taking, taking, takeThread, takeBelow, loadTo, storeTo, Stand}
+use Rattle.clock_steps.specs.Taking.{stand, atMost, rise, step}
 
 -- ---- settleTo, settle
 
@@ -103,7 +104,8 @@ module _ (f : ℕ → Node) (ts numbers cs ps : List ℕ) where
     same-rise a b c = rw (a, b, c)
 
     pub stepped :
-        {first count threads registers all : ℕ} {n0 n1 n2 c1 c2 c3 p1 : List ℕ} → first ≡ q .inputs → registers ≡ q .registers → all ≡ q .threads →
+        {first count threads registers all : ℕ} {n0 n1 n2 c1 c2 c3 p1 : List ℕ} →
+        first ≡ q .inputs → registers ≡ q .registers → all ≡ q .threads →
         count ≡ atMost 32 registers → threads ≡ atMost 8 all → n0 ≡ replicate 32 0 → n1 ≡ loadTo cs first count n0 →
         taking c1 n2 p1 ≡ takeBelow f ts numbers count threads (taking cs n1 ps) → c2 ≡ storeTo n2 first count c1 → c3 ≡ settle q c2 →
         stand c3 p1 ≡ step q f ts numbers (stand cs ps)

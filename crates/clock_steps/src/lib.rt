@@ -12,7 +12,8 @@ ghost use Rattle.plan.specs.Plan.{planOf};
 ghost use Rattle.nextstate.specs.Rules.{one};
 ghost use Rattle.clock_steps.specs.Numbers.{waitsIn, numberThread, numberRows};
 ghost use Rattle.clock_steps.specs.Settling.{putCell, settleWire, settle};
-ghost use Rattle.clock_steps.specs.Taking.{rowIn, workRow, takeRegister, takeRegisters, taking, takeThread, takeBelow, loadTo, storeTo, atMost, stand, step};
+ghost use Rattle.clock_steps.specs.Taking.{rowIn, workRow, takeRegister, takeRegisters, taking, takeThread, takeBelow, loadTo};
+ghost use Rattle.clock_steps.specs.Taking.{storeTo, atMost, stand, step};
 
 // For each thread and place the row of its wait: 256 places to a thread.
 pub type RowNumbers = [u8; 2048];

@@ -17,7 +17,8 @@ use Rattle.verilog_tokens.specs.Table.{kindOf, kinds, nameIn, placeOf, idOf, nu
 use Rattle.verilog_tokens.specs.Pieces.{piece, pieceAt, unnamed}
 use Rattle.verilog_scan.specs.Scan.{stored, overwritten, starts, overlong, Filled, Scanned, spelledAt, nameAt, namesAt, gapFrom}
 use Rattle.verilog_scan.proofs.Spelling.{numbered, numbered-ids}
-use Rattle.verilog_scan.proofs.Rest.{tokens-few, restAt, lexAt, nextAt, gap-inside, rest-first, rest-past, rest-next, lex-few, lex-piece, next-after, next-inside, Named, lex-named}
+use Rattle.verilog_scan.proofs.Rest.{tokens-few, restAt, lexAt, nextAt, gap-inside, rest-first, rest-past, rest-next, lex-few}
+use Rattle.verilog_scan.proofs.Rest.{lex-piece, next-after, next-inside, Named, lex-named}
 
 -- ---- a column of the table from a place on, with what stands behind the last token
 
@@ -176,7 +177,8 @@ module _ (text : List ℕ) where
   unfolding starts places tokens
   starts-length =
       length-append (map (λ (l : Located). l .place) (located text)) (length text ∷ [])
-      ∙ ap (λ n. n + 1) (length-map (located text) (λ (l : Located). l .place) ∙ sym (length-map (located text) (λ (l : Located). l .token)))
+      ∙ ap (λ n. n + 1) (length-map (located text) (λ (l : Located). l .place)
+      ∙ sym (length-map (located text) (λ (l : Located). l .token)))
 
 -- A text that is read has at most 16,384 tokens: tables of 16,385 entries have room for them and for what stands behind.
 module _ (text table : List ℕ) (l : length text ≤ 16384) (h : length table ≡ 16385) where
@@ -245,7 +247,8 @@ module _
             rw q (column-turn (λ (l : Located). kindOf (l .token)) 0 text at kinds₁ (stored (kinds text) kinds₀) n (S .kinds-rest) l
             (t .kind) (kind-is text at l t e));
         numbers-rest =
-            rw q (numbers-turn text ns at numbers₁ (stored (numbers text) numbers₀) n (S .numbers-rest) l v (number-value text at l t e ns v f)
+            rw q (numbers-turn text ns at numbers₁ (stored (numbers text) numbers₀) n (S .numbers-rest) l v
+            (number-value text at l t e ns v f)
             (namesAt text (take k (set names count at))) (names-value text at l t e names count k (omega arith) g));
         places-rest =
             rw q (column-turn (λ (l : Located). l .place) (length text) text at places₁ (stored (starts text) places₀) n (S .places-rest) l
@@ -257,7 +260,8 @@ module _
   stands-last l = record {
     kinds-filled = column-last (λ (l : Located). kindOf (l .token)) 0 text at kinds₁ (stored (kinds text) kinds₀) n (S .kinds-rest) l;
     numbers-filled = numbers-last text (namesAt text (take count names)) at numbers₁ (stored (numbers text) numbers₀) n (S .numbers-rest) l;
-    places-filled = column-last (λ (l : Located). l .place) (length text) text at places₁ (stored (starts text) places₀) n (S .places-rest) l;
+    places-filled = column-last (λ (l : Located). l .place) (length text) text at places₁ (stored (starts text) places₀) n
+        (S .places-rest) l;
     counted = count-last text at n (length (tokens text)) l (S .all);
   }
 

@@ -14,7 +14,11 @@ use Rattle.verilog_tokens.specs.declared.Class.{Class}
 use Rattle.verilog_tokens.specs.declared.Class.the-variants.{Space, Word, Decimal}
 use Rattle.verilog_tokens.specs.Characters.{isLetter, isBelow, isUnderscore, isNamed, inClass, every, numeral, span}
 use Rattle.verilog_tokens.specs.Words.{isKeyword, signs, firstOf}
-use Rattle.verilog_tokens.specs.Tokens.{Token, terminal, name, number, known, unknown, broken, Name, Lexeme, Located, gap, wordToken, word, numberToken, unsigned, Base, base, none, binary, octal, decimal, hexadecimal, Radix, baseOf, radixOf, decimalDigits, digitsIn, isKnown, isUnknown, valueToken, valueBehind, value, based, signToken, sign, Opening, opensWord, opensNumber, opensValue, opensSign, opening, tokenBy, goesOn, andThen, fromToken, fromGap, located, tokens}
+use Rattle.verilog_tokens.specs.Tokens.{Token, terminal, name, number, known, unknown, broken, Name, Lexeme, Located, gap, wordToken, word}
+use Rattle.verilog_tokens.specs.Tokens.{numberToken, unsigned, Base, base, none, binary, octal, decimal, hexadecimal, Radix, baseOf}
+use Rattle.verilog_tokens.specs.Tokens.{radixOf, decimalDigits, digitsIn, isKnown, isUnknown, valueToken, valueBehind, value, based}
+use Rattle.verilog_tokens.specs.Tokens.{signToken, sign, Opening, opensWord, opensNumber, opensValue, opensSign, opening, tokenBy, goesOn}
+use Rattle.verilog_tokens.specs.Tokens.{andThen, fromToken, fromGap, located, tokens}
 use Rattle.verilog_tokens.specs.Table.{terminals, numberFrom, kindOf, nameIn, placeOf, numberIn}
 use Rattle.verilog_tokens.specs.Pieces.{piece, pieceOf, pieceIn, pieceFrom, pieceAt, unnamed, digitsBy}
 use Rattle.verilog_tokens.proofs.Runs.{span-few}
@@ -246,7 +250,8 @@ module _ (text : List ℕ) (at : ℕ) (l : at < length text) where
 
   rest-opened : restAt text at
       ≡ record { token = lexAt text at .token; place = at }
-      ∷ andThen (goesOn (lexAt text at .token)) (fromGap (length text)) (at + lexAt text at .size) (drop (lexAt text at .size) (drop at text))
+      ∷ andThen (goesOn (lexAt text at .token)) (fromGap (length text)) (at + lexAt text at .size)
+      (drop (lexAt text at .size) (drop at text))
   unfolding restAt fromToken lexAt
   rest-opened = by (drop at text) (drop-cons text at 0 l)
     where

@@ -12,7 +12,8 @@ use lib.Seq.{drop-cons, drop-drop}
 use Rattle.values.specs.Values.{pick}
 use Rattle.verilog_tokens.specs.declared.Class.the-variants.{Space, Decimal, Binary, Octal, Hexadecimal, Underscore}
 use Rattle.verilog_tokens.specs.Characters.{isX, isUnderscore, span, runEnd, every, numeral}
-use Rattle.verilog_tokens.specs.Tokens.{Base, base, none, binary, octal, decimal, hexadecimal, Radix, baseOf, radixOf, decimalDigits, digitsIn, isKnown, isUnknown, valueToken, valueBehind, value, based}
+use Rattle.verilog_tokens.specs.Tokens.{Base, base, none, binary, octal, decimal, hexadecimal, Radix, baseOf, radixOf, decimalDigits}
+use Rattle.verilog_tokens.specs.Tokens.{digitsIn, isKnown, isUnknown, valueToken, valueBehind, value, based}
 use Rattle.verilog_tokens.specs.Table.{kindOf, numberIn}
 use Rattle.verilog_tokens.specs.Pieces.{piece, pieceOf, pieceIn, unnamed, radixIn, digitsBy}
 use Rattle.verilog_tokens.proofs.Runs.{span-few}

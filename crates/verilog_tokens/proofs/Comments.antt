@@ -13,7 +13,8 @@ use Rattle.values.specs.Values.{pick}
 use Rattle.verilog_tokens.specs.declared.Class.{Class}
 use Rattle.verilog_tokens.specs.declared.Class.the-variants.{Space, Comment}
 use Rattle.verilog_tokens.specs.Characters.{isNewline, span, runEnd}
-use Rattle.verilog_tokens.specs.Tokens.{either, further, endedBy, lineComment, isSlash, closing, blockComment, comment, blank, onwards, gaps, gap}
+use Rattle.verilog_tokens.specs.Tokens.{either, further, endedBy, lineComment, isSlash, closing, blockComment, comment, blank}
+use Rattle.verilog_tokens.specs.Tokens.{onwards, gaps, gap}
 use Rattle.verilog_tokens.proofs.Runs.{span-few}
 
 -- ---- isSlash

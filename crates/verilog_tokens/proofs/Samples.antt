@@ -7,10 +7,16 @@ use Prim.Native.Nat.{ℕ}
 use Rattle.hextext.specs.Characters.{digitOf}
 use Rattle.writing.specs.Ascii.{ascii}
 use Rattle.naming.specs.Naming.{sameText}
-use Rattle.verilog_tokens.specs.Characters.{isNewline, isSpace, isLetter, isBelow, isX, isZ, isUnderscore, isDigit, isNamed, isText, inClass, span, every, withDigit, numeralFrom, numeral}
+use Rattle.verilog_tokens.specs.Characters.{isNewline, isSpace, isLetter, isBelow, isX, isZ, isUnderscore, isDigit, isNamed, isText}
+use Rattle.verilog_tokens.specs.Characters.{inClass, span, every, withDigit, numeralFrom, numeral}
 use Rattle.verilog_tokens.specs.Words.{keywords, isAmong, isKeyword, signs, opensWith, firstOf}
-use Rattle.verilog_tokens.specs.Tokens.{Token, terminal, name, number, known, unknown, broken, either, further, endedBy, lineComment, isSlash, closing, blockComment, comment, blank, onwards, gaps, gap, wordToken, word, opensZero, numberToken, unsigned, baseOf, radixOf, decimalDigits, digitsIn, isKnown, isUnknown, valueToken, valueBehind, value, based, signToken, sign, opening, tokenBy, goesOn, andThen, fromToken, fromGap, located, tokens}
-use Rattle.verilog_tokens.specs.Table.{terminals, numberFrom, kindOf, kinds, nameIn, namesIn, placeOf, idOf, upTo255, numberIn, numbers}
+use Rattle.verilog_tokens.specs.Tokens.{Token, terminal, name, number, known, unknown, broken, either, further, endedBy, lineComment}
+use Rattle.verilog_tokens.specs.Tokens.{isSlash, closing, blockComment, comment, blank, onwards, gaps, gap, wordToken, word}
+use Rattle.verilog_tokens.specs.Tokens.{opensZero, numberToken, unsigned, baseOf, radixOf, decimalDigits, digitsIn, isKnown}
+use Rattle.verilog_tokens.specs.Tokens.{isUnknown, valueToken, valueBehind, value, based, signToken, sign, opening, tokenBy, goesOn}
+use Rattle.verilog_tokens.specs.Tokens.{andThen, fromToken, fromGap, located, tokens}
+use Rattle.verilog_tokens.specs.Table.{terminals, numberFrom, kindOf, kinds, nameIn, namesIn, placeOf, idOf, upTo255, numberIn}
+use Rattle.verilog_tokens.specs.Table.{numbers}
 
 abbrev pub at : ℕ → List ℕ → Token
 at p w = name (record { place = p; spelled = w })
@@ -20,7 +26,8 @@ unfoldable pub seen : List ℕ → List Token
 unfolding tokens located fromGap fromToken andThen goesOn tokenBy opening sign signToken based value valueBehind valueToken isUnknown
     isKnown digitsIn decimalDigits radixOf baseOf unsigned numberToken opensZero word wordToken gap gaps onwards blank comment
     blockComment closing isSlash lineComment endedBy further either firstOf opensWith signs isKeyword isAmong keywords numeral
-    numeralFrom withDigit every span inClass isNamed isText isDigit isUnderscore isZ isX isBelow isLetter isSpace isNewline sameText ascii digitOf
+    numeralFrom withDigit every span inClass isNamed isText isDigit isUnderscore isZ isX isBelow isLetter isSpace isNewline sameText
+    ascii digitOf
 seen text = tokens text
 
 abbrev pub sees : List ℕ → List Token → Type 0

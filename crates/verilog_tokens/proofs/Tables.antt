@@ -256,7 +256,8 @@ module _ (table word : List ℕ) (n : ℕ) (q : n ≡ rowIn (rowsOf table) word)
   pub terminal-outside : table ≡ lines terminals → 39 ≤ n → 70 ≡ numberFrom 1 terminals word
   terminal-outside e h = rw (le-ltb n 39 h) at (terminal-place e)
 
-pub sign-first : (table text : List ℕ) (n : ℕ) → n ≡ length (firstOf (rowsOf table) text) → table ≡ lines signs → n ≡ length (firstOf signs text)
+pub sign-first : (table text : List ℕ) (n : ℕ) → n ≡ length (firstOf (rowsOf table) text) → table ≡ lines signs →
+    n ≡ length (firstOf signs text)
 sign-first table text n q e = q ∙ ap (λ t. length (firstOf (rowsOf t) text)) e ∙ ap (λ r. length (firstOf r text)) sign-rows
 
 -- ---- a word's kind

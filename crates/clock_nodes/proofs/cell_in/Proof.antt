@@ -6,10 +6,16 @@ use Rattle.clock_nodes.proofs.cell_in.Statement.{statement}
 use Rattle.clock_nodes.proofs.cell_in.Tie as tie
 
 returns : tie.Need-returns
-returns c = cell-variable (c .before .before .before .before .before .before .args .nodes .now) _ (c .before .before .before .before .wide .ensures) (c .before .before .before .word-at .ensures) (c .before .before .if1 .taken) (c .long .ensures ∙ c .before .word-at2 .ensures)
+returns c =
+    let a = c .before .before .before .before .before .before .args in
+    cell-variable (a .nodes .now) _ (c .before .before .before .before .wide .ensures) (c .before .before .before .word-at .ensures)
+    (c .before .before .if1 .taken) (c .long .ensures ∙ c .before .word-at2 .ensures)
 
 returns-2 : tie.Need-returns-2
-returns-2 c = rw (c .long2 .ensures) (cell-node (c .before .before .before .before .before .args .nodes .now) _ (c .before .before .before .wide .ensures) (c .before .before .word-at .ensures) (c .before .if1 .left))
+returns-2 c =
+    let a = c .before .before .before .before .before .args in
+    rw (c .long2 .ensures) (cell-node (a .nodes .now) _ (c .before .before .before .wide .ensures) (c .before .before .word-at .ensures)
+    (c .before .if1 .left))
 
 pub cell-in-spec : {M : Type 1} → statement M
 cell-in-spec =

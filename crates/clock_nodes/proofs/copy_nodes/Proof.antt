@@ -18,13 +18,23 @@ returns : tie.Need-returns Inv-loop μ-loop
 returns c = copy-past (c .before .before .before .args .nodes .now) (c .before .before .before .args .sizes .now) _ _ (c .if1 .taken)
 
 loop-holds : tie.Need-loop-holds Inv-loop μ-loop
-loop-holds c = (omega arith, omega arith, copy-none (c .before .before .before .args .nodes .now) (c .before .before .before .args .sizes .now) _)
+loop-holds c =
+    let a = c .before .before .before .args in
+    (omega arith, omega arith, copy-none (a .nodes .now) (a .sizes .now) _)
 
 loop-again : tie.Need-loop-again Inv-loop μ-loop
-loop-again c = (omega arith, omega arith, copy-more (c .before .before .before .before .before .before .before .args .nodes .now) (c .before .before .before .before .before .before .before .args .sizes .now) _ _ (c .before .before .before .loop .inv .2) (c .copy-node .ensures))
+loop-again c =
+    let a = c .before .before .before .before .before .before .before .args in (
+      omega arith,
+      omega arith,
+      copy-more (a .nodes .now) (a .sizes .now) _ _ (c .before .before .before .loop .inv .2)
+          (c .copy-node .ensures),
+    )
 
 returns-2 : tie.Need-returns-2 Inv-loop μ-loop
-returns-2 c = copy-within (c .before .before .before .before .before .args .nodes .now) (c .before .before .before .before .before .args .sizes .now) _ _ _ (omega arith) (omega arith) (c .before .loop .inv .2)
+returns-2 c =
+    let a = c .before .before .before .before .before .args in
+    copy-within (a .nodes .now) (a .sizes .now) _ _ _ (omega arith) (omega arith) (c .before .loop .inv .2)
 
 pub copy-nodes-spec : {M : Type 1} → statement M
 copy-nodes-spec =

@@ -8,7 +8,9 @@ returns : tie.Need-returns
 returns c = row-past _ _ _ _ _ _ (c .if1 .taken)
 
 returns-2 : tie.Need-returns-2
-returns-2 c = row-here _ _ _ _ _ _ (c .before .before .before .before .before .if1 .left) (c .before .before .before .put-entries .ensures) (c .before .before .low-row .ensures) (c .before .high-row .ensures) (rw (c .long .ensures))
+returns-2 c =
+    row-here _ _ _ _ _ _ (c .before .before .before .before .before .if1 .left) (c .before .before .before .put-entries .ensures)
+    (c .before .before .low-row .ensures) (c .before .high-row .ensures) (rw (c .long .ensures))
 
 pub fill-row-spec : {M : Type 1} → statement M
 fill-row-spec =

@@ -21,7 +21,9 @@ loop-holds : tie.Need-loop-holds Inv-loop μ-loop
 loop-holds c = (omega arith, omega arith, lows-none (c .before .before .args .nodes .now) _)
 
 loop-again : tie.Need-loop-again Inv-loop μ-loop
-loop-again c = (omega arith, omega arith, lows-more (c .before .before .before .before .before .before .args .nodes .now) _ _ (c .before .before .before .loop .inv .2) (c .low-node .ensures))
+loop-again c =
+    let a = c .before .before .before .before .before .before .args in
+    (omega arith, omega arith, lows-more (a .nodes .now) _ _ (c .before .before .before .loop .inv .2) (c .low-node .ensures))
 
 returns-2 : tie.Need-returns-2 Inv-loop μ-loop
 returns-2 c = lows-within (c .before .before .before .before .args .nodes .now) _ _ _ (omega arith) (omega arith) (c .before .loop .inv .2)

@@ -16,14 +16,21 @@ abbrev μ-loop : tie.MeasureT-loop
 μ-loop nodes lows rows row written x₀ r₀ x r = 32 - r
 
 loop-holds : tie.Need-loop-holds Inv-loop μ-loop
-loop-holds c = (omega arith, low-none (c .before .before .before .before .args .nodes .now) (c .before .before .before .before .args .lows .now) (c .before .before .before .before .args .rows .now) (c .before .before .before .before .args .row) (bits (c .before .before .before .before .args .written)) (c .before .entry-at .ensures) (c .lower .ensures))
+loop-holds c =
+    let a = c .before .before .before .before .args in (
+      omega arith,
+      low-none (a .nodes .now) (a .lows .now) (a .rows .now) (a .row) (bits (a .written)) (c .before .entry-at .ensures)
+          (c .lower .ensures),
+    )
 
 loop-again : tie.Need-loop-again Inv-loop μ-loop
-loop-again c = (
-  omega arith,
-  low-more (c .before .before .before .before .before .before .before .before .before .args .nodes .now) (c .before .before .before .before .before .before .before .before .before .args .lows .now) (c .before .before .before .before .before .before .before .before .before .args .rows .now) (c .before .before .before .before .before .before .before .before .before .args .row) (bits (c .before .before .before .before .before .before .before .before .before .args .written)) _ (c .before .before .before .before .loop .inv .1) (c .before .before .has .ensures) (c .before .entry-at2 .ensures)
-      (c .low-by .ensures),
-)
+loop-again c =
+    let a = c .before .before .before .before .before .before .before .before .before .args in (
+      omega arith,
+      low-more (a .nodes .now) (a .lows .now) (a .rows .now) (a .row) (bits (a .written)) _
+          (c .before .before .before .before .loop .inv .1) (c .before .before .has .ensures) (c .before .entry-at2 .ensures)
+          (c .low-by .ensures),
+    )
 
 returns : tie.Need-returns Inv-loop μ-loop
 returns c =

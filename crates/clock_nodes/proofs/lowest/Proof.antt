@@ -15,11 +15,25 @@ returns-2 c = rw (le-ltb _ 11 (c .before .before .if1 .left), lt-ltb _ 13 (c .if
 
 returns-3 : tie.Need-returns-3
 unfolding lowest
-returns-3 c = rw (le-ltb _ 11 (c .before .before .before .before .if1 .left), le-ltb _ 13 (c .before .before .if2 .left), lt-ltb _ 20 (c .if3 .taken), ← c .before .before .before .lower .ensures) (c .before .lower2 .ensures)
+returns-3 c =
+    rw (
+      le-ltb _ 11 (c .before .before .before .before .if1 .left),
+      le-ltb _ 13 (c .before .before .if2 .left),
+      lt-ltb _ 20 (c .if3 .taken),
+      ← c .before .before .before .lower .ensures,
+    ) (c .before .lower2 .ensures)
 
 returns-4 : tie.Need-returns-4
 unfolding lowest
-returns-4 c = rw (le-ltb _ 11 (c .before .before .before .before .before .if1 .left), le-ltb _ 13 (c .before .before .before .if2 .left), le-ltb _ 20 (c .before .if3 .left), ← c .before .before .before .before .lower .ensures, ← c .before .before .lower2 .ensures) (c .lower3 .ensures)
+returns-4 c =
+    rw (
+      le-ltb _ 11 (c .before .before .before .before .before .if1 .left),
+      le-ltb _ 13 (c .before .before .before .if2 .left),
+      le-ltb _ 20 (c .before .if3 .left),
+      ← c .before .before .before .before .lower .ensures,
+      ← c .before .before .lower2 .ensures,
+    )
+    (c .lower3 .ensures)
 
 pub lowest-spec : {M : Type 1} → statement M
 lowest-spec =

@@ -15,10 +15,17 @@ abbrev μ-loop : tie.MeasureT-loop
 μ-loop nodes rows row table₀ c₀ table c = 33 - c
 
 loop-holds : tie.Need-loop-holds Inv-loop μ-loop
-loop-holds c = (omega arith, entries-none (c .before .before .args .nodes .now) (c .before .before .args .rows .now) (c .before .before .args .row) _)
+loop-holds c =
+    let a = c .before .before .args in
+    (omega arith, entries-none (a .nodes .now) (a .rows .now) (a .row) _)
 
 loop-again : tie.Need-loop-again Inv-loop μ-loop
-loop-again c = (omega arith, entries-more (c .before .before .before .before .before .before .args .nodes .now) (c .before .before .before .before .before .before .args .rows .now) (c .before .before .before .before .before .before .args .row) _ _ (c .before .before .before .loop .inv .1) (c .before .entry-at .ensures) (c .cell-in .ensures))
+loop-again c =
+    let a = c .before .before .before .before .before .before .args in (
+      omega arith,
+      entries-more (a .nodes .now) (a .rows .now) (a .row) _ _ (c .before .before .before .loop .inv .1)
+          (c .before .entry-at .ensures) (c .cell-in .ensures),
+    )
 
 returns : tie.Need-returns Inv-loop μ-loop
 returns c =

@@ -18,7 +18,9 @@ loop-holds : tie.Need-loop-holds Inv-loop μ-loop
 loop-holds c = (omega arith, load-none (c .args .cells .now) (c .args .first) _)
 
 loop-again : tie.Need-loop-again Inv-loop μ-loop
-loop-again c = (omega arith, load-more (c .before .before .before .before .args .cells .now) (c .before .before .before .before .args .first) _ _ (c .before .before .before .loop .inv .1) (c .before .slot .ensures .0))
+loop-again c =
+    let a = c .before .before .before .before .args in
+    (omega arith, load-more (a .cells .now) (a .first) _ _ (c .before .before .before .loop .inv .1) (c .before .slot .ensures .0))
 
 returns : tie.Need-returns Inv-loop μ-loop
 returns c =

@@ -19,10 +19,14 @@ loop-holds : tie.Need-loop-holds Inv-loop μ-loop
 loop-holds c = (omega arith, omega (arith, c .wires .ensures), settle-none (planOf (c .before .args .plan .now)) _)
 
 loop-again : tie.Need-loop-again Inv-loop μ-loop
-loop-again c = (omega arith, omega arith, settle-more (planOf (c .before .before .before .before .before .args .plan .now)) _ _ (c .before .before .before .loop .inv .2) (c .settle-wire .ensures))
+loop-again c =
+    let a = c .before .before .before .before .before .args in
+    (omega arith, omega arith, settle-more (planOf (a .plan .now)) _ _ (c .before .before .before .loop .inv .2) (c .settle-wire .ensures))
 
 returns : tie.Need-returns Inv-loop μ-loop
-returns c = settle-all (planOf (c .before .before .before .args .plan .now)) _ _ (c .before .before .wires .ensures) (omega arith) (c .before .loop .inv .2)
+returns c =
+    settle-all (planOf (c .before .before .before .args .plan .now)) _ _ (c .before .before .wires .ensures) (omega arith)
+    (c .before .loop .inv .2)
 
 pub settle-spec : {M : Type 1} → statement M
 settle-spec =

@@ -6,7 +6,15 @@ use Rattle.clock_steps.proofs.settle_wire.Tie as tie
 
 returns : tie.Need-returns
 unfolding settleWire workWire rootOf
-returns c = rw (c .put-cell .ensures, c .before .before .before .inputs .ensures, c .before .before .registers .ensures, c .before .before .before .before .before .work .ensures, c .before .before .before .before .before .before .before .slot .ensures .0, c .before .before .before .before .before .before .before .before .wire .ensures)
+returns c =
+    rw (
+      c .put-cell .ensures,
+      c .before .before .before .inputs .ensures,
+      c .before .before .registers .ensures,
+      c .before .before .before .before .before .work .ensures,
+      c .before .before .before .before .before .before .before .slot .ensures .0,
+      c .before .before .before .before .before .before .before .before .wire .ensures,
+    )
 
 pub settle-wire-spec : {M : Type 1} → statement M
 settle-wire-spec =

@@ -8,8 +8,14 @@ use Rattle.clock_steps.proofs.step.Tie as tie
 
 returns : tie.Need-returns
 returns c =
-    stepped (nodeAt (c .before .before .before .before .before .before .before .before .before .before .before .before .before .before .before .before .before .args .lent .now)) (c .before .before .before .before .before .before .before .before .before .before .before .before .before .before .before .before .before .args .table .now) (c .before .before .before .before .before .before .before .before .before .before .before .before .before .before .before .before .before .args .numbers .now) _ _ (planOf (c .before .before .before .before .before .before .before .before .before .before .before .before .before .before .before .before .before .args .plan .now)) (c .before .before .before .before .before .before .before .before .before .before .before .before .before .before .before .before .inputs .ensures) (c .before .before .before .before .before .before .before .before .before .before .before .before .before .before .before .registers .ensures)
-    (c .before .before .before .before .before .before .before .before .before .before .before .before .before .threads .ensures) (c .before .before .before .before .before .before .before .before .before .before .before .before .before .before .at-most .ensures .0) (c .before .before .before .before .before .before .before .before .before .before .before .before .at-most2 .ensures .0) refl (c .before .before .before .before .before .before .before .before .before .load .ensures) (c .before .before .before .before .before .take .ensures) (c .before .before .store .ensures) (c .settle .ensures)
+    let loaded = c .before .before .before .before .before .before .before .before .before in
+    let counted = loaded .before .before .before in
+    let begun = counted .before .before .before .before in
+    let a = begun .before .args in
+    stepped (nodeAt (a .lent .now)) (a .table .now) (a .numbers .now) _ _ (planOf (a .plan .now)) (begun .inputs .ensures)
+    (counted .before .before .before .registers .ensures) (counted .before .threads .ensures)
+    (counted .before .before .at-most .ensures .0) (counted .at-most2 .ensures .0) refl (loaded .load .ensures)
+    (c .before .before .before .before .before .take .ensures) (c .before .before .store .ensures) (c .settle .ensures)
 
 pub step-spec : {M : Type 1} → statement M
 step-spec =

@@ -18,7 +18,9 @@ loop-holds : tie.Need-loop-holds Inv-loop μ-loop
 loop-holds c = (omega arith, store-none (c .args .news .now) (c .args .first) _)
 
 loop-again : tie.Need-loop-again Inv-loop μ-loop
-loop-again c = (omega arith, store-more (c .before .before .before .before .before .args .news .now) (c .before .before .before .before .before .args .first) _ _ (c .before .before .before .before .loop .inv .1) (c .put-cell .ensures))
+loop-again c =
+    let a = c .before .before .before .before .before .args in
+    (omega arith, store-more (a .news .now) (a .first) _ _ (c .before .before .before .before .loop .inv .1) (c .put-cell .ensures))
 
 returns : tie.Need-returns Inv-loop μ-loop
 returns c =

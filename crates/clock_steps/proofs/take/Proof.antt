@@ -10,7 +10,8 @@ use Rattle.clock_steps.proofs.take.Statement.{statement}
 use Rattle.clock_steps.proofs.take.Tie as tie
 
 abbrev Inv-loop : tie.InvT-loop
-Inv-loop lent table numbers count threads cells₀ news₀ places₀ i₀ cells news places i = (i ≤ threads) × (taking cells news places ≡ takeBelow (nodeAt lent) table numbers count i (taking cells₀ news₀ places₀))
+Inv-loop lent table numbers count threads cells₀ news₀ places₀ i₀ cells news places i =
+    (i ≤ threads) × (taking cells news places ≡ takeBelow (nodeAt lent) table numbers count i (taking cells₀ news₀ places₀))
 
 abbrev μ-loop : tie.MeasureT-loop
 μ-loop lent table numbers count threads cells₀ news₀ places₀ i₀ cells news places i = threads - i
@@ -19,11 +20,13 @@ loop-holds : tie.Need-loop-holds Inv-loop μ-loop
 loop-holds c = (omega arith, threads-none (nodeAt (c .args .lent .now)) (c .args .table .now) (c .args .numbers .now) (c .args .count) _)
 
 loop-again : tie.Need-loop-again Inv-loop μ-loop
-loop-again c = (
-  omega arith,
-  threads-more (nodeAt (c .before .before .before .before .before .before .args .lent .now)) (c .before .before .before .before .before .before .args .table .now) (c .before .before .before .before .before .before .args .numbers .now) (c .before .before .before .before .before .before .args .count) _ _ (c .before .before .before .before .before .loop .inv .1)
-      (c .take-thread .ensures),
-)
+loop-again c =
+    let a = c .before .before .before .before .before .before .args in (
+      omega arith,
+      threads-more (nodeAt (a .lent .now)) (a .table .now) (a .numbers .now) (a .count) _ _
+          (c .before .before .before .before .before .loop .inv .1)
+          (c .take-thread .ensures),
+    )
 
 returns : tie.Need-returns Inv-loop μ-loop
 returns c =

@@ -18,7 +18,12 @@ loop-holds : tie.Need-loop-holds Inv-loop μ-loop
 loop-holds c = (omega arith, registers-none (c .args .table .now) (c .args .row) (c .args .cells .now) _)
 
 loop-again : tie.Need-loop-again Inv-loop μ-loop
-loop-again c = (omega arith, registers-more (c .before .before .before .before .args .table .now) (c .before .before .before .before .args .row) (c .before .before .before .before .args .cells .now) _ _ (c .before .before .before .loop .inv .1) (c .take-register .ensures))
+loop-again c =
+    let a = c .before .before .before .before .args in (
+      omega arith,
+      registers-more (a .table .now) (a .row) (a .cells .now) _ _ (c .before .before .before .loop .inv .1)
+          (c .take-register .ensures),
+    )
 
 returns : tie.Need-returns Inv-loop μ-loop
 returns c =

@@ -6,7 +6,14 @@ use Rattle.clock_steps.proofs.take_thread.Tie as tie
 
 returns : tie.Need-returns
 unfolding takeThread takeRow placeOf entryCell
-returns c = rw (c .place-of .ensures, c .before .before .slot .ensures .0, c .before .before .before .before .take-registers .ensures, c .before .before .before .before .before .before .before .work-row .ensures, c .before .before .before .before .before .before .before .before .before .row-in .ensures .0)
+returns c =
+    rw (
+      c .place-of .ensures,
+      c .before .before .slot .ensures .0,
+      c .before .before .before .before .take-registers .ensures,
+      c .before .before .before .before .before .before .before .work-row .ensures,
+      c .before .before .before .before .before .before .before .before .before .row-in .ensures .0,
+    )
 
 pub take-thread-spec : {M : Type 1} → statement M
 take-thread-spec =

@@ -11,7 +11,8 @@ use Rattle.verilog_scan.proofs.fill.Statement.{statement}
 use Rattle.verilog_scan.proofs.fill.Tie as tie
 
 abbrev Inv-loop : tie.InvT-loop
-Inv-loop text kinds₀ numbers₀ places₀ starts₀ names₀ n₀ at₀ kinds numbers places starts names n at = Stands text kinds₀ numbers₀ places₀ kinds numbers places starts names n at
+Inv-loop text kinds₀ numbers₀ places₀ starts₀ names₀ n₀ at₀ kinds numbers places starts names n at =
+    Stands text kinds₀ numbers₀ places₀ kinds numbers places starts names n at
 
 abbrev μ-loop : tie.MeasureT-loop
 μ-loop text kinds₀ numbers₀ places₀ starts₀ names₀ n₀ at₀ kinds numbers places starts names n at = length text - at
@@ -137,7 +138,8 @@ loop-again c =
     let r-number-of = c .before .before .number-of in
     let r-more = c .before .more in
     let r-next-at = c .next-at in
-    stands-next (a .text .now) (a .kinds .now) (a .numbers .now) (a .places .now) _ _ _ _ _ _ _ (l .inv) (t .taken) (p) _ (r-token-at .ensures) _ _ _ (r-number-of .ensures) (r-more .ensures) (r-next-at .ensures)
+    stands-next (a .text .now) (a .kinds .now) (a .numbers .now) (a .places .now) _ _ _ _ _ _ _ (l .inv) (t .taken) (p) _
+    (r-token-at .ensures) _ _ _ (r-number-of .ensures) (r-more .ensures) (r-next-at .ensures)
 
 element-write-kinds-2 : tie.Need-element-write-kinds-2 Inv-loop μ-loop
 element-write-kinds-2 c = omega (arith, c .before .loop .inv .few, c .before .loop .inv .inside, c .before .before .before .before .pre)

@@ -29,7 +29,8 @@ returns c =
     let r-place = c .before .before .place in
     let r-spelled-so = c .before .spelled-so in
     let i1 = c .if1 in
-    first-here (a .text .now) (a .word .now) (a .starts .now) (a .names) (l .i) (p .1) (t .taken) (l .inv) (sym (ap (λ x. sameText (spelledAt (a .text .now) x) (a .word .now)) (r-place .ensures))
+    first-here (a .text .now) (a .word .now) (a .starts .now) (a .names) (l .i) (p .1) (t .taken) (l .inv)
+    (sym (ap (λ x. sameText (spelledAt (a .text .now) x) (a .word .now)) (r-place .ensures))
     ∙ sym (r-spelled-so .ensures)
     ∙ i1 .taken)
 
@@ -42,7 +43,8 @@ loop-again c =
     let r-place = c .before .before .place in
     let r-spelled-so = c .before .spelled-so in
     let i1 = c .if1 in
-    first-next (a .text .now) (a .word .now) (a .starts .now) (a .names) (l .i) (p .1) (t .taken) (l .inv) (sym (ap (λ x. sameText (spelledAt (a .text .now) x) (a .word .now)) (r-place .ensures))
+    first-next (a .text .now) (a .word .now) (a .starts .now) (a .names) (l .i) (p .1) (t .taken) (l .inv)
+    (sym (ap (λ x. sameText (spelledAt (a .text .now) x) (a .word .now)) (r-place .ensures))
     ∙ sym (r-spelled-so .ensures)
     ∙ i1 .left)
 

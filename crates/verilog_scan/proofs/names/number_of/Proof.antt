@@ -41,7 +41,13 @@ cast-result c =
     let a = c .before .before .before .before .before .args in
     let r-run-end = c .before .before .run-end in
     let p = c .before .before .before .before .before .pre in
-    omega (arith, r-first-spelled .ensures, names-few (a .text .now) (take (r-run-end .result - (a .at)) (drop (a .at) (a .text .now))) (a .starts .now) (a .names), p .0)
+    omega (
+      arith,
+      r-first-spelled .ensures,
+      names-few (a .text .now) (take (r-run-end .result - (a .at)) (drop (a .at) (a .text .now)))
+          (a .starts .now) (a .names),
+      p .0,
+    )
 
 returns-2 : tie.Need-returns-2
 returns-2 c =

@@ -33,7 +33,12 @@ part-value-of-start c =
     let r-radix-of = c .before .before .before .radix-of in
     let f = r-run-end .ensures in
     let g = r-digits-end .ensures in
-    omega (arith, run-inside Space (a .text .now) ((a .at) + 1) (omega (arith, i1 .left)), digits-few (r-radix-of .result) (drop (r-run-end .result) (a .text .now)), length-drop (r-run-end .result) (a .text .now))
+    omega (
+      arith,
+      run-inside Space (a .text .now) ((a .at) + 1) (omega (arith, i1 .left)),
+      digits-few (r-radix-of .result) (drop (r-run-end .result) (a .text .now)),
+      length-drop (r-run-end .result) (a .text .now),
+    )
 
 part-value-of-end : tie.Need-part-value-of-end
 part-value-of-end c =
@@ -44,7 +49,12 @@ part-value-of-end c =
     let r-radix-of = c .before .before .before .radix-of in
     let f = r-run-end .ensures in
     let g = r-digits-end .ensures in
-    omega (arith, run-inside Space (a .text .now) ((a .at) + 1) (omega (arith, i1 .left)), digits-few (r-radix-of .result) (drop (r-run-end .result) (a .text .now)), length-drop (r-run-end .result) (a .text .now))
+    omega (
+      arith,
+      run-inside Space (a .text .now) ((a .at) + 1) (omega (arith, i1 .left)),
+      digits-few (r-radix-of .result) (drop (r-run-end .result) (a .text .now)),
+      length-drop (r-run-end .result) (a .text .now),
+    )
 
 sub-value-of-2 : tie.Need-sub-value-of-2
 sub-value-of-2 c =
@@ -64,7 +74,12 @@ add-value-of c =
     let r-radix-of = c .before .before .before .before .radix-of in
     let f = r-run-end .ensures in
     let g = r-digits-end .ensures in
-    omega (arith, run-inside Space (a .text .now) ((a .at) + 1) (omega (arith, i1 .left)), digits-few (r-radix-of .result) (drop (r-run-end .result) (a .text .now)), length-drop (r-run-end .result) (a .text .now))
+    omega (
+      arith,
+      run-inside Space (a .text .now) ((a .at) + 1) (omega (arith, i1 .left)),
+      digits-few (r-radix-of .result) (drop (r-run-end .result) (a .text .now)),
+      length-drop (r-run-end .result) (a .text .now),
+    )
 
 returns-3 : tie.Need-returns-3
 returns-3 c =

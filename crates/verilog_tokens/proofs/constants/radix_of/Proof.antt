@@ -42,7 +42,8 @@ returns-9 : tie.Need-returns-9
 returns-9 c =
     let r-match = c .match in
     let r = r-match .rest in
-    radix-none _ (r .0 .0 .0 .0 .0 .0 .0 .1) (r .0 .0 .0 .0 .0 .0 .1) (r .0 .0 .0 .0 .0 .1) (r .0 .0 .0 .0 .1) (r .0 .0 .0 .1) (r .0 .0 .1) (r .0 .1) (r .1)
+    radix-none _ (r .0 .0 .0 .0 .0 .0 .0 .1) (r .0 .0 .0 .0 .0 .0 .1) (r .0 .0 .0 .0 .0 .1) (r .0 .0 .0 .0 .1) (r .0 .0 .0 .1) (r .0 .0 .1)
+    (r .0 .1) (r .1)
 
 pub radix-of-spec : {M : Type 1} → statement M
 radix-of-spec =

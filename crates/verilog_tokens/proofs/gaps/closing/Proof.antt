@@ -6,7 +6,8 @@ use Prim.Native.Nat.{_-_}
 use native.Mathlib.Omega.{arith}
 use lib.ListN.{length, drop}
 use Rattle.verilog_tokens.specs.Tokens.{closing}
-use Rattle.verilog_tokens.proofs.Comments.{Closing, closing-starts, closing-stops, closing-none, closed-inside, closes-here, closes-never, closes-later}
+use Rattle.verilog_tokens.proofs.Comments.{Closing, closing-starts, closing-stops, closing-none, closed-inside, closes-here}
+use Rattle.verilog_tokens.proofs.Comments.{closes-never, closes-later}
 use Rattle.verilog_tokens.proofs.gaps.closing.Statement.{statement}
 use Rattle.verilog_tokens.proofs.gaps.closing.Tie as tie
 

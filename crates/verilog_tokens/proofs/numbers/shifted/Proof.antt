@@ -15,7 +15,8 @@ mul-m c =
     let r-wide = c .before .wide in
     let r-byte = c .byte in
     let r-fits = c .before .before .before .fits in
-    let h = product-few (r-wide .result) (r-byte .result) (omega (arith, r-wide .ensures, r-fits .n)) (omega (arith, r-byte .ensures, r-fits .radix)) in
+    let h = product-few (r-wide .result) (r-byte .result) (omega (arith, r-wide .ensures, r-fits .n))
+    (omega (arith, r-byte .ensures, r-fits .radix)) in
     omega arith
 
 add-m : tie.Need-add-m
@@ -24,7 +25,8 @@ add-m c =
     let r-byte = c .before .before .byte in
     let r-fits = c .before .before .before .before .before .fits in
     let r-byte2 = c .byte2 in
-    let h = product-few (r-wide .result) (r-byte .result) (omega (arith, r-wide .ensures, r-fits .n)) (omega (arith, r-byte .ensures, r-fits .radix)) in
+    let h = product-few (r-wide .result) (r-byte .result) (omega (arith, r-wide .ensures, r-fits .n))
+    (omega (arith, r-byte .ensures, r-fits .radix)) in
     omega (arith, r-byte2 .ensures)
 
 returns-2 : tie.Need-returns-2

@@ -15,14 +15,24 @@ part-number-kind-start c =
     let a = c .before .before .args in
     let p = c .before .before .pre in
     let r-run-end = c .run-end in
-    omega (arith, run-inside Decimal (a .text .now) (a .at) (omega (arith, p)), run-after Decimal (a .text .now) (a .at), r-run-end .ensures)
+    omega (
+      arith,
+      run-inside Decimal (a .text .now) (a .at) (omega (arith, p)),
+      run-after Decimal (a .text .now) (a .at),
+      r-run-end .ensures,
+    )
 
 part-number-kind-end : tie.Need-part-number-kind-end
 part-number-kind-end c =
     let a = c .before .before .args in
     let p = c .before .before .pre in
     let r-run-end = c .run-end in
-    omega (arith, run-inside Decimal (a .text .now) (a .at) (omega (arith, p)), run-after Decimal (a .text .now) (a .at), r-run-end .ensures)
+    omega (
+      arith,
+      run-inside Decimal (a .text .now) (a .at) (omega (arith, p)),
+      run-after Decimal (a .text .now) (a .at),
+      r-run-end .ensures,
+    )
 
 sub-number-up-to : tie.Need-sub-number-up-to
 sub-number-up-to c =
@@ -35,14 +45,24 @@ part-number-up-to-start c =
     let a = c .before .before .before .before .args in
     let p = c .before .before .before .before .pre in
     let r-run-end = c .before .before .run-end in
-    omega (arith, run-inside Decimal (a .text .now) (a .at) (omega (arith, p)), run-after Decimal (a .text .now) (a .at), r-run-end .ensures)
+    omega (
+      arith,
+      run-inside Decimal (a .text .now) (a .at) (omega (arith, p)),
+      run-after Decimal (a .text .now) (a .at),
+      r-run-end .ensures,
+    )
 
 part-number-up-to-end : tie.Need-part-number-up-to-end
 part-number-up-to-end c =
     let a = c .before .before .before .before .args in
     let p = c .before .before .before .before .pre in
     let r-run-end = c .before .before .run-end in
-    omega (arith, run-inside Decimal (a .text .now) (a .at) (omega (arith, p)), run-after Decimal (a .text .now) (a .at), r-run-end .ensures)
+    omega (
+      arith,
+      run-inside Decimal (a .text .now) (a .at) (omega (arith, p)),
+      run-after Decimal (a .text .now) (a .at),
+      r-run-end .ensures,
+    )
 
 sub-t8 : tie.Need-sub-t8
 sub-t8 c =

@@ -33,7 +33,12 @@ part-opens-with-start c =
     let l = c .before .before .loop in
     let t = c .before .loop-test in
     let r-run-end = c .run-end in
-    omega (arith, run-inside Comment (a .table .now) (l .i) (omega (arith, t .taken)), run-after Comment (a .table .now) (l .i), r-run-end .ensures)
+    omega (
+      arith,
+      run-inside Comment (a .table .now) (l .i) (omega (arith, t .taken)),
+      run-after Comment (a .table .now) (l .i),
+      r-run-end .ensures,
+    )
 
 part-opens-with-end : tie.Need-part-opens-with-end Inv-loop μ-loop
 part-opens-with-end c =
@@ -41,7 +46,12 @@ part-opens-with-end c =
     let l = c .before .before .loop in
     let t = c .before .loop-test in
     let r-run-end = c .run-end in
-    omega (arith, run-inside Comment (a .table .now) (l .i) (omega (arith, t .taken)), run-after Comment (a .table .now) (l .i), r-run-end .ensures)
+    omega (
+      arith,
+      run-inside Comment (a .table .now) (l .i) (omega (arith, t .taken)),
+      run-after Comment (a .table .now) (l .i),
+      r-run-end .ensures,
+    )
 
 sub-result : tie.Need-sub-result Inv-loop μ-loop
 sub-result c =

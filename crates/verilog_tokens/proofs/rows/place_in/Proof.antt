@@ -33,7 +33,12 @@ part-same-start c =
     let l = c .before .before .loop in
     let t = c .before .loop-test in
     let r-run-end = c .run-end in
-    omega (arith, run-inside Comment (a .table .now) (l .i) (omega (arith, t .taken)), run-after Comment (a .table .now) (l .i), r-run-end .ensures)
+    omega (
+      arith,
+      run-inside Comment (a .table .now) (l .i) (omega (arith, t .taken)),
+      run-after Comment (a .table .now) (l .i),
+      r-run-end .ensures,
+    )
 
 part-same-end : tie.Need-part-same-end Inv-loop μ-loop
 part-same-end c =
@@ -41,7 +46,12 @@ part-same-end c =
     let l = c .before .before .loop in
     let t = c .before .loop-test in
     let r-run-end = c .run-end in
-    omega (arith, run-inside Comment (a .table .now) (l .i) (omega (arith, t .taken)), run-after Comment (a .table .now) (l .i), r-run-end .ensures)
+    omega (
+      arith,
+      run-inside Comment (a .table .now) (l .i) (omega (arith, t .taken)),
+      run-after Comment (a .table .now) (l .i),
+      r-run-end .ensures,
+    )
 
 returns : tie.Need-returns Inv-loop μ-loop
 returns c =
