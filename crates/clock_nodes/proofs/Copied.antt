@@ -1,28 +1,26 @@
 -- A node's four words, copied: with the right values in the cells of its operands it is worth what nextstate says. Assumes nothing.
-use mathlib.Core.Path.{_≡_, refl, sym, ap, _∙_}
-use mathlib.Core.Bool.{Bool, true, false, _&&_}
+use mathlib.Core.Path.{_≡_, refl, _∙_}
+use mathlib.Core.Bool.{true, _&&_}
 use mathlib.Core.List.{List}
-use Prim.Native.Nat.{ℕ, zero, suc, _+_, _-_, _*_, _%_, _≤_, _<_}
+use Prim.Native.Nat.{ℕ, _-_, _%_, _≤_, _<_}
 use native.Mathlib.Nat.{mod-eq-of-lt}
 use native.Mathlib.Decide.{ℕ-discrete, decLt}
 use native.Mathlib.Omega.{arith}
-use borrow.Author.Tests.{lt-ltb, le-ltb, eq-eqb, ne-eqb, le-leb, lt-leb, ltb-true}
+use borrow.Author.Tests.{lt-ltb, le-ltb, ne-eqb, le-leb, lt-leb, ltb-true}
 use lib.Dec.{ltb}
 use lib.ListN.{length, getD}
 use Rattle.values.specs.declared.Value.{Value}
-use Rattle.values.specs.declared.Value.the-variants.{Known, Unknown}
-use Rattle.values.specs.Values.{pick, holds}
-use Rattle.values.specs.Operators.{unary, binary, choice}
+use Rattle.values.specs.declared.Value.the-variants.{Unknown}
 use Rattle.sheet.specs.Expression.{Expr}
 use Rattle.sheet.specs.Module.{Module}
 use Rattle.events.specs.Cycle.{variables}
 use Rattle.events.proofs.Cycle.{absurd-bool}
 use Rattle.plan.specs.Sections.{slotOf}
 use Rattle.plan.specs.Plan.{node}
-use Rattle.plan_nodes.specs.Nodes.{leafOf, worthOf}
+use Rattle.plan_nodes.specs.Nodes.{worthOf}
 use Rattle.plan_nodes.proofs.Nodes.{leaf-constant, leaf-variable, leaf-none, worth-leaf, worth-unary, worth-binary, worth-choice}
 use Rattle.plan_nodes.proofs.Nodes.{worth-branch}
-use Rattle.nextstate.specs.Nodes.{Node, aVariable, aConstant, anUnknown, aUnary, aBinary, aConditional, aBranch, nodeFrom, nodeValue}
+use Rattle.nextstate.specs.Nodes.{Node, anUnknown, aUnary, aBinary, nodeFrom, nodeValue}
 use Rattle.nextstate.specs.CycleRun.{width?, nodeFits}
 use Rattle.clock_nodes.specs.Copying.{cellIn, firstOf, secondOf, thirdOf}
 use Rattle.clock_nodes.proofs.Worth.{arms, arm-left, arm-right, condition, both}

@@ -1,18 +1,17 @@
 -- The copied nodes and the lowest nodes that they need, as they lie when all are copied. Assumes nothing.
-use mathlib.Core.Path.{_≡_, refl, sym, ap, _∙_}
+use mathlib.Core.Path.{_≡_, refl, sym, _∙_}
 use mathlib.Core.Logic.{_≢_}
 use mathlib.Core.List.{List}
 use Prim.Native.Nat.{ℕ, zero, suc, _+_, _-_, _*_, _≤_, _<_}
 use native.Mathlib.Decide.{ℕ-discrete, decLt}
 use native.Mathlib.Omega.{arith}
 use borrow.Author.Tests.{lt-ltb, le-ltb, eq-eqb, ne-eqb}
-use lib.ListN.{length, getD, set, length-set}
+use lib.ListN.{length, getD, length-set}
 use lib.Seq.{getD-set-same, getD-set-other}
 use Rattle.plan.specs.Plan.{Node, node, nodeAt}
-use Rattle.plan_exprs.specs.Flatten.{putNode}
 use Rattle.plan_exprs.proofs.Flatten.{put-length, put-same, put-below, node-kept}
-use Rattle.clock_nodes.specs.Copying.{cellIn, firstOf, secondOf, thirdOf, putWords, copyNode, copyTo, lowIn, least, lower, lowest}
-use Rattle.clock_nodes.specs.Copying.{lowNode, lowsTo}
+use Rattle.clock_nodes.specs.Copying.{firstOf, secondOf, thirdOf, putWords, copyNode, copyTo, lowIn, least, lower, lowest, lowNode}
+use Rattle.clock_nodes.specs.Copying.{lowsTo}
 
 -- ---- the words of node n
 

@@ -4,11 +4,10 @@ use mathlib.Core.Path.{_≡_, refl, sym, ap, _∙_}
 use mathlib.Core.Logic.{_≢_}
 use mathlib.Core.Bool.{Bool, true, false}
 use mathlib.Core.List.{List, []}
-use Prim.Native.Nat.{ℕ, zero, suc, _+_, _-_, _*_, _≤_, _<_}
+use Prim.Native.Nat.{ℕ, zero, suc, _+_, _-_, _≤_, _<_}
 use native.Mathlib.Decide.{ℕ-discrete, decLt}
 use native.Mathlib.Omega.{arith}
 use borrow.Author.Tests.{lt-ltb, le-ltb, eq-eqb, ne-eqb}
-use lib.Dec.{ltb}
 use lib.ListN.{length, getD, set, length-set}
 use lib.Seq.{getD-set-other}
 use Rattle.values.specs.declared.Value.{Value}
@@ -30,7 +29,7 @@ use Rattle.nextstate.specs.Book.{worth}
 use Rattle.nextstate.specs.CycleRun.{widthsFrom, tablesIn}
 use Rattle.clock_nodes.specs.Copying.{cellIn, lowIn, lower}
 use Rattle.clock_nodes.specs.Rows.{entryAt, lowBy, lowTo, higher, highBy, highTo}
-use Rattle.clock_nodes.proofs.Worth.{Ordered, Fit, table, table-widths, ordered-words, narrow-node, small-node}
+use Rattle.clock_nodes.proofs.Worth.{Fit, table, table-widths, ordered-words, narrow-node, small-node}
 use Rattle.clock_nodes.proofs.Copied.{fit-variable, fit-first, fit-second, fit-third, copied-worth}
 use Rattle.clock_nodes.proofs.Lows.{kindAt, firstAt, secondAt, thirdAt, copyOf, Low, lower-self, lower-node, low-self, low-first}
 use Rattle.clock_nodes.proofs.Lows.{low-second, low-third}

@@ -1,9 +1,9 @@
 -- What the nodes of lent tables are worth, where all are in order: a node's operands are earlier, so that its width and its worth follow
 -- from those of the whole table. Assumes nothing.
-use mathlib.Core.Path.{_≡_, refl, sym, ap, _∙_}
+use mathlib.Core.Path.{_≡_, refl, _∙_}
 use mathlib.Core.Bool.{Bool, true, false, _&&_}
 use mathlib.Core.List.{List, [], _∷_, _++_}
-use Prim.Native.Nat.{ℕ, zero, suc, _+_, _-_, _*_, _^_, _≤_, _<_}
+use Prim.Native.Nat.{ℕ, zero, suc, _+_, _*_, _^_, _≤_, _<_}
 use native.Mathlib.Nat.{not-suc-le-zero}
 use native.Mathlib.Omega.{arith}
 use borrow.Author.Tests.{ltb-true, leb-true}
@@ -11,8 +11,8 @@ use lib.Dec.{ltb, leb, eqb}
 use lib.ListN.{length, getD, length-append, List·getD-append}
 use lib.Seq.{getD-at}
 use Rattle.values.specs.declared.Value.{Value}
-use Rattle.values.specs.declared.Value.the-variants.{Known, Unknown}
-use Rattle.values.specs.Values.{pick, holds, fits, _is_then_else_}
+use Rattle.values.specs.declared.Value.the-variants.{Unknown}
+use Rattle.values.specs.Values.{pick, holds, fits}
 use Rattle.values.specs.Operators.{unaryWidth, binaryWidth}
 use Rattle.values.proofs.Values.{fits-known, fits-unknown, pick-fits, below-wider}
 use Rattle.values.proofs.Operators.{choice-fits}

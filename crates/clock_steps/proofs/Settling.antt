@@ -1,23 +1,20 @@
 -- The wires settled on a plane of cells are those that the cycle book settles, where each wire's expression lies flattened in the plan.
 -- Assumes nothing.
-use mathlib.Core.Path.{_≡_, refl, sym, ap, subst, _∙_}
+use mathlib.Core.Path.{_≡_, sym, ap, subst, _∙_}
 use mathlib.Core.List.{List}
 use Prim.Native.Nat.{ℕ, zero, suc, _+_, _-_, _<_, _≤_}
 use native.Mathlib.Decide.{ℕ-discrete}
 use native.Mathlib.Omega.{arith}
 use borrow.Author.Tests.{lt-ltb, eq-eqb, ne-eqb}
-use lib.Dec.{eqb}
-use lib.ListN.{length, getD, set, length-set}
+use lib.ListN.{length, getD, length-set}
 use lib.Seq.{getD-set-same, getD-set-other}
 use Rattle.values.specs.declared.Value.{Value}
-use Rattle.values.specs.Values.{pick}
 use Rattle.sheet.specs.Expression.{Expr}
 use Rattle.sheet.specs.Module.{Module}
 use Rattle.evaluation.specs.Evaluation.{eval}
 use Rattle.events.specs.Cycle.{variables, wireExpr, wireVariable}
 use Rattle.cells.specs.Cells.{valueOf, cellAt}
 use Rattle.cells.proofs.Cells.{at-same}
-use Rattle.plan.specs.Sections.{slotOf}
 use Rattle.plan.specs.Plan.{Node, Plan}
 use Rattle.plan.proofs.Sections.{slot-same}
 use Rattle.plan_nodes.specs.Nodes.{workFrom, work}

@@ -2,23 +2,23 @@
 use mathlib.Core.Path.{_≡_, refl, sym, ap, _∙_}
 use mathlib.Core.Bool.{Bool, true, false}
 use mathlib.Core.List.{List, [], _∷_, _++_, map, map-map, map-append, append-nil}
-use Prim.Native.Nat.{ℕ, zero, suc, _+_, _-_, _<_, _≤_}
+use Prim.Native.Nat.{ℕ, suc, _+_, _<_, _≤_}
 use native.Mathlib.Nat.{zero-add}
 use native.Mathlib.Numerals.{add-one}
 use native.Mathlib.Omega.{arith}
 use borrow.Author.Tests.{lt-ltb, le-ltb}
-use lib.Dec.{ltb, eqb}
+use lib.Dec.{eqb}
 use lib.ListN.{length, take, drop, set, length-set, length-map, length-append}
 use lib.Seq.{sets, sets-eq, take-set-le, take-suc-set}
 use Rattle.values.specs.Values.{pick}
 use Rattle.verilog_tokens.specs.declared.Piece.{Piece}
-use Rattle.verilog_tokens.specs.Tokens.{Token, Name, Lexeme, Located, located, tokens, places}
+use Rattle.verilog_tokens.specs.Tokens.{Name, Located, located, tokens, places}
 use Rattle.verilog_tokens.specs.Table.{kindOf, kinds, nameIn, placeOf, idOf, numberIn, numbers}
 use Rattle.verilog_tokens.specs.Pieces.{piece, pieceAt, unnamed}
 use Rattle.verilog_scan.specs.Scan.{stored, overwritten, starts, overlong, Filled, Scanned, spelledAt, nameAt, namesAt, gapFrom}
 use Rattle.verilog_scan.proofs.Spelling.{numbered, numbered-ids}
-use Rattle.verilog_scan.proofs.Rest.{tokens-few, restAt, lexAt, nextAt, gap-inside, rest-first, rest-past, rest-next, lex-few}
-use Rattle.verilog_scan.proofs.Rest.{lex-piece, next-after, next-inside, Named, lex-named}
+use Rattle.verilog_scan.proofs.Rest.{tokens-few, restAt, lexAt, nextAt, gap-inside, rest-first, rest-past, rest-next, lex-piece}
+use Rattle.verilog_scan.proofs.Rest.{next-after, next-inside, lex-named}
 
 -- ---- a column of the table from a place on, with what stands behind the last token
 

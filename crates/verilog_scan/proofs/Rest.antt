@@ -1,12 +1,11 @@
 -- The tokens from a place on. Each has at least one byte, so that the steps of `fromGap` are never spent. Assumes nothing.
 use mathlib.Core.Path.{_≡_, refl, sym, ap, _∙_}
-use mathlib.Core.Bool.{Bool, true, false, not, _||_, true≢false, false≢true}
-use mathlib.Core.List.{List, [], _∷_, _++_, map}
-use Prim.Native.Nat.{ℕ, zero, suc, _+_, _-_, _<_, _≤_}
-use native.Mathlib.Numerals.{add-one}
+use mathlib.Core.Bool.{Bool, true, false, not, _||_, false≢true}
+use mathlib.Core.List.{List, [], _∷_}
+use Prim.Native.Nat.{ℕ, zero, suc, _+_, _<_, _≤_}
 use native.Mathlib.Omega.{arith}
-use borrow.Author.Tests.{lt-ltb, le-ltb, ltb-true, ltb-false, eqb-true, eqb-false, eq-eqb, ne-eqb}
-use lib.Dec.{ltb, eqb}
+use borrow.Author.Tests.{ne-eqb}
+use lib.Dec.{eqb}
 use lib.ListN.{length, getD, take, drop, length-map, length-drop, drop-of-length-le}
 use lib.Seq.{drop-cons, drop-drop}
 use Rattle.values.specs.Values.{pick}
@@ -15,12 +14,11 @@ use Rattle.verilog_tokens.specs.declared.Class.the-variants.{Space, Word, Decim
 use Rattle.verilog_tokens.specs.Characters.{isLetter, isBelow, isUnderscore, isNamed, inClass, every, numeral, span}
 use Rattle.verilog_tokens.specs.Words.{isKeyword, signs, firstOf}
 use Rattle.verilog_tokens.specs.Tokens.{Token, terminal, name, number, known, unknown, broken, Name, Lexeme, Located, gap, wordToken, word}
-use Rattle.verilog_tokens.specs.Tokens.{numberToken, unsigned, Base, base, none, binary, octal, decimal, hexadecimal, Radix, baseOf}
-use Rattle.verilog_tokens.specs.Tokens.{radixOf, decimalDigits, digitsIn, isKnown, isUnknown, valueToken, valueBehind, value, based}
-use Rattle.verilog_tokens.specs.Tokens.{signToken, sign, Opening, opensWord, opensNumber, opensValue, opensSign, opening, tokenBy, goesOn}
-use Rattle.verilog_tokens.specs.Tokens.{andThen, fromToken, fromGap, located, tokens}
+use Rattle.verilog_tokens.specs.Tokens.{numberToken, unsigned, Base, base, none, baseOf, radixOf, digitsIn, isKnown, isUnknown, valueToken}
+use Rattle.verilog_tokens.specs.Tokens.{valueBehind, value, based, signToken, sign, Opening, opensWord, opensNumber, opensValue, opensSign}
+use Rattle.verilog_tokens.specs.Tokens.{opening, tokenBy, goesOn, andThen, fromToken, fromGap, located, tokens}
 use Rattle.verilog_tokens.specs.Table.{terminals, numberFrom, kindOf, nameIn, placeOf, numberIn}
-use Rattle.verilog_tokens.specs.Pieces.{piece, pieceOf, pieceIn, pieceFrom, pieceAt, unnamed, digitsBy}
+use Rattle.verilog_tokens.specs.Pieces.{piece, pieceOf, pieceIn, pieceFrom, pieceAt, unnamed}
 use Rattle.verilog_tokens.proofs.Runs.{span-few}
 use Rattle.verilog_tokens.proofs.Comments.{gap-few}
 use Rattle.verilog_tokens.proofs.Bases.{digits-few, digits-by}

@@ -2,12 +2,12 @@
 use mathlib.Core.Path.{_≡_, refl, sym, ap, _∙_}
 use mathlib.Core.Bool.{Bool, true, false}
 use mathlib.Core.List.{List, [], _∷_}
-use Prim.Native.Nat.{ℕ, zero, suc, _+_, _-_, _%_, _<_, _≤_}
+use Prim.Native.Nat.{ℕ, suc, _+_, _-_, _%_, _<_, _≤_}
 use native.Mathlib.Numerals.{add-one}
 use native.Mathlib.Omega.{arith}
 use borrow.Author.Tests.{eq-eqb, ne-eqb}
-use lib.Dec.{ltb, eqb}
-use lib.ListN.{length, getD, take, drop, length-drop, drop-of-length-le}
+use lib.Dec.{eqb}
+use lib.ListN.{length, getD, take, drop, drop-of-length-le}
 use lib.Seq.{drop-cons, drop-drop}
 use Rattle.values.specs.Values.{pick}
 use Rattle.verilog_tokens.specs.declared.Class.the-variants.{Space, Decimal, Binary, Octal, Hexadecimal, Underscore}
@@ -15,7 +15,7 @@ use Rattle.verilog_tokens.specs.Characters.{isX, isUnderscore, span, run
 use Rattle.verilog_tokens.specs.Tokens.{Base, base, none, binary, octal, decimal, hexadecimal, Radix, baseOf, radixOf, decimalDigits}
 use Rattle.verilog_tokens.specs.Tokens.{digitsIn, isKnown, isUnknown, valueToken, valueBehind, value, based}
 use Rattle.verilog_tokens.specs.Table.{kindOf, numberIn}
-use Rattle.verilog_tokens.specs.Pieces.{piece, pieceOf, pieceIn, unnamed, radixIn, digitsBy}
+use Rattle.verilog_tokens.specs.Pieces.{piece, pieceOf, pieceIn, radixIn, digitsBy}
 use Rattle.verilog_tokens.proofs.Runs.{span-few}
 
 -- ---- the letter of a base

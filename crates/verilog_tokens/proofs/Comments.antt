@@ -5,12 +5,11 @@ use mathlib.Core.List.{List, [], _∷_}
 use Prim.Native.Nat.{ℕ, zero, suc, _+_, _-_, _<_, _≤_}
 use native.Mathlib.Numerals.{add-one}
 use native.Mathlib.Omega.{arith}
-use borrow.Author.Tests.{lt-ltb, le-ltb, eq-eqb, ne-eqb}
+use borrow.Author.Tests.{lt-ltb, le-ltb, ne-eqb}
 use lib.Dec.{ltb, eqb}
 use lib.ListN.{length, getD, drop, length-drop, drop-of-length-le, List·getD-eq-default}
 use lib.Seq.{drop-cons, drop-drop}
 use Rattle.values.specs.Values.{pick}
-use Rattle.verilog_tokens.specs.declared.Class.{Class}
 use Rattle.verilog_tokens.specs.declared.Class.the-variants.{Space, Comment}
 use Rattle.verilog_tokens.specs.Characters.{isNewline, span, runEnd}
 use Rattle.verilog_tokens.specs.Tokens.{either, further, endedBy, lineComment, isSlash, closing, blockComment, comment, blank}

@@ -1,8 +1,8 @@
 -- Samples, computed: the tokens of short texts.
 -- Assumes nothing.
 use mathlib.Core.Path.{_≡_, refl}
-use mathlib.Core.Bool.{Bool, true, false}
-use mathlib.Core.List.{List, [], _∷_, map}
+use mathlib.Core.Bool.{true, false}
+use mathlib.Core.List.{List, [], _∷_}
 use Prim.Native.Nat.{ℕ}
 use Rattle.hextext.specs.Characters.{digitOf}
 use Rattle.writing.specs.Ascii.{ascii}

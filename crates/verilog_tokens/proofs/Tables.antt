@@ -3,12 +3,11 @@ use mathlib.Core.Path.{_≡_, refl, sym, ap, _∙_}
 use mathlib.Core.Bool.{Bool, true, false, _||_}
 use mathlib.Core.List.{List, [], _∷_, _++_}
 use Prim.Native.Nat.{ℕ, zero, suc, _+_, _-_, _<_, _≤_}
-use native.Mathlib.Numerals.{add-one}
 use native.Mathlib.Omega.{arith}
 use borrow.Author.Tests.{lt-ltb, le-ltb, ltb-true, ltb-false}
 use lib.Dec.{ltb, eqb}
-use lib.ListN.{length, getD, take, drop, length-drop, length-take, drop-of-length-le}
-use lib.Seq.{drop-cons, drop-drop, length-take-le}
+use lib.ListN.{length, take, drop, length-drop, length-take, drop-of-length-le}
+use lib.Seq.{drop-drop, length-take-le}
 use Rattle.values.specs.Values.{pick}
 use Rattle.writing.specs.Ascii.{ascii}
 use Rattle.naming.specs.Naming.{sameText}
@@ -18,7 +17,7 @@ use Rattle.verilog_tokens.specs.Words.{keywords, isAmong, isKeyword, sig
 use Rattle.verilog_tokens.specs.Tokens.{wordToken}
 use Rattle.verilog_tokens.specs.Table.{terminals, numberFrom, kindOf}
 use Rattle.verilog_tokens.specs.Rows.{rowsBy, rowsOf, rowIn}
-use Rattle.verilog_tokens.proofs.Runs.{span-few, run-inside}
+use Rattle.verilog_tokens.proofs.Runs.{run-inside}
 
 -- ---- rowsOf: steps to spare change nothing
 

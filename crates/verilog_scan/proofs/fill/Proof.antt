@@ -1,7 +1,6 @@
 -- `verilog_scan::fill` meets its contract. The loop's invariant: what is still to be stored gives the whole. Assumes nothing.
 use borrow.Author.Needs.{needs}
-use Prim.Native.Nat.{_-_, _≤_, _<_}
-use mathlib.Core.Path.{_≡_, sym, _∙_}
+use Prim.Native.Nat.{_-_}
 use native.Mathlib.Omega.{arith}
 use lib.ListN.{length}
 use Rattle.verilog_scan.specs.Scan.{gapFrom}

@@ -1,12 +1,11 @@
 -- `verilog_scan::names::first_spelled` meets its contract. The loop's invariant: the first from `i` on is the first of all.
 -- Assumes nothing.
 use borrow.Author.Needs.{needs}
-use mathlib.Core.Path.{_≡_, sym, ap, _∙_}
+use mathlib.Core.Path.{sym, ap, _∙_}
 use Rattle.naming.specs.Naming.{sameText}
 use Rattle.verilog_scan.specs.Scan.{spelledAt}
 use Prim.Native.Nat.{_-_}
-use native.Mathlib.Omega.{arith}
-use lib.ListN.{length, take}
+use lib.ListN.{take}
 use Rattle.verilog_scan.proofs.Spelling.{Sought, sought-start, first-here, first-next, first-done}
 use Rattle.verilog_scan.proofs.names.first_spelled.Statement.{statement}
 use Rattle.verilog_scan.proofs.names.first_spelled.Tie as tie

@@ -1,6 +1,6 @@
 -- `verilog_tokens::constants::based` meets its contract, row by row. Assumes nothing.
 use borrow.Author.Needs.{needs}
-use mathlib.Core.Path.{sym, _∙_}
+use mathlib.Core.Path.{_∙_}
 use native.Mathlib.Omega.{arith}
 use Prim.Native.Nat.{_+_}
 use lib.ListN.{drop, length-drop}

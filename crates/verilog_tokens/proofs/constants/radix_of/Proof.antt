@@ -1,5 +1,4 @@
 -- `verilog_tokens::constants::radix_of` meets its contract, row by row. Assumes nothing.
-use borrow.Author.Needs.{needs}
 use Rattle.verilog_tokens.specs.Tokens.{baseOf, radixOf}
 use Rattle.verilog_tokens.specs.Pieces.{radixIn}
 use Rattle.verilog_tokens.proofs.Bases.{radix-none}

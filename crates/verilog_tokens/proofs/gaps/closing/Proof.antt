@@ -4,8 +4,7 @@ use borrow.Author.Needs.{needs}
 use mathlib.Core.Path.{sym, _∙_}
 use Prim.Native.Nat.{_-_}
 use native.Mathlib.Omega.{arith}
-use lib.ListN.{length, drop}
-use Rattle.verilog_tokens.specs.Tokens.{closing}
+use lib.ListN.{length}
 use Rattle.verilog_tokens.proofs.Comments.{Closing, closing-starts, closing-stops, closing-none, closed-inside, closes-here}
 use Rattle.verilog_tokens.proofs.Comments.{closes-never, closes-later}
 use Rattle.verilog_tokens.proofs.gaps.closing.Statement.{statement}

@@ -1,6 +1,6 @@
 -- `verilog_tokens::numbers::shifted` meets its contract, row by row. Assumes nothing.
 use borrow.Author.Needs.{needs}
-use mathlib.Core.Path.{_≡_, ap, _∙_}
+use mathlib.Core.Path.{ap, _∙_}
 use Prim.Native.Nat.{_*_, _+_}
 use native.Mathlib.Omega.{arith}
 use Rattle.verilog_tokens.proofs.Digits.{shifted-none, shifted-more, product-few}

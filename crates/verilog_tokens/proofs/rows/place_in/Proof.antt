@@ -1,10 +1,10 @@
 -- `verilog_tokens::rows::place_in` meets its contract. The loop's invariant: the rows from `i` on, behind `n` of them, place the word.
 -- Assumes nothing.
 use borrow.Author.Needs.{needs}
-use Prim.Native.Nat.{_≤_, _<_, _-_}
-use mathlib.Core.Path.{_≡_, refl, sym, _∙_}
+use Prim.Native.Nat.{_-_}
+use mathlib.Core.Path.{sym, _∙_}
 use native.Mathlib.Omega.{arith}
-use lib.ListN.{length, drop}
+use lib.ListN.{length}
 use Rattle.verilog_tokens.specs.declared.Class.the-variants.{Comment}
 use Rattle.verilog_tokens.proofs.Runs.{run-after, run-inside}
 use Rattle.verilog_tokens.proofs.Tables.{Placing, place-start, place-done, place-here, place-next, place-last}
