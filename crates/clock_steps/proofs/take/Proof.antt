@@ -20,13 +20,15 @@ loop-holds : tie.Need-loop-holds Inv-loop μ-loop
 loop-holds c = (omega arith, threads-none (nodeAt (c .args .lent .now)) (c .args .table .now) (c .args .numbers .now) (c .args .count) _)
 
 loop-again : tie.Need-loop-again Inv-loop μ-loop
-loop-again c =
-    let a = c .before .before .before .before .before .before .args in (
-      omega arith,
-      threads-more (nodeAt (a .lent .now)) (a .table .now) (a .numbers .now) (a .count) _ _
-          (c .before .before .before .before .before .loop .inv .1)
-          (c .take-thread .ensures),
-    )
+loop-again c = (
+  omega arith,
+  threads-more (nodeAt (c .before .before .before .before .before .before .args .lent .now))
+      (c .before .before .before .before .before .before .args .table .now)
+      (c .before .before .before .before .before .before .args .numbers .now)
+      (c .before .before .before .before .before .before .args .count) _ _
+      (c .before .before .before .before .before .loop .inv .1)
+      (c .take-thread .ensures),
+)
 
 returns : tie.Need-returns Inv-loop μ-loop
 returns c =
