@@ -1,4 +1,5 @@
 pub mod Standing
+pub mod Words
 pub mod Waking
 pub mod Moving
 pub mod Changing
