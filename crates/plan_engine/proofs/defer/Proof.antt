@@ -18,8 +18,7 @@ returns-2 c =
     let at-load = at-store .before in
     let at-if1 = at-load .before in
     let at-register = at-if1 .before in
-    let h = lt-ltb _ _ (rw (at-register .register-of .ensures) at (at-if1 .if1 .left)) in
-    (
+    let h = lt-ltb _ _ (rw (at-register .register-of .ensures) at (at-if1 .if1 .left)) in (
       rw (at-store .store .ensures, at-load .load .ensures, at-register .register-of .ensures, h),
       rw (c .with .ensures, at-register .register-of .ensures, h),
     )
