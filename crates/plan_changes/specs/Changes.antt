@@ -13,7 +13,7 @@ use Rattle.pseudocode.specs.declared.EdgeTerms.{EdgeTerms}
 use Rattle.pseudocode.specs.Fetching.{termAt}
 use Rattle.masks.specs.Masks.{bits, either, anyMark}
 use Rattle.events.specs.Cycle.{anyBelow}
-use Rattle.cells.specs.Cells.{valueOf, cellAt}
+use Rattle.cells.specs.Cells.{cellOf, valueOf, cellAt}
 use Rattle.plan.specs.declared.Instruction.{Instruction}
 use Rattle.plan.specs.declared.Instruction.the-variants.{Wait, Act}
 use Rattle.plan.specs.Plan.{Plan}
@@ -45,17 +45,21 @@ wakeBelow q ps v a b (suc n) ws = wakeThread q ps v a b n (wakeBelow q ps v a b 
 unfoldable pub wake : Plan → List ℕ → ℕ → Value → Value → List Bool → List Bool
 wake q ps v a b ws = pick (anyMark (q .watchers v)) (wakeBelow q ps v a b (eight (q .threads)) ws) ws
 
--- ---- put: a cell stored into variable v; ps are the places before the change
+-- ---- put: the value of a cell stored into variable v; ps are the places before the change
 
--- "Storing an equal value is no change." There are 80 variables at most.
+-- "Storing an equal value is no change": it is stored all the same, so that 0 lies under an x. There are 80 variables at most.
 unfoldable pub put : Plan → List ℕ → ℕ → ℕ → Changing → Changing
 put q ps v c k =
-    pick (ltb v 80 && not (same old (valueOf c)))
-    (changing (set (k .cells) v c) (either (k .due) (q .readers v)) (wake q ps v old (valueOf c) (k .woken)))
+    pick (ltb v 80)
+    (pick (same old (valueOf c)) (changing stored (k .due) (k .woken))
+    (changing stored (either (k .due) (q .readers v)) (wake q ps v old (valueOf c) (k .woken))))
     k
   where
     old : Value
     old = cellAt (k .cells) v
+
+    stored : List ℕ
+    stored = set (k .cells) v (cellOf (valueOf c))
 
 -- ---- move: the woken threads go on to the next place
 

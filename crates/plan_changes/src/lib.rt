@@ -138,7 +138,8 @@ fn wake(plan: &PlanTable, places: &[u8; 8], woken: u32, v: usize, old: u64, new:
     marks
 }
 
-// Stores a cell into a variable. Where its value changes, its readers are due, and the threads whose waits that fires are woken.
+// Stores the value of a cell into a variable. Where that changes it, its readers are due, and the threads whose waits that fires are
+// woken.
 pub fn put(
     plan: &PlanTable,
     cells: &mut Cells,
@@ -155,10 +156,10 @@ pub fn put(
         return made;
     }
     let old = cells[v];
+    cells[v] = cells::store(cells::load(c));
     if cells::same(old, c) {
         return made;
     }
-    cells[v] = c;
     let due = masks::union(made.due, plan::readers(plan, v));
     let woken = wake(plan, places, made.woken, v, old, c);
     Made { due, woken }

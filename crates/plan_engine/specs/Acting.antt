@@ -23,7 +23,7 @@ goes q i p l = withStand (placed q i p (standOf l)) l
 
 -- A later assignment to variable v: the cell is held for the commit, and replaces one that its register holds already.
 unfoldable pub pendingWith : Plan → ℕ → ℕ → List ℕ → List ℕ
-pendingWith q v c ns = pick (ltb (v - q .inputs) 32) (set ns (v - q .inputs) c) ns
+pendingWith q v c ns = pick (ltb (v - q .inputs) 32) (set ns (v - q .inputs) (cellOf (valueOf c))) ns
 
 unfoldable pub heldWith : Plan → ℕ → List Bool → List Bool
 heldWith q v hs = pick (ltb (v - q .inputs) 32) (set hs (v - q .inputs) true) hs

@@ -94,7 +94,7 @@ fn defer(plan: &PlanTable, pending: &mut [u64; 32], held: u32, v: u8, c: u64) ->
     if 32 <= r {
         return held;
     }
-    pending[r] = c;
+    pending[r] = cells::store(cells::load(c));
     masks::with(held, r)
 }
 

@@ -6,12 +6,10 @@ use mathlib.Core.List.{List}
 use Prim.Native.Nat.{ℕ, _<_}
 use native.Mathlib.Omega.{arith}
 use lib.ListN.{length, getD, set, length-set}
-use lib.Seq.{getD-set-same}
 use lib.Dec.{eqb}
-use borrow.Author.Tests.{lt-ltb, eqb-true, eqb-false}
+use borrow.Author.Tests.{lt-ltb}
 use Rattle.values.specs.declared.Value.{Value}
 use Rattle.values.specs.Values.{pick, same}
-use Rattle.values.proofs.Values.{same→≡}
 use Rattle.values.proofs.Edges.{fires-same}
 use Rattle.sheet.specs.Expression.{Expr}
 use Rattle.sheet.specs.Module.{Module}
@@ -31,14 +29,16 @@ use Rattle.refinement.proofs.Kept.{Kept, kept-withValue}
 use Rattle.refinement.proofs.Ready.{ready-places}
 use Rattle.refinement.proofs.Changing.{touched-put}
 use Rattle.cells.specs.Cells as cell
-use Rattle.cells.specs.Cells.{cellAt}
-use Rattle.cells.proofs.Cells.{at-set-other}
+use Rattle.cells.specs.Cells.{cellOf}
+use Rattle.cells.proofs.Cells.{value-fits}
 use Rattle.plan.specs.declared.Instruction.{Instruction}
 use Rattle.plan.specs.declared.Instruction.the-variants.{Wait, Act}
 use Rattle.plan.specs.Plan.{Plan}
 use Rattle.plan_changes.specs.Scene.{Changing, changing, Scene}
 use Rattle.plan_changes.specs.Changes.{eight, termWakes, wakes, wake, put, opened, move, finish, store}
 use Rattle.plan_changes.proofs.Changes.{eight-most}
+use Rattle.plan_state.specs.Planes.{Planes}
+use Rattle.plan_state.proofs.Planes.{planes-value, planes-set}
 use Rattle.plan_refinement.specs.Refinement.{Holds, Seen, PlanOf}
 use Rattle.plan_refinement.proofs.Waking.{eight-same, wait-put, length-wake, wake-at, watch-woken}
 use Rattle.plan_refinement.proofs.Moving.{standIn, move-stand}
@@ -63,28 +63,16 @@ wakes-same (Act x) v a b h = refl
 
 -- ---- a cell put
 
-holds-same : (cs : List ℕ) (u : State) (v : ℕ) (a : Value) → Shaped u → v < 80 → Holds cs (valueOf u) → valueOf u v ≡ a
-    → Holds cs (valueOf (withValue u v a))
-holds-same cs u v a s l h e x k = by (eqb v x) refl
-  where
-    by : (t : Bool) → eqb v x ≡ t → cellAt cs x ≡ valueOf (withValue u v a) x
-    by true p = rw (← (eqb-true v x p)) (h v l ∙ e ∙ sym (value-withValue-same u v a s l))
-    by false p = h x k ∙ sym (value-withValue-other u v a x (eqb-false v x p))
+-- The values of a state, from its planes.
+pub planes-values : (st : State) {cs : List ℕ} → Planes (st .value) (st .unknown) 80 cs → Holds cs (valueOf st)
+unfolding valueOf
+planes-values st p v h = planes-value p v h
 
-pub at-put : (cs : List ℕ) (v c : ℕ) → v < length cs → cellAt (set cs v c) v ≡ cell.valueOf c
-unfolding cellAt
-at-put cs v c h = ap cell.valueOf (getD-set-same cs v c 0 h)
-
-holds-put : (cs : List ℕ) (u : State) (v c : ℕ) → Shaped u → v < 80 → length cs ≡ 4176 → Holds cs (valueOf u)
-    → Holds (set cs v c) (valueOf (withValue u v (cell.valueOf c)))
-holds-put cs u v c s l n h x k = by (eqb v x) refl
-  where
-    by : (t : Bool) → eqb v x ≡ t → cellAt (set cs v c) x ≡ valueOf (withValue u v (cell.valueOf c)) x
-    by true p =
-        rw (← (eqb-true v x p)) (at-put cs v c (rw n (omega arith)) ∙ sym (value-withValue-same u v (cell.valueOf c) s l))
-    by false p =
-        let d = eqb-false v x p in
-        at-set-other cs v x c (λ e. d (sym e)) ∙ h x k ∙ sym (value-withValue-other u v (cell.valueOf c) x d)
+planes-put : (cs : List ℕ) (u : State) (v c : ℕ) → v < 80 → length cs ≡ 4176 → Planes (u .value) (u .unknown) 80 cs
+    → Planes (withValue u v (cell.valueOf c) .value) (withValue u v (cell.valueOf c) .unknown) 80
+    (set cs v (cellOf (cell.valueOf c)))
+unfolding withValue withPlanes
+planes-put cs u v c h l p = planes-set p v (cell.valueOf c) h (omega arith) (value-fits c)
 
 -- ---- Midway: in the midst of a change
 
@@ -93,7 +81,7 @@ holds-put cs u v c s l n h x k = by (eqb v x) refl
 pub record Midway (m : Module Expr) (f : ℕ → Value) (u : State) (k : Changing) : Type 0 where
   pub kept : Kept m u
   pub long : length (k .cells) ≡ 4176
-  pub values : Holds (k .cells) (valueOf u)
+  pub planes : Planes (u .value) (u .unknown) 80 (k .cells)
   pub length-due : length (k .due) ≡ 32
   pub due : (j : ℕ) → getD (k .due) j false ≡ (isDue u j || touched m (wireExpr m j) f (valueOf u))
   pub length-woken : length (k .woken) ≡ 32
@@ -101,13 +89,13 @@ pub record Midway (m : Module Expr) (f : ℕ → Value) (u : State) (k : Changin
 
 -- It begins with a state that holds the values before.
 pub midway-start : (m : Module Expr) (f : ℕ → Value) (u : State) (cs : List ℕ) → Kept m u → ((v : ℕ) → valueOf u v ≡ f v)
-    → length cs ≡ 4176 → Holds cs (valueOf u) → Midway m f u (opened cs (u .due))
+    → length cs ≡ 4176 → Planes (u .value) (u .unknown) 80 cs → Midway m f u (opened cs (u .due))
 unfolding isDue
 midway-start m f u cs k e l h =
     record {
       kept = k;
       long = l;
-      values = h;
+      planes = h;
       length-due = k .shaped .due;
       due = λ j. rw (touched-none m (wireExpr m j) f (valueOf u) (λ v n r. e v)) (sym (or-false (getD (u .due) j false)));
       length-woken = length-bits 0;
@@ -135,12 +123,21 @@ module _ {m : Module Expr} {q : Plan} (w : PlanOf m q) (f : ℕ → Value) where
     byte : v < 80
     byte = variable-byte v h
 
-    put-changed : Changing
-    put-changed = changing (set (k .cells) v c) (either (k .due) (q .readers v)) (wake q (u .places) v (f v) a (k .woken))
+    abbrev stored : List ℕ
+    stored = set (k .cells) v (cellOf a)
 
-    put-is : put q (u .places) v c k ≡ pick (not (same (f v) a)) put-changed k
+    put-changed : Changing
+    put-changed = changing stored (either (k .due) (q .readers v)) (wake q (u .places) v (f v) a (k .woken))
+
+    put-is : put q (u .places) v c k ≡ pick (same (f v) a) (changing stored (k .due) (k .woken)) put-changed
     unfolding put put-changed
-    put-is = rw (lt-ltb v 80 byte, g .values v byte, e)
+    put-is = rw (lt-ltb v 80 byte, planes-values u (g .planes) v byte, e)
+
+    planes-stored : Planes (n .value) (n .unknown) 80 stored
+    planes-stored = planes-put (k .cells) u v c byte (g .long) (g .planes)
+
+    long-stored : length stored ≡ 4176
+    long-stored = length-set (k .cells) v (cellOf a) ∙ g .long
 
     due-put : (j : ℕ) (t : Bool) → same (f v) a ≡ t
         → (isDue n j || touched m (wireExpr m j) f (valueOf n))
@@ -158,12 +155,12 @@ module _ {m : Module Expr} {q : Plan} (w : PlanOf m q) (f : ℕ → Value) where
         (λ x d. value-withValue-other u v a x d)
         (w .instruction i (placeOf u i) l (g .kept .places i l)))
 
-    midway-same : same (f v) a ≡ true → Midway m f n k
+    midway-same : same (f v) a ≡ true → Midway m f n (changing stored (k .due) (k .woken))
     midway-same p =
         record {
           kept = kept-withValue (g .kept) v a;
-          long = g .long;
-          values = holds-same (k .cells) u v a (g .kept .shaped) byte (g .values) (e ∙ same→≡ (f v) a p);
+          long = long-stored;
+          planes = planes-stored;
           length-due = g .length-due;
           due = λ j. g .due j ∙ ap (λ b. isDue u j || b) (quiet j) ∙ sym (due-put j true p);
           length-woken = g .length-woken;
@@ -186,8 +183,8 @@ module _ {m : Module Expr} {q : Plan} (w : PlanOf m q) (f : ℕ → Value) where
     midway-changed p =
         record {
           kept = kept-withValue (g .kept) v a;
-          long = length-set (k .cells) v c ∙ g .long;
-          values = holds-put (k .cells) u v c (g .kept .shaped) byte (g .long) (g .values);
+          long = long-stored;
+          planes = planes-stored;
           length-due = length-either (k .due) (q .readers v) (g .length-due ∙ sym (w .length-readers v)) ∙ g .length-due;
           due =
               λ j. getD-either (k .due) (q .readers v) j
@@ -216,7 +213,7 @@ module _ {m : Module Expr} {q : Plan} (w : PlanOf m q) (f : ℕ → Value) where
     pub midway-put : Midway m f n (put q (u .places) v c k)
     midway-put = rw put-is (by (same (f v) a) refl)
       where
-        by : (t : Bool) → same (f v) a ≡ t → Midway m f n (pick (not t) put-changed k)
+        by : (t : Bool) → same (f v) a ≡ t → Midway m f n (pick t (changing stored (k .due) (k .woken)) put-changed)
         by true p = midway-same p
         by false p = midway-changed p
 
@@ -227,7 +224,12 @@ module _ {m : Module Expr} {q : Plan} (w : PlanOf m q) (f : ℕ → Value) where
   midway-finish u k g =
       record {
         long = g .long;
-        values = λ v l. g .values v l ∙ sym (kept-react m f (λ t. valueOf t v) (λ t i p. refl) (λ t j. refl) u);
+        planes =
+            rw (
+              kept-react m f (λ t. t .value) (λ t i p. refl) (λ t j. refl) u,
+              kept-react m f (λ t. t .unknown) (λ t i p. refl) (λ t j. refl) u,
+            )
+            (g .planes);
         places = ap (λ s. s .places) moved ∙ sym placed;
         due =
             flags-same (k .due) (react m f u .due) (g .length-due ∙ sym (shaped-react m f u (g .kept .shaped) .due))
@@ -254,4 +256,4 @@ module _ {m : Module Expr} {q : Plan} (w : PlanOf m q) where
       rw (z .places, z .due, z .ready ∙ ready-places m st (withValue st v (cell.valueOf c)) refl)
       (midway-finish w (valueOf st) (withValue st v (cell.valueOf c)) (put q (st .places) v c (opened (s .cells) (st .due)))
       (midway-put w (valueOf st) st v c (opened (s .cells) (st .due))
-      (midway-start m (valueOf st) st (s .cells) k (λ x. refl) (z .long) (z .values)) h refl))
+      (midway-start m (valueOf st) st (s .cells) k (λ x. refl) (z .long) (z .planes)) h refl))

@@ -227,12 +227,12 @@ shows-withCounters m st t n l z =
       scene =
           record {
             long = z .scene .long;
-            values = z .scene .values;
+            planes = z .scene .planes;
             places = z .scene .places;
             due = z .scene .due;
             ready = z .scene .ready ∙ ready-places m st (withCounters st t n) refl;
           };
-      slots = record { long = z .slots .long; pending = z .slots .pending; held = z .slots .held };
+      slots = record { long = z .slots .long; planes = z .slots .planes; held = z .slots .held };
     }
 
 -- ---- a refused choice, and one that finds room

@@ -10,7 +10,6 @@ use lib.Dec.{ltb}
 use borrow.Author.Tests.{ltb-true, ltb-false}
 use Rattle.values.specs.declared.Value.{Value}
 use Rattle.values.specs.Values.{pick, fits}
-use Rattle.values.specs.Planes.{valueAt}
 use Rattle.sheet.specs.Expression.{Expr}
 use Rattle.sheet.specs.Module.{Module}
 use Rattle.masks.specs.Masks.{bits}
@@ -32,6 +31,7 @@ use Rattle.plan_changes.specs.Scene.{Changing}
 use Rattle.plan_changes.specs.Changes.{put, opened, finish}
 use Rattle.plan_engine.specs.Live.{Live}
 use Rattle.plan_engine.specs.Acting.{putRegister, putPending, committed, commit, putInputs, feed}
+use Rattle.plan_state.proofs.Planes.{planes-value}
 use Rattle.plan_refinement.specs.Refinement.{Seen, Slots, Shows, PlanOf}
 use Rattle.plan_refinement.proofs.Changing.{Midway, midway-start, midway-put, midway-finish}
 use Rattle.plan_refinement.proofs.Steps.{SameSlots, slots-same, slots-react}
@@ -45,7 +45,7 @@ midway-slots m f u r l g =
     record {
       kept = kept-withoutPending (g .kept) r l;
       long = g .long;
-      values = g .values;
+      planes = g .planes;
       length-due = g .length-due;
       due = g .due;
       length-woken = g .length-woken;
@@ -91,7 +91,7 @@ module _ {m : Module Expr} {q : Plan} (w : PlanOf m q) (st : State) (k : Kept m 
   pending-at : (n : ℕ) → n < 32
       → pendingOf st n ≡ pick (getD (st .held) n false) (some (cell.valueOf (getD (l .pending) n 0))) none
   unfolding pendingOf cellAt
-  pending-at n h = ap (λ a. pick (getD (st .held) n false) (some a) none) (sym (z .slots .pending n h))
+  pending-at n h = ap (λ a. pick (getD (st .held) n false) (some a) none) (sym (planes-value (z .slots .planes) n h))
 
   pending-next : (n : ℕ) → n < m .scope .registers → Midway m (valueOf st) (stored n) (pending-change n)
       → Midway m (valueOf st) (stored (suc n)) (pending-change (suc n))
@@ -106,7 +106,7 @@ module _ {m : Module Expr} {q : Plan} (w : PlanOf m q) (st : State) (k : Kept m 
 
   pending-midway : (n : ℕ) → n ≤ m .scope .registers → Midway m (valueOf st) (stored n) (pending-change n)
   unfolding storePending putPending
-  pending-midway zero b = midway-start m (valueOf st) st (l .cells) k (λ v. refl) (z .scene .long) (z .scene .values)
+  pending-midway zero b = midway-start m (valueOf st) st (l .cells) k (λ v. refl) (z .scene .long) (z .scene .planes)
   pending-midway (suc n) b = pending-next n b (pending-midway n (omega arith))
 
   abbrev all : State
@@ -137,11 +137,12 @@ module _ {m : Module Expr} {q : Plan} (w : PlanOf m q) (st : State) (k : Kept m 
       slots-same (react m (valueOf st) all) all (l .pending) (bits 0) (slots-react m (valueOf st) all)
       (record {
         long = z .slots .long;
-        pending =
-            λ r h. z .slots .pending r h
-            ∙ sym
-            (λ i. valueAt (kept-storePending m (λ t. t .pending) (λ t v a. refl) (λ t r. refl) (m .scope .registers) st i)
-            (kept-storePending m (λ t. t .unsure) (λ t v a. refl) (λ t r. refl) (m .scope .registers) st i) r);
+        planes =
+            rw (
+              kept-storePending m (λ t. t .pending) (λ t v a. refl) (λ t r. refl) (m .scope .registers) st,
+              kept-storePending m (λ t. t .unsure) (λ t v a. refl) (λ t r. refl) (m .scope .registers) st,
+            )
+            (z .slots .planes);
         held = none-held;
       })
 
@@ -185,7 +186,7 @@ module _ {m : Module Expr} {q : Plan} (w : PlanOf m q) (st : State) (k : Kept m 
 
     inputs-midway : (n : ℕ) → n ≤ m .scope .inputs → Midway m (valueOf st) (fed n) (input-change n)
     unfolding storeInputs putInputs
-    inputs-midway zero b = midway-start m (valueOf st) st (l .cells) k (λ v. refl) (z .scene .long) (z .scene .values)
+    inputs-midway zero b = midway-start m (valueOf st) st (l .cells) k (λ v. refl) (z .scene .long) (z .scene .planes)
     inputs-midway (suc n) b =
         input-put (fed n) (input-change n) n (st .places) (sym (fed-places n)) b
         (value-storeInputs-above a n st n (omega arith)) (inputs-midway n (omega arith))

@@ -10,7 +10,6 @@ use Rattle.sheet.specs.Expression.{Expr}
 use Rattle.evaluation.specs.Evaluation.{eval}
 use Rattle.cells.specs.Cells as cell
 use Rattle.cells.specs.Cells.{cellAt}
-use Rattle.cells.proofs.Cells.{at-same}
 use Rattle.plan.specs.declared.Expression.{Expression}
 use Rattle.plan.specs.Plan.{Node, Plan}
 use Rattle.plan.proofs.Sections.{slot-same}
@@ -51,6 +50,6 @@ module _ (q : Plan) (base : ℕ) (e : Expr) (x : Expression) (k : ℕ) (flat : F
       let w = worked-from cs in
       record {
         value = worth-at f cs d;
-        kept = λ v u. at-same (evaluate q x cs) cs v (ap (λ (ds : List ℕ). getD ds v 0) w ∙ d .kept v (omega arith));
+        kept = λ v u. ap (λ (ds : List ℕ). getD ds v 0) w ∙ d .kept v (omega arith);
         long = ap length w ∙ d .long ∙ l;
       }

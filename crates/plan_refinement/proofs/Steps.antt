@@ -1,18 +1,14 @@
 -- The steps on a plan are the steps of the simulation cycle: one instruction, one due wire, the commit, the inputs of an instant.
 -- Assumes nothing.
 use mathlib.Core.Path.{_≡_, refl, sym, ap, _∙_}
-use mathlib.Core.Logic.{_≢_}
 use mathlib.Core.Bool.{Bool, true, false}
 use mathlib.Core.List.{List}
 use Prim.Native.Nat.{ℕ, _+_, _-_, _<_}
 use native.Mathlib.Omega.{arith}
 use lib.ListN.{length, set, length-set}
-use lib.Dec.{eqb}
-use borrow.Author.Tests.{lt-ltb, eqb-true, eqb-false}
+use borrow.Author.Tests.{lt-ltb}
 use Rattle.values.specs.declared.Value.{Value}
 use Rattle.values.specs.Values.{pick, holds}
-use Rattle.values.specs.Planes.{valueAt, numberOf, isUnknown}
-use Rattle.values.proofs.Planes.{valueAt-set-same, valueAt-set-other}
 use Rattle.sheet.specs.Expression.{Expr}
 use Rattle.sheet.specs.Module.{Module}
 use Rattle.evaluation.specs.Evaluation.{eval}
@@ -28,8 +24,8 @@ use Rattle.events.proofs.Cycle.{kept-react, shaped-react}
 use Rattle.refinement.proofs.Kept.{Kept, kept-unmarked, sound-at}
 use Rattle.refinement.proofs.Ready.{ready-places}
 use Rattle.cells.specs.Cells as cell
-use Rattle.cells.specs.Cells.{cellAt}
-use Rattle.cells.proofs.Cells.{at-set-other}
+use Rattle.cells.specs.Cells.{cellOf}
+use Rattle.cells.proofs.Cells.{value-fits}
 use Rattle.plan.specs.declared.Expression.{Expression}
 use Rattle.plan.specs.declared.Action.{Action}
 use Rattle.plan.specs.declared.Instruction.the-variants.{Act}
@@ -38,10 +34,11 @@ use Rattle.plan_changes.specs.Scene.{stand, Scene, scene}
 use Rattle.plan_changes.specs.Changes.{placed, store}
 use Rattle.plan_engine.specs.Live.{Live, alive, sceneOf, withScene, withCells, evaluate, worth}
 use Rattle.plan_engine.specs.Acting.{goes, pendingWith, heldWith, defer, leg, act, settle}
+use Rattle.plan_state.proofs.Planes.{planes-kept, planes-set}
 use Rattle.plan_refinement.specs.Refinement.{Seen, Slots, Shows, Stands, PlanOf}
 use Rattle.plan_refinement.specs.Refinement.{Fetched, a-set, a-later, a-go, an-ifnot}
 use Rattle.plan_refinement.proofs.Moving.{standIn, after-at, placed-stand}
-use Rattle.plan_refinement.proofs.Changing.{at-put, store-seen}
+use Rattle.plan_refinement.proofs.Changing.{planes-values, store-seen}
 
 -- ---- slots: the pending cells
 
@@ -55,7 +52,7 @@ pub slots-same : (s t : State) (ns : List ℕ) (hs : List Bool) → SameSlots s 
 slots-same s t ns hs e z =
     record {
       long = z .long;
-      pending = λ r h. z .pending r h ∙ sym (λ i. valueAt (e .pending i) (e .unsure i) r);
+      planes = rw (e .pending, e .unsure) (z .planes);
       held = z .held ∙ sym (e .held);
     }
 
@@ -77,30 +74,15 @@ slots-withDue : (st : State) (k : ℕ) (b : Bool) → SameSlots (withDue st k b)
 unfolding withDue withMarks
 slots-withDue st k b = record { held = refl; pending = refl; unsure = refl }
 
-slots-withPending : (st : State) (ns : List ℕ) (hs : List Bool) (r c : ℕ) → Shaped st → r < 32 → Slots st ns hs
-    → Slots (withPending st r (cell.valueOf c)) (set ns r c) (set hs r true)
+slots-withPending : (st : State) (ns : List ℕ) (hs : List Bool) (r c : ℕ) → r < 32 → Slots st ns hs
+    → Slots (withPending st r (cell.valueOf c)) (set ns r (cellOf (cell.valueOf c))) (set hs r true)
 unfolding withPending withSlots
-slots-withPending st ns hs r c s h z =
+slots-withPending st ns hs r c h z =
     record {
-      long = length-set ns r c ∙ z .long;
-      pending = λ x l. by x l (eqb r x) refl;
+      long = length-set ns r (cellOf (cell.valueOf c)) ∙ z .long;
+      planes = planes-set (z .planes) r (cell.valueOf c) h (omega (arith, z .long)) (value-fits c);
       held = ap (λ bs. set bs r true) (z .held);
     }
-  where
-    a : Value
-    a = cell.valueOf c
-
-    by : (x : ℕ) → x < 32 → (t : Bool) → eqb r x ≡ t
-        → cellAt (set ns r c) x ≡ valueAt (set (st .pending) r (numberOf a)) (set (st .unsure) r (isUnknown a)) x
-    by x l true p =
-        rw (← (eqb-true r x p))
-        (at-put ns r c (rw (z .long) h)
-        ∙ sym (valueAt-set-same (st .pending) (st .unsure) r a (rw (s .pending) h) (rw (s .unsure) h)))
-    by x l false p =
-        let d : x ≢ r = λ e. eqb-false r x p (sym e) in
-        at-set-other ns r x c d
-        ∙ z .pending x l
-        ∙ sym (valueAt-set-other (st .pending) (st .unsure) x r (numberOf a) (isUnknown a) d)
 
 -- ---- scenes of states that differ in what a scene does not look at
 
@@ -109,7 +91,7 @@ unfolding withPending withSlots valueOf
 seen-withPending m st r a s z =
     record {
       long = z .long;
-      values = z .values;
+      planes = z .planes;
       places = z .places;
       due = z .due;
       ready = z .ready ∙ ready-places m st (withPending st r a) refl;
@@ -121,7 +103,7 @@ unfolding withDue withMarks valueOf
 seen-unmarked m st j cs ps ds rs z =
     record {
       long = z .long;
-      values = z .values;
+      planes = z .planes;
       places = z .places;
       due = ap (λ bs. set bs j false) (z .due);
       ready = z .ready ∙ ready-places m st (withDue st j false) refl;
@@ -132,10 +114,10 @@ seen-unmarked m st j cs ps ds rs z =
 module _ {m : Module Expr} {q : Plan} {st : State} {e : Expr} {x : Expression} (h : Stands q e x) where
   seen-evaluated : (s : Scene) → Seen m st s → Seen m st (scene (evaluate q x (s .cells)) (s .places) (s .due) (s .ready))
   seen-evaluated s z =
-      let d = h (s .cells) (valueOf st) (z .long) (z .values) in
+      let d = h (s .cells) (valueOf st) (z .long) (planes-values st (z .planes)) in
       record {
         long = d .long;
-        values = λ v l. d .kept v l ∙ z .values v l;
+        planes = planes-kept (z .planes) (evaluate q x (s .cells)) (d .kept);
         places = z .places;
         due = z .due;
         ready = z .ready;
@@ -145,7 +127,7 @@ module _ {m : Module Expr} {q : Plan} {st : State} {e : Expr} {x : Expression} (
   shows-evaluated l z = record { scene = seen-evaluated (sceneOf l) (z .scene); slots = z .slots }
 
   worth-seen : (s : Scene) → Seen m st s → cell.valueOf (worth q x (s .cells)) ≡ eval (valueOf st) e
-  worth-seen s z = h (s .cells) (valueOf st) (z .long) (z .values) .value
+  worth-seen s z = h (s .cells) (valueOf st) (z .long) (planes-values st (z .planes)) .value
 
 module _ {m : Module Expr} {q : Plan} (w : PlanOf m q) where
   -- ---- goes: a thread put at a place of its code
@@ -158,12 +140,12 @@ module _ {m : Module Expr} {q : Plan} (w : PlanOf m q) where
         scene =
             record {
               long = z .scene .long;
-              values = z .scene .values;
+              planes = z .scene .planes;
               places = ap (λ s. s .places) stood;
               due = z .scene .due;
               ready = ap (λ s. s .ready) stood;
             };
-        slots = record { long = z .slots .long; pending = z .slots .pending; held = z .slots .held };
+        slots = record { long = z .slots .long; planes = z .slots .planes; held = z .slots .held };
       }
     where
       stood : placed q i p (stand (l .places) (l .ready)) ≡ standIn m (withPlace st i p)
@@ -200,7 +182,7 @@ module _ {m : Module Expr} {q : Plan} (w : PlanOf m q) where
       rw (w .inputs, lt-ltb (t - m .scope .inputs) 32 h)
       (record {
         scene = seen-withPending m st (t - m .scope .inputs) (cell.valueOf c) (sceneOf l) (z .scene);
-        slots = slots-withPending st (l .pending) (l .held) (t - m .scope .inputs) c k h (z .slots);
+        slots = slots-withPending st (l .pending) (l .held) (t - m .scope .inputs) c h (z .slots);
       })
 
   module _ (i p : ℕ) (h : i < length (m .threads)) (st : State) (k : Kept m st) (l : Live) (z : Shows m st l) where

@@ -6,7 +6,6 @@ use mathlib.Core.Bool.{Bool, true, false}
 use mathlib.Core.List.{List}
 use lib.ListN.{length, getD}
 use Rattle.values.specs.declared.Value.{Value}
-use Rattle.values.specs.Planes.{valueAt}
 use Rattle.sheet.specs.declared.EdgeTerm.{EdgeTerm}
 use Rattle.sheet.specs.Expression.{Expr}
 use Rattle.sheet.specs.Module.{Module}
@@ -14,7 +13,6 @@ use Rattle.evaluation.specs.Evaluation.{eval, reads}
 use Rattle.pseudocode.specs.Translation.{Instr, wait!, set!, later!, go, ifnot}
 use Rattle.pseudocode.specs.Instruction.{noTerm, termsOf}
 use Rattle.state.specs.declared.State.{State}
-use Rattle.state.specs.State.{valueOf}
 use Rattle.soundness.specs.Soundness.{Sound}
 use Rattle.events.specs.Cycle.{codeOf, instrAt, isWait, wireExpr}
 use Rattle.events.specs.declared.Chosen.{Chosen}
@@ -33,8 +31,9 @@ use Rattle.plan_changes.specs.Scene.{Scene}
 use Rattle.plan_engine.specs.Live.{Live, sceneOf, evaluate, worth}
 use Rattle.plan_engine.specs.Taking.{Taken}
 use Rattle.plan_engine.specs.Running.{Run}
+use Rattle.plan_state.specs.Planes.{Planes}
 
--- ---- Seen, Shows: how a state lies in cells, places and marks. The cells past the 80 variables' are scratch.
+-- ---- Seen, Shows: how a state lies in cells, places and marks, also what lies under an x. The cells past the 80 variables' are scratch.
 
 -- The cells have these values.
 abbrev pub Holds : List ℕ → (ℕ → Value) → Type 0
@@ -42,14 +41,14 @@ Holds cs f = (v : ℕ) → v < 80 → cellAt cs v ≡ f v
 
 pub record Seen (m : Module Expr) (st : State) (s : Scene) : Type 0 where
   pub long : length (s .cells) ≡ 4176
-  pub values : Holds (s .cells) (valueOf st)
+  pub planes : Planes (st .value) (st .unknown) 80 (s .cells)
   pub places : s .places ≡ st .places
   pub due : s .due ≡ st .due
   pub ready : s .ready ≡ readyIn m st
 
 pub record Slots (st : State) (ns : List ℕ) (hs : List Bool) : Type 0 where
   pub long : length ns ≡ 32
-  pub pending : (r : ℕ) → r < 32 → cellAt ns r ≡ valueAt (st .pending) (st .unsure) r
+  pub planes : Planes (st .pending) (st .unsure) 32 ns
   pub held : hs ≡ st .held
 
 pub record Shows (m : Module Expr) (st : State) (l : Live) : Type 0 where
@@ -81,7 +80,7 @@ Room room st = room + st .count ≡ 4294967295
 -- What working an expression out leaves: its value in its root's cell, and the variables as they were.
 pub record Worked (q : Plan) (e : Expr) (x : Expression) (cs : List ℕ) (f : ℕ → Value) : Type 0 where
   pub value : cell.valueOf (worth q x cs) ≡ eval f e
-  pub kept : (v : ℕ) → v < 80 → cellAt (evaluate q x cs) v ≡ cellAt cs v
+  pub kept : (v : ℕ) → v < 80 → getD (evaluate q x cs) v 0 ≡ getD cs v 0
   pub long : length (evaluate q x cs) ≡ 4176
 
 -- The expression e stands in the plan as x: it is worked out to its value, whatever the variables hold.

@@ -14,18 +14,30 @@ returns c = rw (le-ltb _ _ (c .if1 .taken))
 returns-2 : tie.Need-returns-2
 unfolding put cellAt
 returns-2 c =
-    let at-if1 = c .before .before .before in
-    rw (lt-ltb _ _ (at-if1 .if1 .left), sym (c .before .same .ensures) ∙ c .if2 .taken)
+    let at-same = c .before in
+    let at-store = at-same .before in
+    let at-load = at-store .before in
+    let at-if1 = at-load .before .before in
+    rw (
+      lt-ltb _ _ (at-if1 .if1 .left),
+      sym (at-same .same .ensures) ∙ c .if2 .taken,
+      at-store .store .ensures,
+      at-load .load .ensures,
+    )
 
 returns-3 : tie.Need-returns-3
 unfolding put cellAt
 returns-3 c =
     let at-if2 = c .before .before .before in
     let at-same = at-if2 .before in
-    let at-if1 = at-same .before .before in
+    let at-store = at-same .before in
+    let at-load = at-store .before in
+    let at-if1 = at-load .before .before in
     rw (
       lt-ltb _ _ (at-if1 .if1 .left),
       sym (at-same .same .ensures) ∙ at-if2 .if2 .left,
+      at-store .store .ensures,
+      at-load .load .ensures,
       c .before .union .ensures,
       c .before .before .readers .ensures,
       c .wake .ensures,
@@ -39,9 +51,11 @@ put-spec =
     (λ c. search needs)
     (λ c. search needs)
     (λ c κs. search needs)
+    (λ c κs. search needs)
+    (λ c. search needs)
+    (λ c. search needs)
+    (λ c κs. search needs)
     returns-2
-    (λ c. search needs)
-    (λ c. search needs)
     (λ c κs. search needs)
     (λ c κs. search needs)
     (λ c κs. search needs)

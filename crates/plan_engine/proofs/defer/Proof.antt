@@ -14,8 +14,14 @@ returns c =
 returns-2 : tie.Need-returns-2
 unfolding pendingWith heldWith
 returns-2 c =
-    let h = lt-ltb _ _ (rw (c .before .before .register-of .ensures) at (c .before .if1 .left)) in
-    (rw (c .before .before .register-of .ensures, h), rw (c .with .ensures, c .before .before .register-of .ensures, h))
+    let at-store = c .before in
+    let at-load = at-store .before in
+    let at-if1 = at-load .before in
+    let at-register = at-if1 .before in
+    let h = lt-ltb _ _ (rw (at-register .register-of .ensures) at (at-if1 .if1 .left)) in (
+      rw (at-store .store .ensures, at-load .load .ensures, at-register .register-of .ensures, h),
+      rw (c .with .ensures, at-register .register-of .ensures, h),
+    )
 
 pub defer-spec : {M : Type 1} → statement M
 defer-spec =
@@ -23,6 +29,8 @@ defer-spec =
     (tie.spec
     (λ c κs. search needs)
     returns
+    (λ c κs. search needs)
+    (λ c κs. search needs)
     (λ c. search needs)
     (λ c. search needs)
     (λ c κs. search needs)
