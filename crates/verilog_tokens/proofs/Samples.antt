@@ -10,6 +10,7 @@ use Rattle.naming.specs.Naming.{sameText}
 use Rattle.verilog_tokens.specs.Characters.{isNewline, isSpace, isLetter, isBelow, isX, isZ, isUnderscore, isDigit, isNamed, isText, inClass, span, every, withDigit, numeralFrom, numeral}
 use Rattle.verilog_tokens.specs.Words.{keywords, isAmong, isKeyword, signs, opensWith, firstOf}
 use Rattle.verilog_tokens.specs.Tokens.{Token, terminal, name, number, known, unknown, broken, either, further, endedBy, lineComment, isSlash, closing, blockComment, comment, blank, onwards, gaps, gap, wordToken, word, opensZero, numberToken, unsigned, baseOf, radixOf, decimalDigits, digitsIn, isKnown, isUnknown, valueToken, valueBehind, value, based, signToken, sign, opening, tokenBy, goesOn, andThen, fromToken, fromGap, located, tokens}
+use Rattle.verilog_tokens.specs.Table.{terminals, numberFrom, kindOf, kinds, nameIn, namesIn, placeOf, idOf, upTo255, numberIn, numbers}
 
 abbrev pub at : ℕ → List ℕ → Token
 at p w = name (record { place = p; spelled = w })
@@ -75,3 +76,12 @@ pub signs-longest-first : sees (ascii "a^~b") (at 0 (ascii "a") ∷ terminal (as
     × sees (0x0B ∷ 0x61 ∷ []) (broken ∷ [])
 unfolding seen
 signs-longest-first = (refl, refl, refl, refl, refl)
+
+-- The table: kinds by the terminals' numbers, 64 and up for what has a number; the second `b` has the first one's number.
+pub a-table :
+    (kinds (ascii "if(b)a<=b;") ≡ 10 ∷ 20 ∷ 64 ∷ 21 ∷ 64 ∷ 30 ∷ 64 ∷ 25 ∷ 0 ∷ [])
+    × (numbers (ascii "if(b)a<=b;") ≡ 0 ∷ 0 ∷ 0 ∷ 0 ∷ 1 ∷ 0 ∷ 0 ∷ 0 ∷ 0 ∷ [])
+    × (kinds (ascii "xor 07'h1_00000002 300'dx-^~.") ≡ 70 ∷ 66 ∷ 67 ∷ 65 ∷ 68 ∷ 39 ∷ 70 ∷ 69 ∷ 0 ∷ [])
+    × (numbers (ascii "xor 07'h1_00000002 300'dx-^~.") ≡ 0 ∷ 7 ∷ 2 ∷ 255 ∷ 0 ∷ 0 ∷ 0 ∷ 0 ∷ 0 ∷ [])
+unfolding seen terminals numberFrom kindOf kinds nameIn namesIn placeOf idOf upTo255 numberIn numbers
+a-table = (refl, refl, refl, refl)

@@ -1,3 +1,4 @@
 pub mod Characters
 pub mod Words
 pub mod Tokens
+pub mod Table
