@@ -1,15 +1,15 @@
 -- Laws of what a buffer holds: bytes put behind, and bytes put in front.
 -- Assumes nothing.
-use mathlib.Core.Path.{_≡_, refl, sym, ap, _∙_, subst}
+use mathlib.Core.Path.{_≡_, refl, sym, ap, _∙_}
 use mathlib.Core.Bool.{Bool, true, false}
 use mathlib.Core.List.{List, [], _∷_, _++_, append-assoc, append-nil}
-use Prim.Native.Nat.{ℕ, suc, _+_, _-_, _≤_, _<_, min}
+use Prim.Native.Nat.{ℕ, suc, _+_, _-_, _≤_, min}
 use native.Mathlib.Omega.{arith}
 use lib.Dec.{ltb}
 use lib.ListN.{length, take, drop, set, length-append, length-set, take-append-drop}
-use lib.Seq.{length-take-le, take-at, take-suc-set, sets-eq, take-append-le}
+use lib.Seq.{take-at, take-suc-set}
 use borrow.Author.Tests.{ltb-true, ltb-false}
-use Rattle.writing.specs.Buffer.{Text, filled, put, puts}
+use Rattle.writing.specs.Buffer.{filled, put, puts}
 use Rattle.writing.proofs.Buffer.{put-in, put-full, puts-cons, puts-nil}
 use Rattle.verilog_bytes.specs.Turning.{turned, behind, fronted}
 use Rattle.verilog_bytes.specs.Held.{placeOf, Held}
@@ -43,7 +43,8 @@ held-put {bs} {l} {p} b held = by (ltb p 65536) refl
     by false q =
         let h = ltb-false p 65536 q in
         let k : 65536 ≤ length l = omega (arith, held .place) in
-        rw (put-full (filled bs p) b h) (record { room = held .room; place = omega (arith, held .place, more); front = λ w. absurd (omega (arith, more)) })
+        rw (put-full (filled bs p) b h)
+        (record { room = held .room; place = omega (arith, held .place, more); front = λ w. absurd (omega (arith, more)) })
 
 pub held-puts : {bs l : List ℕ} {p : ℕ} (xs : List ℕ) → Held bs p l
     → Held (puts (filled bs p) xs .bytes) (puts (filled bs p) xs .at) (l ++ xs)
@@ -73,7 +74,8 @@ held-turned {bs} {q} l a b held = record {
     long : length (l ++ (a ++ b)) ≡ length (l ++ (b ++ a))
     long = lab ∙ sym lba
 
-    turn : length l + length a + length b ≤ 65536 → take (length (l ++ (b ++ a))) (turned (placeOf l) (placeOf (l ++ a)) q bs) ≡ l ++ (b ++ a)
+    turn : length l + length a + length b ≤ 65536 → take (length (l ++ (b ++ a))) (turned (placeOf l) (placeOf (l ++ a)) q bs) ≡ l ++
+        (b ++ a)
     turn h =
         let rest = drop (length (l ++ (a ++ b))) bs in
         let split : l ++ (a ++ (b ++ rest)) ≡ bs =

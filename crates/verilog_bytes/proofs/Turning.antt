@@ -2,16 +2,16 @@
 -- Assumes nothing.
 use mathlib.Core.Path.{_≡_, refl, sym, ap, _∙_}
 use mathlib.Core.Bool.{Bool, true, false, _&&_}
-use mathlib.Core.List.{List, [], _∷_, _++_, append-assoc, append-nil, reverse, reverse-cons, reverse-append, reverse-reverse}
+use mathlib.Core.List.{List, [], _∷_, _++_, append-assoc, reverse, reverse-cons, reverse-append, reverse-reverse}
 use Prim.Native.Nat.{ℕ, zero, suc, _+_, _-_, _≤_, _<_}
 use native.Mathlib.Numerals.{add-one}
 use native.Mathlib.Omega.{arith}
 use lib.Dec.{leb}
-use lib.ListN.{length, getD, take, drop, set, length-append, length-take, length-drop, length-reverse, take-append-drop, length-set}
-use lib.Seq.{slice, length-slice, length-take-le, drop-cons, take-at, drop-at, set-at, take-all, take-length, take-take, drop-drop, slice-empty, drop-append-le, sets-eq}
-use borrow.Author.Tests.{le-leb, lt-leb, leb-true}
+use lib.ListN.{length, getD, take, drop, set, length-append, length-reverse, take-append-drop, length-set}
+use lib.Seq.{slice, length-slice, length-take-le, drop-cons, take-at, drop-at, set-at, take-take, drop-append-le, sets-eq}
+use borrow.Author.Tests.{le-leb, lt-leb}
 use Rattle.values.specs.Values.{pick}
-use Rattle.writing.specs.Buffer.{Text, filled, puts}
+use Rattle.writing.specs.Buffer.{filled, puts}
 use Rattle.writing.proofs.Buffer.{puts-sets, puts-append}
 use Rattle.verilog_bytes.specs.Turning.{swapped, reversed, thrice, turned, Turns, behind}
 

@@ -61,7 +61,7 @@ pub fn put_front(a: u8, out: &mut [u8; 65536], from: usize, pos: usize) -> usize
 pub fn put_pair_front(a: u8, b: u8, out: &mut [u8; 65536], from: usize, pos: usize) -> usize
     ensures { λ r. ⌜ filled (now (out .exit)) r ≡ fronted from (a ∷ b ∷ []) (filled (now (out .entry)) pos) ⌝ }
 {
-    let p = put_pair(a, b, out, pos);
-    turn(out, from, pos, p);
-    p
+    let end = put_pair(a, b, out, pos);
+    turn(out, from, pos, end);
+    end
 }

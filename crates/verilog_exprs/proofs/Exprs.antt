@@ -15,7 +15,8 @@ use Rattle.verilog_bytes.specs.Turning.{fronted}
 use Rattle.verilog_exprs.specs.declared.Put.{Put}
 use Rattle.verilog_exprs.specs.Rows.{rowAt, Wrote, wrote, Step, passed, refused, written, andThen, expected}
 use Rattle.verilog_exprs.specs.Constants.{constantBytes}
-use Rattle.verilog_exprs.specs.Exprs.{precedenceOf, operatorOf, binds, valueAt, atomAt, bracketsAt, primaryAt, prefixAt, operandAt, joinAt, climbAt, choiceAt, armsAt, exprAt}
+use Rattle.verilog_exprs.specs.Exprs.{precedenceOf, operatorOf, binds, valueAt, atomAt, bracketsAt, primaryAt, prefixAt, operandAt}
+use Rattle.verilog_exprs.specs.Exprs.{joinAt, climbAt, choiceAt, armsAt, exprAt}
 use Rattle.verilog_exprs.proofs.Table.{row-past, then-yes, passed-is}
 
 pub precedence-few : (k : ℕ) → precedenceOf k ≤ 7
@@ -112,18 +113,21 @@ module _ (kinds numbers : List ℕ) where
   -- ---- binary operators, behind what was read
 
   module _ (inner : ℕ → Step) (a : Put) (bs : List ℕ) (yes : a .ok ≡ true) (level from : ℕ) where
-    pub climb-spent : (turns : ℕ) → turns ≡ 0 → refused (a .next) (a .pos) bs ≡ andThen (wrote a bs) (climbAt kinds numbers inner turns level from)
+    pub climb-spent : (turns : ℕ) → turns ≡ 0 → refused (a .next) (a .pos) bs ≡ andThen (wrote a bs)
+        (climbAt kinds numbers inner turns level from)
     unfolding climbAt
     climb-spent turns e = rw e (sym (then-yes a bs refused yes))
 
     module _ (turns k o : ℕ) (more : turns ≡ 0 → ⊥) (e : k ≡ rowAt kinds (a .next)) (f : o ≡ precedenceOf k) where
       climb-turn : andThen (wrote a bs) (climbAt kinds numbers inner turns level from)
-          ≡ pick (binds level k) (joinAt kinds numbers inner (climbAt kinds numbers inner (turns - 1) level from) from) passed (a .next) (a .pos) bs
+          ≡ pick (binds level k) (joinAt kinds numbers inner (climbAt kinds numbers inner (turns - 1) level from) from) passed (a .next)
+          (a .pos) bs
       unfolding climbAt
       climb-turn = then-yes a bs (climbAt kinds numbers inner turns level from) yes ∙ by turns more
         where
           by : (n : ℕ) → (n ≡ 0 → ⊥) → climbAt kinds numbers inner n level from (a .next) (a .pos) bs
-              ≡ pick (binds level k) (joinAt kinds numbers inner (climbAt kinds numbers inner (n - 1) level from) from) passed (a .next) (a .pos) bs
+              ≡ pick (binds level k) (joinAt kinds numbers inner (climbAt kinds numbers inner (n - 1) level from) from) passed (a .next)
+              (a .pos) bs
           by zero h = absurd (h refl)
           by (suc n) h = rw (← e, sub-one) refl
 
@@ -137,7 +141,8 @@ module _ (kinds numbers : List ℕ) where
 
       pub climb-join : (n q : ℕ) (us : List ℕ) (w : Wrote) → (o ≡ 0 → ⊥) → level ≤ o → n ≡ operatorOf k
           → filled us q ≡ fronted from (0x31 ∷ n ∷ []) (filled bs (a .pos)) → w ≡ inner (o + 1) (a .next + 1) q us
-          → andThen w (climbAt kinds numbers inner (turns - 1) level from) ≡ andThen (wrote a bs) (climbAt kinds numbers inner turns level from)
+          → andThen w (climbAt kinds numbers inner (turns - 1) level from) ≡ andThen (wrote a bs)
+          (climbAt kinds numbers inner turns level from)
       unfolding binds joinAt
       climb-join n q us w h g j t r = sym (climb-turn ∙ rw (← f, ne-eqb o 0 h, le-leb level o g, ← e, ← f, ← j, ← t, ← r) refl)
 
@@ -168,7 +173,8 @@ module _ (kinds numbers : List ℕ) where
   unfolding exprAt
   expr-spent f level i p bs e = rw e refl
 
-  pub expr-more : (f level i p : ℕ) (bs : List ℕ) (v w : Wrote) → (f ≡ 0 → ⊥) → v ≡ operandAt kinds numbers (exprAt kinds numbers (f - 1)) i p bs
+  pub expr-more : (f level i p : ℕ) (bs : List ℕ) (v w : Wrote) → (f ≡ 0 → ⊥) → v ≡ operandAt kinds numbers
+      (exprAt kinds numbers (f - 1)) i p bs
       → w ≡ andThen v (climbAt kinds numbers (exprAt kinds numbers (f - 1)) f level p)
       → andThen w (armsAt kinds numbers (exprAt kinds numbers (f - 1)) level p) ≡ exprAt kinds numbers f level i p bs
   unfolding exprAt

@@ -1,11 +1,11 @@
 -- Laws of a table's rows and of what a reader leaves, by the tests of the code.
 -- Assumes nothing.
-use mathlib.Core.Path.{_≡_, refl, sym, ap, _∙_}
-use mathlib.Core.Bool.{Bool, true, false, _&&_}
+use mathlib.Core.Path.{_≡_, refl, ap}
+use mathlib.Core.Bool.{Bool, true, false}
 use mathlib.Core.List.{List}
 use Prim.Native.Nat.{ℕ, _+_, _≤_, _<_}
 use native.Mathlib.Omega.{arith}
-use lib.Dec.{ltb, eqb}
+use lib.Dec.{ltb}
 use lib.ListN.{getD}
 use borrow.Author.Tests.{lt-ltb, le-ltb, ltb-true, eq-eqb, ne-eqb}
 use Rattle.values.specs.Values.{pick}
@@ -41,6 +41,10 @@ pub then-yes : (a : Put) (bs : List ℕ) (f : Step) → a .ok ≡ true → andTh
 unfolding andThen
 then-yes a bs f e = rw e refl
 
+pub then-refused : (w : Wrote) (f : Step) → w .put .ok ≡ false → andThen w f ≡ refused (w .put .next) (w .put .pos) (w .bytes)
+unfolding andThen
+then-refused w f e = rw e refl
+
 pub passed-is : (a : Put) (bs : List ℕ) → a .ok ≡ true → wrote a bs ≡ passed (a .next) (a .pos) bs
 passed-is a bs e = ap (λ t. wrote (answer t (a .next) (a .pos)) bs) e
 
@@ -59,6 +63,7 @@ module _ (kinds : List ℕ) (k : ℕ) (a : Put) where
   unfolding expected isAt
   expected-is e h f = rw (e, lt-ltb (a .next) 16385 h, eq-eqb (getD kinds (a .next) 0) k f) refl
 
-  pub expected-other : a .ok ≡ true → a .next < 16385 → (getD kinds (a .next) 0 ≡ k → ⊥) → expected kinds k a ≡ answer false (a .next) (a .pos)
+  pub expected-other : a .ok ≡ true → a .next < 16385 → (getD kinds (a .next) 0 ≡ k → ⊥) → expected kinds k a ≡ answer false (a .next)
+      (a .pos)
   unfolding expected isAt
   expected-other e h f = rw (e, lt-ltb (a .next) 16385 h, ne-eqb (getD kinds (a .next) 0) k f) refl

@@ -1,12 +1,14 @@
 -- Laws of constants: widths and values from a table's numbers.
 -- Assumes nothing.
-use mathlib.Core.Path.{_≡_, refl, sym, ap, _∙_}
+use mathlib.Core.Path.{_≡_, refl, sym, _∙_}
 use mathlib.Core.Bool.{Bool, true, false}
 use Prim.Native.Nat.{ℕ, _%_, _^_, _≤_, _<_}
-use native.Mathlib.Nat.{mod-eq-of-lt}
+use native.Mathlib.Nat.{mod-eq-of-lt, mod-mod}
 use native.Mathlib.Omega.{arith}
-use borrow.Author.Tests.{le-leb, lt-leb, leb-true}
-use lib.Dec.{leb}
+use borrow.Author.Tests.{le-leb, lt-leb, leb-true, leb-false, ltb-false}
+use lib.Dec.{leb, ltb}
+use Rattle.values.proofs.Operators.{mod-32}
+use Rattle.verilog_tokens.specs.Table.{upTo255}
 use Rattle.values.specs.Values.{pick}
 use Rattle.verilog_grammar.specs.Meaning.{upTo, cut}
 
@@ -34,3 +36,32 @@ cut-whole w v h k = by (leb w 32) refl
     by : (t : Bool) → leb w 32 ≡ t → v % 2 ^ pick t w 32 ≡ v
     by true q = let e : w ≡ 32 = omega (arith, leb-true w 32 q) in rw e (mod-eq-of-lt k)
     by false q = mod-eq-of-lt k
+
+-- ---- a size of at most 255, and a value's remainder by 2^32, are enough
+
+pub width-capped : (w : ℕ) → upTo 32 (upTo255 w) ≡ upTo 32 w
+unfolding upTo255
+width-capped w = by (ltb w 255) refl
+  where
+    by : (t : Bool) → ltb w 255 ≡ t → upTo 32 (pick t w 255) ≡ upTo 32 w
+    by true q = refl
+    by false q = upTo-past 32 255 (omega arith) ∙ sym (upTo-past 32 w (omega (arith, ltb-false w 255 q)))
+
+pub cut-width : (w v : ℕ) → cut (upTo 32 w) v ≡ cut w v
+unfolding upTo
+cut-width w v = by (leb w 32) refl
+  where
+    by : (t : Bool) → leb w 32 ≡ t → cut (pick t w 255) v ≡ cut w v
+    by true q = refl
+    by false q = cut-wide 255 v (omega arith) ∙ sym (cut-wide w v (leb-false w 32 q))
+
+pub cut-remainder : (w v : ℕ) → cut w (v % 4294967296) ≡ cut w v
+cut-remainder w v = by (leb w 32) refl
+  where
+    by : (t : Bool) → leb w 32 ≡ t → cut w (v % 4294967296) ≡ cut w v
+    by true q =
+        let h = leb-true w 32 q in
+        cut-narrow w (v % 4294967296) h ∙ mod-32 w h v ∙ sym (cut-narrow w v h)
+    by false q =
+        let h = leb-false w 32 q in
+        cut-wide w (v % 4294967296) h ∙ mod-mod v 4294967296 ∙ sym (cut-wide w v h)

@@ -1,15 +1,15 @@
 -- Expressions read from a table of tokens and written as a sheet has them, for tables of any contents. One definition for each of
 -- the grammar's readers (verilog_grammar, specs/Reader), in its order; an operator is written behind its first operand and turned in
 -- front of it.
-use mathlib.Core.Bool.{Bool, true, false}
+use mathlib.Core.Bool.{Bool, false}
 use mathlib.Core.List.{List, [], _∷_}
 use Prim.Native.Nat.{ℕ, zero, suc, _+_, _%_}
 use lib.Dec.{leb, eqb}
 use Rattle.values.specs.Values.{pick, _is_then_else_}
-use Rattle.writing.specs.Buffer.{Text, filled, puts}
+use Rattle.writing.specs.Buffer.{filled, puts}
 use Rattle.verilog_grammar.specs.Meaning.{upTo}
 use Rattle.verilog_bytes.specs.Turning.{fronted}
-use Rattle.verilog_exprs.specs.Rows.{rowAt, Wrote, wrote, Step, passed, refused, written, andThen, expected}
+use Rattle.verilog_exprs.specs.Rows.{rowAt, wrote, Step, passed, refused, written, andThen, expected}
 use Rattle.verilog_exprs.specs.Constants.{constantBytes}
 
 -- ---- operators by the kind of their sign: + 38, - 39, < 31, == 29, & 35, ^ 37, | 36

@@ -102,7 +102,8 @@ fn primary(
     fuel: usize,
 ) -> Put
     ensures { λ r. ⌜ wrote r (now (out .exit)) ≡
-        primaryAt (now (kinds .entry)) (now (numbers .entry)) (exprAt (now (kinds .entry)) (now (numbers .entry)) fuel) i pos (now (out .entry)) ⌝ }
+        primaryAt (now (kinds .entry)) (now (numbers .entry)) (exprAt (now (kinds .entry)) (now (numbers .entry)) fuel)
+        i pos (now (out .entry)) ⌝ }
 {
     let k = kind_at(kinds, i);
     if k == 20 {
@@ -122,7 +123,8 @@ fn operand(
     fuel: usize,
 ) -> Put
     ensures { λ r. ⌜ wrote r (now (out .exit)) ≡
-        operandAt (now (kinds .entry)) (now (numbers .entry)) (exprAt (now (kinds .entry)) (now (numbers .entry)) fuel) i pos (now (out .entry)) ⌝ }
+        operandAt (now (kinds .entry)) (now (numbers .entry)) (exprAt (now (kinds .entry)) (now (numbers .entry)) fuel)
+        i pos (now (out .entry)) ⌝ }
 {
     let k = kind_at(kinds, i);
     if k == 33 {

@@ -9,7 +9,8 @@ use Rattle.verilog_bytes.proofs.put_pair_front.Tie as tie
 returns : tie.Need-returns
 unfolding fronted behind
 returns c =
-    let a = c .before .before .before .before .args in
+    let at-start = c .before .before .before .before in
+    let a = at-start .args in
     let p = c .before .before .put-pair .result in
     ap (λ l. filled l p) (c .turn .ensures) ∙ ap (λ t. behind (a .from) (a .pos) t) (c .before .before .put-pair .ensures)
 

@@ -1,9 +1,8 @@
 -- `verilog_bytes::reverse` meets its contract. The loop's invariant: reversing what is left gives the whole.
 -- Assumes nothing.
-use Prim.Native.Nat.{_+_, _-_, _≤_}
+use Prim.Native.Nat.{_-_, _≤_}
 use mathlib.Core.Path.{_≡_, refl, sym, _∙_}
 use native.Mathlib.Omega.{arith}
-use borrow.Author.Needs.{needs}
 use Rattle.verilog_bytes.specs.Turning.{swapped, reversed}
 use Rattle.verilog_bytes.proofs.Turning.{reversed-step, reversed-few}
 use Rattle.verilog_bytes.proofs.reverse.Statement.{statement}
@@ -45,7 +44,8 @@ loop-less c = omega arith
 loop-again : tie.Need-loop-again Inv-loop μ-loop
 unfolding swapped
 loop-again c =
-    let l = c .before .before .before .loop in
+    let at-loop = c .before .before .before in
+    let l = at-loop .loop in
     (omega arith, omega arith, reversed-step (l .out) (l .i) (l .j) (omega arith) ∙ l .inv .2)
 
 returns : tie.Need-returns Inv-loop μ-loop

@@ -26,7 +26,8 @@ returns-4 c =
     c .reverse3 .ensures
     ∙ ap (λ l. reversed (a .end - a .from) (a .from) l)
     (at-2 .reverse2 .ensures ∙ ap (λ l. reversed (a .end - a .mid) (a .mid) l) (at-1 .reverse .ensures))
-    ∙ sym (turned-is (a .out .now) (a .from) (a .mid) (a .end) (at-if3 .before .before .if1 .left) (at-if3 .before .if2 .left) (at-if3 .if3 .left))
+    ∙ sym (turned-is (a .out .now) (a .from) (a .mid) (a .end) (at-if3 .before .before .if1 .left) (at-if3 .before .if2 .left)
+    (at-if3 .if3 .left))
 
 pub turn-spec : {M : Type 1} → statement M
 turn-spec = tie.close

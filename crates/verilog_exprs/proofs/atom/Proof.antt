@@ -8,22 +8,43 @@ use Rattle.verilog_exprs.proofs.atom.Statement.{statement}
 use Rattle.verilog_exprs.proofs.atom.Tie as tie
 
 add-t13 : tie.Need-add-t13
-add-t13 c = let h = row-inside (c .before .before .before .before .before .args .kinds .now) (c .before .before .before .before .before .args .i) 64 _ (c .before .before .before .before .kind-at .ensures) (c .before .before .if1 .taken) (omega arith) in omega arith
+add-t13 c =
+    let at-kind-at = c .before .before .before .before in
+    let a = at-kind-at .before .args in
+    let h = row-inside (a .kinds .now) (a .i) 64 _ (at-kind-at .kind-at .ensures) (c .before .before .if1 .taken)
+    (omega arith) in omega arith
 
 returns : tie.Need-returns
-returns c = atom-name (c .before .before .before .before .before .args .kinds .now) (c .before .before .before .before .before .args .numbers .now) _ (c .before .before .before .before .before .args .i) (c .before .before .before .before .before .args .pos) (c .before .before .before .before .before .args .out .now) (c .before .before .before .before .kind-at .ensures) _ _
-    (c .before .before .before .number-at .ensures) (c .before .before .if1 .taken) (c .put-pair .ensures)
+returns c =
+    let at-number-at = c .before .before .before in
+    let at-kind-at = at-number-at .before in
+    let a = at-kind-at .before .args in
+    atom-name (a .kinds .now) (a .numbers .now) _ (a .i) (a .pos) (a .out .now) (at-kind-at .kind-at .ensures) _ _
+    (at-number-at .number-at .ensures) (c .before .before .if1 .taken) (c .put-pair .ensures)
 
 add-value : tie.Need-add-value
-add-value c = let h = row-inside (c .before .before .before .before .before .before .args .kinds .now) (c .before .before .before .before .before .before .args .i) 65 _ (c .before .before .before .before .before .kind-at .ensures) (c .before .before .if2 .taken) (omega arith) in omega arith
+add-value c =
+    let at-kind-at = c .before .before .before .before .before in
+    let a = at-kind-at .before .args in
+    let h = row-inside (a .kinds .now) (a .i) 65 _ (at-kind-at .kind-at .ensures) (c .before .before .if2 .taken)
+    (omega arith) in omega arith
 
 returns-2 : tie.Need-returns-2
-returns-2 c = c .value .ensures
-    ∙ atom-size (c .before .before .before .before .before .before .before .args .kinds .now) (c .before .before .before .before .before .before .before .args .numbers .now) _ (c .before .before .before .before .before .before .before .args .i) (c .before .before .before .before .before .before .before .args .pos) (c .before .before .before .before .before .before .before .args .out .now) (c .before .before .before .before .before .before .kind-at .ensures) _ _
-    (c .before .before .before .before .before .number-at .ensures) (c .before .before .before .if2 .taken) (c .before .width-of .ensures)
+returns-2 c =
+    let at-if2 = c .before .before .before in
+    let at-number-at = at-if2 .before .before in
+    let at-kind-at = at-number-at .before in
+    let a = at-kind-at .before .args in
+    c .value .ensures
+    ∙ atom-size (a .kinds .now) (a .numbers .now) _ (a .i) (a .pos) (a .out .now) (at-kind-at .kind-at .ensures) _ _
+    (at-number-at .number-at .ensures) (at-if2 .if2 .taken) (c .before .width-of .ensures)
 
 returns-3 : tie.Need-returns-3
-returns-3 c = atom-none (c .before .before .before .before .args .kinds .now) (c .before .before .before .before .args .numbers .now) _ (c .before .before .before .before .args .i) (c .before .before .before .before .args .pos) (c .before .before .before .before .args .out .now) (c .before .before .before .kind-at .ensures) (c .before .if1 .left) (c .if2 .left)
+returns-3 c =
+    let at-kind-at = c .before .before .before in
+    let a = at-kind-at .before .args in
+    atom-none (a .kinds .now) (a .numbers .now) _ (a .i) (a .pos) (a .out .now) (at-kind-at .kind-at .ensures) (c .before .if1 .left)
+    (c .if2 .left)
 
 pub atom-spec : {M : Type 1} → statement M
 atom-spec =

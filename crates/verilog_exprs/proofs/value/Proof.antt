@@ -7,21 +7,38 @@ use Rattle.verilog_exprs.proofs.value.Statement.{statement}
 use Rattle.verilog_exprs.proofs.value.Tie as tie
 
 add-t13 : tie.Need-add-t13
-add-t13 c = let h = row-inside (c .before .before .before .before .before .args .kinds .now) (c .before .before .before .before .before .args .i) 67 _ (c .before .before .before .before .kind-at .ensures) (c .before .before .before .if1 .taken) (omega arith) in omega arith
+add-t13 c =
+    let at-if1 = c .before .before .before in
+    let at-kind-at = at-if1 .before in
+    let a = at-kind-at .before .args in
+    let h = row-inside (a .kinds .now) (a .i) 67 _ (at-kind-at .kind-at .ensures) (at-if1 .if1 .taken) (omega arith) in omega arith
 
 returns : tie.Need-returns
-returns c = value-known (c .before .before .before .before .before .args .kinds .now) (c .before .before .before .before .before .args .numbers .now) _ (c .before .before .before .before .before .args .i) (c .before .before .before .before .before .args .pos) (c .before .before .before .before .before .args .out .now) (c .before .before .before .before .kind-at .ensures) (c .before .before .before .before .before .args .width) _ _
-    (c .before .before .before .if1 .taken) (c .before .before .number-at .ensures) (c .put-constant .ensures)
+returns c =
+    let at-if1 = c .before .before .before in
+    let at-kind-at = at-if1 .before in
+    let a = at-kind-at .before .args in
+    value-known (a .kinds .now) (a .numbers .now) _ (a .i) (a .pos) (a .out .now) (at-kind-at .kind-at .ensures) (a .width) _ _
+    (at-if1 .if1 .taken) (c .before .before .number-at .ensures) (c .put-constant .ensures)
 
 add-t15 : tie.Need-add-t15
-add-t15 c = let h = row-inside (c .before .before .before .before .before .args .kinds .now) (c .before .before .before .before .before .args .i) 68 _ (c .before .before .before .before .kind-at .ensures) (c .before .before .if2 .taken) (omega arith) in omega arith
+add-t15 c =
+    let at-kind-at = c .before .before .before .before in
+    let a = at-kind-at .before .args in
+    let h = row-inside (a .kinds .now) (a .i) 68 _ (at-kind-at .kind-at .ensures) (c .before .before .if2 .taken)
+    (omega arith) in omega arith
 
 returns-2 : tie.Need-returns-2
-returns-2 c = value-unknown (c .before .before .before .before .before .args .kinds .now) (c .before .before .before .before .before .args .numbers .now) _ (c .before .before .before .before .before .args .i) (c .before .before .before .before .before .args .pos) (c .before .before .before .before .before .args .out .now) (c .before .before .before .before .kind-at .ensures) (c .before .before .before .before .before .args .width) _
+returns-2 c =
+    let at-kind-at = c .before .before .before .before in
+    let a = at-kind-at .before .args in
+    value-unknown (a .kinds .now) (a .numbers .now) _ (a .i) (a .pos) (a .out .now) (at-kind-at .kind-at .ensures) (a .width) _
     (c .before .before .if2 .taken) (c .put-pair .ensures)
 
 returns-3 : tie.Need-returns-3
-returns-3 c = value-none (c .before .before .before .args .kinds .now) (c .before .before .before .args .numbers .now) _ (c .before .before .before .args .i) (c .before .before .before .args .pos) (c .before .before .before .args .out .now) (c .before .before .kind-at .ensures) (c .before .before .before .args .width)
+returns-3 c =
+    let a = c .before .before .before .args in
+    value-none (a .kinds .now) (a .numbers .now) _ (a .i) (a .pos) (a .out .now) (c .before .before .kind-at .ensures) (a .width)
     (c .before .if1 .left) (c .if2 .left)
 
 pub value-spec : {M : Type 1} → statement M

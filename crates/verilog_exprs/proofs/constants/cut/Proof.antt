@@ -15,7 +15,8 @@ returns : tie.Need-returns
 returns c = sym (cut-whole (c .before .args .width) (c .before .args .v) (c .if1 .taken) (c .before .fits .v .fits))
 
 returns-2 : tie.Need-returns-2
-returns-2 c = rw (shifted (c .before .args .width) (c .if1 .left)) (sym (cut-narrow (c .before .args .width) (c .before .args .v) (omega arith)))
+returns-2 c = rw (shifted (c .before .args .width) (c .if1 .left))
+    (sym (cut-narrow (c .before .args .width) (c .before .args .v) (omega arith)))
 
 pub cut-spec : {M : Type 1} → statement M
 cut-spec =

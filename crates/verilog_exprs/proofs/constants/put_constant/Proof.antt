@@ -11,8 +11,11 @@ use Rattle.verilog_exprs.proofs.constants.put_constant.Tie as tie
 
 returns : tie.Need-returns
 unfolding constantBytes
-returns c = both _ _ _ _ _ (c .before .before .before .put-pair .ensures) (c .put-word .ensures)
-    ∙ ap (λ n. puts (filled (c .before .before .before .before .before .args .out .now) (c .before .before .before .before .before .args .pos)) (0x0C ∷ c .before .before .before .before .before .args .width ∷ encodeWord n)) (c .before .before .cut .ensures)
+returns c =
+    let at-put-pair = c .before .before .before in
+    let a = at-put-pair .before .before .args in
+    both _ _ _ _ _ (at-put-pair .put-pair .ensures) (c .put-word .ensures)
+    ∙ ap (λ n. puts (filled (a .out .now) (a .pos)) (0x0C ∷ a .width ∷ encodeWord n)) (c .before .before .cut .ensures)
 
 pub put-constant-spec : {M : Type 1} → statement M
 put-constant-spec =

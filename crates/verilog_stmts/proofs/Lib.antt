@@ -1,0 +1,3 @@
+pub mod Picks
+pub mod EventPaths
+pub mod StmtPaths
