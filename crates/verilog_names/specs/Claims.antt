@@ -1,0 +1,63 @@
+-- What is claimed of a text whose tables hold what `Tables` says. `proofs/Claims.antt` shows all of it.
+use mathlib.Core.Path.{_≡_}
+use mathlib.Core.Bool.{true}
+use mathlib.Core.List.{List, [], _∷_, _++_, map}
+use Prim.Native.Nat.{ℕ, _≤_}
+use lib.Dec.{eqb}
+use lib.ListN.{length, getD, drop}
+use Rattle.naming.specs.Naming.{sameText}
+use Rattle.verilog_tokens.specs.Tokens.{Token, Name}
+use Rattle.verilog_tokens.specs.Table.{numberIn, idOf}
+use Rattle.verilog_grammar.specs.Meaning.{aWire, Driven, Part}
+use Rattle.verilog_source.specs.Names as Source
+use Rattle.verilog_source.specs.Names.{variables, driven, threads, numberOf, faults, lowest}
+use Rattle.verilog_source.specs.Written.{valueFor, writtenWires, writtenThreads, written}
+use Rattle.verilog_names.specs.declared.Fault.{Fault}
+use Rattle.verilog_names.specs.Faults.{faultAt, faultOf}
+use Rattle.verilog_names.specs.Numbers.{numbersFrom, numbered}
+use Rattle.verilog_names.specs.Head.{headOf}
+use Rattle.verilog_names.specs.Order.{targetOf}
+use Rattle.verilog_names.specs.Tables.{Stands, Drives, Scanned, Noted}
+
+-- ---- ids are equal exactly where the spellings are
+
+unfoldable pub SameIds : Type 0
+SameIds = (ts : List Token) (t : ℕ) (m : Name) (s : List ℕ) → Stands ts t m
+    → eqb (idOf ts (m .spelled)) (idOf ts s) ≡ sameText (m .spelled) s
+
+-- ---- 43: a fault is found exactly where `faults` has one, and then its place is the lowest
+
+unfoldable pub faultBy : List Name → Fault
+faultBy [] = faultAt 65536
+faultBy (n ∷ ns) = faultAt (lowest n ns)
+
+unfoldable pub SameFaults : Type 0
+SameFaults = (index : List ℕ → ℕ) (ts : List Token) (ps : List Part) (kinds ids places roles widths : List ℕ)
+    → Scanned ts kinds ids places → Noted index ts ps roles widths
+    → faultOf kinds ids places roles (length ts) ≡ faultBy (faults ts ps)
+
+-- ---- numbers: each name has its variable's
+
+unfoldable pub SameNumbers : Type 0
+SameNumbers = (index : List ℕ → ℕ) (ts : List Token) (ps : List Part) (kinds ids places roles widths table : List ℕ)
+    → Scanned ts kinds ids places → Noted index ts ps roles widths → length ts ≤ length table
+    → numbered kinds ids roles (length ts) table ≡ map (numberIn (numberOf ps)) ts ++ drop (length ts) table
+
+-- ---- the head: what stands in front of the wires and the threads
+
+unfoldable pub SameHead : Type 0
+SameHead = (index : List ℕ → ℕ) (ts : List Token) (ps : List Part) (roles widths : List ℕ) → Noted index ts ps roles widths
+    → headOf roles widths (length ts) ++ writtenWires (driven ps) (variables aWire ps) ++ writtenThreads (threads ps) ≡ written ps
+
+-- ---- a wire's expression is read two tokens behind the target that is found for its name
+
+pub record Found (index : List ℕ → ℕ) (ts : List Token) (ps : List Part) (t : ℕ) (s : List ℕ) : Type 0 where
+  pub driven : Driven
+  pub drives : Drives index ts t driven
+  pub value : valueFor (Source.driven ps) s ≡ driven .value
+
+unfoldable pub SameTarget : Type 0
+SameTarget = (index : List ℕ → ℕ) (ts : List Token) (ps : List Part) (kinds ids places roles widths : List ℕ)
+    → Scanned ts kinds ids places → Noted index ts ps roles widths
+    → (t : ℕ) (n : Name) → Stands ts t n → Source.isAmong (map Source.targetOf (driven ps)) n ≡ true
+    → Found index ts ps (targetOf ids roles (length ts) (getD ids t 0)) (n .spelled)
