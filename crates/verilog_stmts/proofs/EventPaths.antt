@@ -24,7 +24,7 @@ module _ (ks ns : List ℕ) (from n : ℕ) (s : State) {z : State} where
   more (suc g) m k e h = rw (sub-one, e) at h
 
   module _ (g m : ℕ) (k : g ≡ 0 → ⊥) (e : m ≡ oneMore n) {a : Put} {bs : List ℕ} (f : wrote a bs ≡ event ks ns s) {r : Bool}
-    (t : r ≡ isNext ks 19 a) where
+      (t : r ≡ isNext ks 19 a) where
     pub on-or : r ≡ true → z ≡ events ks ns (g - 1) from m (moved after (wrote a bs)) → z ≡ events ks ns g from n s
     unfolding eventsBehind onward
     on-or h x = more g m k e (behind (λ u. eventsBehind ks ns (events ks ns (g - 1) from m) from m u) f

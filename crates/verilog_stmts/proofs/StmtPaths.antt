@@ -40,8 +40,8 @@ module _ (ks ns : List ℕ) (count : ℕ) (expr label : State → State) where
     -- ---- if
 
     module _ {q a c b : Put} {bs1 bs2 bs3 : List ℕ} (e : q ≡ after p) (w : wrote a bs1 ≡ write (0x06 ∷ []) (wrote q bs))
-      (d : wrote c bs2 ≡ Stmts.condition ks ns count expr label (wrote a bs1))
-      (o : wrote b bs3 ≡ Stmts.orNull ks ns count expr label inner (wrote c bs2)) {r : Bool} (t : r ≡ isNext ks 11 b) where
+        (d : wrote c bs2 ≡ Stmts.condition ks ns count expr label (wrote a bs1))
+        (o : wrote b bs3 ≡ Stmts.orNull ks ns count expr label inner (wrote c bs2)) {r : Bool} (t : r ≡ isNext ks 11 b) where
       pub if-else : {u : Put} {bs4 : List ℕ} → r ≡ true → bs4 ≡ stamped 0x0E (p .pos) bs3 → u ≡ after b
           → z ≡ Stmts.orNull ks ns count expr label inner (wrote u bs4)
           → z ≡ Stmts.conditional ks ns count expr label inner (wrote p bs)

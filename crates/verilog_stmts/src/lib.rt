@@ -1,6 +1,8 @@
 // Statements of Verilog text: read from the tables of its tokens, written as the sheet has them (specs/Stmts.antt).
 // Each function takes where it is and answers where it came to; what was refused once stays so.
-use writing::put_byte;
+use verilog_bytes::put_front;
+use verilog_bytes::put_pair;
+use verilog_bytes::turn;
 use verilog_exprs::Put;
 use verilog_exprs::expect;
 use verilog_exprs::expression;
@@ -8,9 +10,7 @@ use verilog_exprs::kind_at;
 use verilog_exprs::number_at;
 use verilog_exprs::put_constant;
 use verilog_exprs::width_of;
-use verilog_bytes::put_pair;
-use verilog_bytes::put_front;
-use verilog_bytes::turn;
+use writing::put_byte;
 ghost use mathlib.Core.Path.{_≡_};
 ghost use mathlib.Core.List.{_∷_, []};
 ghost use Prim.Native.Nat.{_-_, _%_};
@@ -47,7 +47,7 @@ fn wide(n: u16) -> usize
 }
 
 // How many tokens are left.
-fn left(count: u16, i: usize) -> u16
+pub fn left(count: u16, i: usize) -> u16
     ensures { λ r. ⌜ r ≡ count - i ⌝ }
 {
     let n = wide(count);
@@ -55,7 +55,7 @@ fn left(count: u16, i: usize) -> u16
 }
 
 // Refused here.
-fn refused(at: Put) -> Put
+pub fn refused(at: Put) -> Put
     ensures { λ r. ⌜ r ≡ refused at ⌝ }
 {
     Put {
@@ -66,7 +66,7 @@ fn refused(at: Put) -> Put
 }
 
 // Behind the token.
-fn after(at: Put) -> Put
+pub fn after(at: Put) -> Put
     ensures { λ r. ⌜ r ≡ after at ⌝ }
 {
     let i = at.next;
@@ -81,7 +81,7 @@ fn after(at: Put) -> Put
 }
 
 // Whether a token of a kind is next.
-fn is_next(kinds: &[u8; 16385], k: u8, at: Put) -> bool
+pub fn is_next(kinds: &[u8; 16385], k: u8, at: Put) -> bool
     ensures { λ r. ⌜ r ≡ isNext (now (kinds .entry)) k at ⌝ }
 {
     if !at.ok {
@@ -165,7 +165,13 @@ fn counted(n: u8) -> u8
 }
 
 // An edge's number and a name.
-fn term(kinds: &[u8; 16385], numbers: &[u32; 16385], edge: u8, out: &mut [u8; 65536], at: Put) -> Put
+fn term(
+    kinds: &[u8; 16385],
+    numbers: &[u32; 16385],
+    edge: u8,
+    out: &mut [u8; 65536],
+    at: Put,
+) -> Put
     ensures { λ r. ⌜ wrote r (now (out .exit)) ≡ term (now (kinds .entry)) (now (numbers .entry)) edge (wrote at (now (out .entry))) ⌝ }
 {
     let a = write(edge, out, at);
@@ -235,7 +241,13 @@ fn control(
 // ---- expressions within statements
 
 // An expression.
-fn value(kinds: &[u8; 16385], numbers: &[u32; 16385], count: u16, out: &mut [u8; 65536], at: Put) -> Put
+pub fn value(
+    kinds: &[u8; 16385],
+    numbers: &[u32; 16385],
+    count: u16,
+    out: &mut [u8; 65536],
+    at: Put,
+) -> Put
     ensures { λ r. ⌜ wrote r (now (out .exit)) ≡ value (now (kinds .entry)) (now (numbers .entry)) count (wrote at (now (out .entry))) ⌝ }
 {
     if !at.ok {
@@ -246,7 +258,13 @@ fn value(kinds: &[u8; 16385], numbers: &[u32; 16385], count: u16, out: &mut [u8;
 }
 
 // `(`, an expression, `)`.
-fn condition(kinds: &[u8; 16385], numbers: &[u32; 16385], count: u16, out: &mut [u8; 65536], at: Put) -> Put
+fn condition(
+    kinds: &[u8; 16385],
+    numbers: &[u32; 16385],
+    count: u16,
+    out: &mut [u8; 65536],
+    at: Put,
+) -> Put
     ensures { λ r. ⌜ wrote r (now (out .exit)) ≡ conditionIn (now (kinds .entry)) (now (numbers .entry)) count (wrote at (now (out .entry))) ⌝ }
 {
     let e = value(kinds, numbers, count, out, expect(kinds, at, 20));
@@ -254,10 +272,26 @@ fn condition(kinds: &[u8; 16385], numbers: &[u32; 16385], count: u16, out: &mut 
 }
 
 // A case's subject, read at the buffer's end, where nothing is written.
-fn subject(kinds: &[u8; 16385], numbers: &[u32; 16385], count: u16, out: &mut [u8; 65536], at: Put) -> Put
+fn subject(
+    kinds: &[u8; 16385],
+    numbers: &[u32; 16385],
+    count: u16,
+    out: &mut [u8; 65536],
+    at: Put,
+) -> Put
     ensures { λ r. ⌜ wrote r (now (out .exit)) ≡ subjectIn (now (kinds .entry)) (now (numbers .entry)) count (wrote at (now (out .entry))) ⌝ }
 {
-    let e = condition(kinds, numbers, count, out, Put { ok: at.ok, next: at.next, pos: 65536 });
+    let e = condition(
+        kinds,
+        numbers,
+        count,
+        out,
+        Put {
+            ok: at.ok,
+            next: at.next,
+            pos: 65536,
+        },
+    );
     Put {
         ok: e.ok,
         next: e.next,
@@ -266,7 +300,13 @@ fn subject(kinds: &[u8; 16385], numbers: &[u32; 16385], count: u16, out: &mut [u
 }
 
 // An expression and `;`.
-fn closed(kinds: &[u8; 16385], numbers: &[u32; 16385], count: u16, out: &mut [u8; 65536], at: Put) -> Put
+fn closed(
+    kinds: &[u8; 16385],
+    numbers: &[u32; 16385],
+    count: u16,
+    out: &mut [u8; 65536],
+    at: Put,
+) -> Put
     ensures { λ r. ⌜ wrote r (now (out .exit)) ≡ closedIn (now (kinds .entry)) (now (numbers .entry)) count (wrote at (now (out .entry))) ⌝ }
 {
     let e = value(kinds, numbers, count, out, at);
@@ -274,7 +314,13 @@ fn closed(kinds: &[u8; 16385], numbers: &[u32; 16385], count: u16, out: &mut [u8
 }
 
 // `v = e;` or `v <= e;`.
-fn assignment(kinds: &[u8; 16385], numbers: &[u32; 16385], count: u16, out: &mut [u8; 65536], at: Put) -> Put
+fn assignment(
+    kinds: &[u8; 16385],
+    numbers: &[u32; 16385],
+    count: u16,
+    out: &mut [u8; 65536],
+    at: Put,
+) -> Put
     ensures { λ r. ⌜ wrote r (now (out .exit)) ≡ assignmentIn (now (kinds .entry)) (now (numbers .entry)) count (wrote at (now (out .entry))) ⌝ }
 {
     let a = write(0x03, out, at);
@@ -289,7 +335,13 @@ fn assignment(kinds: &[u8; 16385], numbers: &[u32; 16385], count: u16, out: &mut
 // ---- a case's tests
 
 // The value of a label: a size and a known value.
-fn label_value(kinds: &[u8; 16385], numbers: &[u32; 16385], out: &mut [u8; 65536], width: u8, at: Put) -> Put
+fn label_value(
+    kinds: &[u8; 16385],
+    numbers: &[u32; 16385],
+    out: &mut [u8; 65536],
+    width: u8,
+    at: Put,
+) -> Put
     ensures { λ r. ⌜ wrote r (now (out .exit)) ≡ labelValue (now (kinds .entry)) (now (numbers .entry)) width (wrote at (now (out .entry))) ⌝ }
 {
     if is_next(kinds, 67, at) {
@@ -317,12 +369,29 @@ fn label(kinds: &[u8; 16385], numbers: &[u32; 16385], out: &mut [u8; 65536], at:
 }
 
 // A test's first bytes, and the subject once more.
-fn heading(kinds: &[u8; 16385], numbers: &[u32; 16385], count: u16, out: &mut [u8; 65536], at: Put, subject: usize) -> Put
+fn heading(
+    kinds: &[u8; 16385],
+    numbers: &[u32; 16385],
+    count: u16,
+    out: &mut [u8; 65536],
+    at: Put,
+    subject: usize,
+) -> Put
     ensures { λ r. ⌜ wrote r (now (out .exit)) ≡ headingIn (now (kinds .entry)) (now (numbers .entry)) count subject (wrote at (now (out .entry))) ⌝ }
 {
     let a = write(0x0E, out, at);
     let b = write_pair(0x31, 0x08, out, a);
-    let e = value(kinds, numbers, count, out, Put { ok: b.ok, next: subject, pos: b.pos });
+    let e = value(
+        kinds,
+        numbers,
+        count,
+        out,
+        Put {
+            ok: b.ok,
+            next: subject,
+            pos: b.pos,
+        },
+    );
     Put {
         ok: e.ok,
         next: at.next,
@@ -346,7 +415,14 @@ fn case_end(out: &mut [u8; 65536], at: Put, c: Case) -> Put
 // ---- statements
 
 // A statement, or `;`.
-fn or_null(kinds: &[u8; 16385], numbers: &[u32; 16385], count: u16, out: &mut [u8; 65536], at: Put, fuel: usize) -> Put
+fn or_null(
+    kinds: &[u8; 16385],
+    numbers: &[u32; 16385],
+    count: u16,
+    out: &mut [u8; 65536],
+    at: Put,
+    fuel: usize,
+) -> Put
     ensures { λ r. ⌜ wrote r (now (out .exit)) ≡ orNullIn (now (kinds .entry)) (now (numbers .entry)) count fuel (wrote at (now (out .entry))) ⌝ }
 {
     if is_next(kinds, 25, at) {
@@ -356,7 +432,14 @@ fn or_null(kinds: &[u8; 16385], numbers: &[u32; 16385], count: u16, out: &mut [u
 }
 
 // `if`, its `else` at the nearest.
-fn conditional(kinds: &[u8; 16385], numbers: &[u32; 16385], count: u16, out: &mut [u8; 65536], at: Put, fuel: usize) -> Put
+fn conditional(
+    kinds: &[u8; 16385],
+    numbers: &[u32; 16385],
+    count: u16,
+    out: &mut [u8; 65536],
+    at: Put,
+    fuel: usize,
+) -> Put
     ensures { λ r. ⌜ wrote r (now (out .exit)) ≡ conditionalIn (now (kinds .entry)) (now (numbers .entry)) count fuel (wrote at (now (out .entry))) ⌝ }
 {
     let a = write(0x06, out, after(at));
@@ -370,7 +453,16 @@ fn conditional(kinds: &[u8; 16385], numbers: &[u32; 16385], count: u16, out: &mu
 }
 
 // The statements behind one that was written from a place on, up to `end`.
-fn block_rest(kinds: &[u8; 16385], numbers: &[u32; 16385], count: u16, out: &mut [u8; 65536], at: Put, from: usize, fuel: usize, turns: u16) -> Put
+fn block_rest(
+    kinds: &[u8; 16385],
+    numbers: &[u32; 16385],
+    count: u16,
+    out: &mut [u8; 65536],
+    at: Put,
+    from: usize,
+    fuel: usize,
+    turns: u16,
+) -> Put
     ensures { λ r. ⌜ wrote r (now (out .exit)) ≡ blockRestIn (now (kinds .entry)) (now (numbers .entry)) count fuel turns from (wrote at (now (out .entry))) ⌝ }
 {
     if turns == 0 {
@@ -388,7 +480,14 @@ fn block_rest(kinds: &[u8; 16385], numbers: &[u32; 16385], count: u16, out: &mut
 }
 
 // The statements behind `begin`.
-fn block(kinds: &[u8; 16385], numbers: &[u32; 16385], count: u16, out: &mut [u8; 65536], at: Put, fuel: usize) -> Put
+fn block(
+    kinds: &[u8; 16385],
+    numbers: &[u32; 16385],
+    count: u16,
+    out: &mut [u8; 65536],
+    at: Put,
+    fuel: usize,
+) -> Put
     ensures { λ r. ⌜ wrote r (now (out .exit)) ≡ blockIn (now (kinds .entry)) (now (numbers .entry)) count fuel (wrote at (now (out .entry))) ⌝ }
 {
     let turns = left(count, at.next);
@@ -403,7 +502,14 @@ fn block(kinds: &[u8; 16385], numbers: &[u32; 16385], count: u16, out: &mut [u8;
 }
 
 // `default`, with `:` or without, and its statement.
-fn defaulted(kinds: &[u8; 16385], numbers: &[u32; 16385], count: u16, out: &mut [u8; 65536], at: Put, fuel: usize) -> Put
+fn defaulted(
+    kinds: &[u8; 16385],
+    numbers: &[u32; 16385],
+    count: u16,
+    out: &mut [u8; 65536],
+    at: Put,
+    fuel: usize,
+) -> Put
     ensures { λ r. ⌜ wrote r (now (out .exit)) ≡ defaultedIn (now (kinds .entry)) (now (numbers .entry)) count fuel (wrote at (now (out .entry))) ⌝ }
 {
     let a = after(at);
@@ -414,7 +520,15 @@ fn defaulted(kinds: &[u8; 16385], numbers: &[u32; 16385], count: u16, out: &mut 
 }
 
 // A label and its statement.
-fn labelled(kinds: &[u8; 16385], numbers: &[u32; 16385], count: u16, out: &mut [u8; 65536], at: Put, subject: usize, fuel: usize) -> Put
+fn labelled(
+    kinds: &[u8; 16385],
+    numbers: &[u32; 16385],
+    count: u16,
+    out: &mut [u8; 65536],
+    at: Put,
+    subject: usize,
+    fuel: usize,
+) -> Put
     ensures { λ r. ⌜ wrote r (now (out .exit)) ≡ labelledIn (now (kinds .entry)) (now (numbers .entry)) count fuel subject (wrote at (now (out .entry))) ⌝ }
 {
     let a = heading(kinds, numbers, count, out, at, subject);
@@ -424,7 +538,16 @@ fn labelled(kinds: &[u8; 16385], numbers: &[u32; 16385], count: u16, out: &mut [
 }
 
 // Behind an item: `endcase`, or further items.
-fn items_behind(kinds: &[u8; 16385], numbers: &[u32; 16385], count: u16, out: &mut [u8; 65536], at: Put, c: Case, fuel: usize, turns: u16) -> Put
+fn items_behind(
+    kinds: &[u8; 16385],
+    numbers: &[u32; 16385],
+    count: u16,
+    out: &mut [u8; 65536],
+    at: Put,
+    c: Case,
+    fuel: usize,
+    turns: u16,
+) -> Put
     ensures { λ r. ⌜ wrote r (now (out .exit)) ≡ itemsBehindIn (now (kinds .entry)) (now (numbers .entry)) count fuel turns c (wrote at (now (out .entry))) ⌝ }
 {
     if is_next(kinds, 13, at) {
@@ -434,7 +557,16 @@ fn items_behind(kinds: &[u8; 16385], numbers: &[u32; 16385], count: u16, out: &m
 }
 
 // A case's items.
-fn case_items(kinds: &[u8; 16385], numbers: &[u32; 16385], count: u16, out: &mut [u8; 65536], at: Put, c: Case, fuel: usize, turns: u16) -> Put
+fn case_items(
+    kinds: &[u8; 16385],
+    numbers: &[u32; 16385],
+    count: u16,
+    out: &mut [u8; 65536],
+    at: Put,
+    c: Case,
+    fuel: usize,
+    turns: u16,
+) -> Put
     ensures { λ r. ⌜ wrote r (now (out .exit)) ≡ caseItemsIn (now (kinds .entry)) (now (numbers .entry)) count fuel turns c (wrote at (now (out .entry))) ⌝ }
 {
     if turns == 0 {
@@ -469,7 +601,14 @@ fn case_items(kinds: &[u8; 16385], numbers: &[u32; 16385], count: u16, out: &mut
 }
 
 // `case`.
-fn case_statement(kinds: &[u8; 16385], numbers: &[u32; 16385], count: u16, out: &mut [u8; 65536], at: Put, fuel: usize) -> Put
+fn case_statement(
+    kinds: &[u8; 16385],
+    numbers: &[u32; 16385],
+    count: u16,
+    out: &mut [u8; 65536],
+    at: Put,
+    fuel: usize,
+) -> Put
     ensures { λ r. ⌜ wrote r (now (out .exit)) ≡ caseStatementIn (now (kinds .entry)) (now (numbers .entry)) count fuel (wrote at (now (out .entry))) ⌝ }
 {
     let a = after(at);
@@ -486,7 +625,14 @@ fn case_statement(kinds: &[u8; 16385], numbers: &[u32; 16385], count: u16, out: 
 }
 
 // A statement, with so many levels left.
-pub fn statement(kinds: &[u8; 16385], numbers: &[u32; 16385], count: u16, out: &mut [u8; 65536], at: Put, fuel: usize) -> Put
+pub fn statement(
+    kinds: &[u8; 16385],
+    numbers: &[u32; 16385],
+    count: u16,
+    out: &mut [u8; 65536],
+    at: Put,
+    fuel: usize,
+) -> Put
     ensures { λ r. ⌜ wrote r (now (out .exit)) ≡ statementIn (now (kinds .entry)) (now (numbers .entry)) count fuel (wrote at (now (out .entry))) ⌝ }
 {
     if fuel == 0 {
