@@ -136,7 +136,8 @@ module _ (test : ℕ → Bool) where
   unfolding chosen
   chosen-more zero i = append-nil _ ∙ ap (here test) {x = i} {y = i + 0} (omega arith)
   chosen-more (suc n) i =
-      ap (λ l. here test i ++ l) (chosen-more n (i + 1) ∙ ap (λ k. chosen test n (i + 1) ++ here test k) {x = i + 1 + n} {y = i + suc n} (omega arith))
+      ap (λ l. here test i ++ l) (chosen-more n (i + 1)
+      ∙ ap (λ k. chosen test n (i + 1) ++ here test k) {x = i + 1 + n} {y = i + suc n} (omega arith))
       ∙ sym (append-assoc (here test i) (chosen test n (i + 1)) (here test (i + suc n)))
 
   pub chosen-next : (i : ℕ) → chosen test (i + 1) 0 ≡ chosen test i 0 ++ here test i

@@ -17,7 +17,8 @@ use Rattle.verilog_tokens.specs.Table.{kindOf, nameIn, namesIn, idOf, numberIn}
 use Rattle.verilog_tokens.specs.Table as Table
 use Rattle.verilog_grammar.specs.Meaning.{upTo, anInput, aRegister, aWire, Driven, Part}
 use Rattle.verilog_source.specs.Names as Source
-use Rattle.verilog_source.specs.Names.{Variable, variables, inOrder, declared, driven, threads, nameOf, used, faults, lower, lowest, numberOf}
+use Rattle.verilog_source.specs.Names.{Variable, variables, inOrder, declared, driven, threads}
+use Rattle.verilog_source.specs.Names.{nameOf, used, faults, lower, lowest, numberOf}
 use Rattle.verilog_source.specs.Written.{writtenWidths, valueFor, writtenWires, writtenThreads, written}
 use Rattle.verilog_names.specs.declared.Class.the-variants.{Used, Declared, Wire, Target}
 use Rattle.verilog_names.specs.declared.Fault.{Fault}
@@ -27,21 +28,13 @@ use Rattle.verilog_names.specs.Numbers.{ordered, placeOf, numberAt, numb
 use Rattle.verilog_names.specs.Head.{widthsOf, headOf}
 use Rattle.verilog_names.specs.Order.{firstOr, isTarget, targetOf}
 use Rattle.verilog_names.specs.Tables.{Along, none, next, Stands, Declares, Drives, Runs, Scanned, Noted}
-use Rattle.verilog_names.specs.Claims.{SameIds, faultBy, SameFaults, SameNumbers, SameHead, Found, SameTarget}
+use Rattle.verilog_names.specs.Claims.{SameIds, faultBy, SameFaults, Faultless, SameNumbers, SameHead, Found, SameTarget, WiresFound}
 use Rattle.verilog_names.proofs.Chosen.{here-in, here-out, chosen-none, chosen-suc}
 use Rattle.verilog_names.proofs.AtFault.{lower-most, lower-few}
+use Rattle.verilog_names.proofs.Kept.{kept, kept-chosen}
 use Rattle.verilog_names.proofs.Standing.{along-append, along-length, along-map, entry-at, same-ids, terminal-kind}
 
--- ---- those of some tokens that a test takes
-
-unfoldable kept : (ℕ → Bool) → List ℕ → List ℕ
-kept test [] = []
-kept test (t ∷ ts) = here test t ++ kept test ts
-
-kept-append : (test : ℕ → Bool) (xs ys : List ℕ) → kept test (xs ++ ys) ≡ kept test xs ++ kept test ys
-unfolding kept
-kept-append test [] ys = refl
-kept-append test (t ∷ xs) ys = ap (λ l. here test t ++ l) (kept-append test xs ys) ∙ sym (append-assoc (here test t) (kept test xs) (kept test ys))
+-- ---- the first of some tokens that a test takes
 
 first-same : (test : ℕ → Bool) (n t : ℕ) (xs : List ℕ) → test t ≡ true → firstOr n (kept test (t ∷ xs)) ≡ t
 unfolding kept firstOr
@@ -50,19 +43,6 @@ first-same test n t xs e = rw (here-in test t e)
 first-other : (test : ℕ → Bool) (n t : ℕ) (xs : List ℕ) → test t ≡ false → firstOr n (kept test (t ∷ xs)) ≡ firstOr n (kept test xs)
 unfolding kept
 first-other test n t xs e = rw (here-out test t e)
-
--- Two tests one after the other.
-kept-chosen : (a b : ℕ → Bool) (n i : ℕ) → chosen (λ k. pick (a k) (b k) false) n i ≡ kept b (chosen a n i)
-unfolding here chosen kept
-kept-chosen a b zero i = refl
-kept-chosen a b (suc n) i =
-    ap (λ l. here (λ k. pick (a k) (b k) false) i ++ l) (kept-chosen a b n (i + 1))
-    ∙ ap (λ l. l ++ kept b (chosen a n (i + 1))) (by (a i) refl)
-    ∙ sym (kept-append b (here a i) (chosen a n (i + 1)))
-  where
-    by : (t : Bool) → a i ≡ t → here (λ k. pick (a k) (b k) false) i ≡ kept b (here a i)
-    by true e = rw e (sym (append-nil (here b i)))
-    by false e = rw e
 
 -- ---- over the tables of tokens
 
@@ -129,10 +109,16 @@ module _ (ts : List Token) (kinds ids places : List ℕ) (sc : Scanned ts kinds 
   nearest-lowest t n s (next {a = u} {b = m} {xs = xs} {ys = ms} r p) =
       rw (sc .placed t n s) (ap (lower (n .place)) (nearest-lowest u m {xs = xs} {ns = ms} r p))
 
+  lowest-below : (n : Name) (ns : List Name) → n .place < 65536 → lowest n ns < 65536
+  unfolding lowest
+  lowest-below n [] h = h
+  lowest-below n (m ∷ ms) h = omega (arith, lower-few (n .place) (lowest m ms) (n .place) (omega arith))
+
   nearest-along : {xs : List ℕ} {ns : List Name} → Along (Stands ts) xs ns → faultAt (nearest places xs) ≡ faultBy ns
-  unfolding nearest faultBy
+  unfolding nearest faultBy faultAt
   nearest-along none = refl
-  nearest-along (next {a = t} {b = n} {xs = xs} {ys = ns} s p) = ap faultAt (nearest-lowest t n {xs = xs} {ns = ns} s p)
+  nearest-along (next {a = t} {b = n} {xs = xs} {ys = ns} s p) =
+      rw (nearest-lowest t n {xs = xs} {ns = ns} s p, lt-ltb (lowest n ns) 65536 (lowest-below n ns (sc .below t n s)))
 
   -- ---- names in use
 
@@ -271,6 +257,11 @@ unfolding SameFaults faultOf
 same-faults index ts ps kinds ids places roles widths sc nt =
     nearest-along ts kinds ids places sc (faults-along ts kinds ids places sc index ps roles widths nt)
 
+pub faultless : Faultless
+unfolding Faultless faultBy
+faultless [] e = refl
+faultless (n ∷ ns) e = cc
+
 pub same-numbers : SameNumbers
 unfolding SameNumbers numbered
 same-numbers index ts ps kinds ids places roles widths table sc nt h =
@@ -309,3 +300,38 @@ same-target index ts ps kinds ids places roles widths sc nt t n r e =
       drives = rw (kept-chosen (hasRole roles 4) same (length ts) 0) (f .1);
       value = f .2;
     }
+
+-- ---- all wires
+
+right-empty : {A : Type 0} (xs ys : List A) → xs ++ ys ≡ [] → ys ≡ []
+right-empty [] ys e = e
+right-empty (x ∷ xs) ys e = cc
+
+-- The first of some names is among others, and so are the rest.
+all-among : (ms : List Name) (n : Name) (ns : List Name) → Source.missing (n ∷ ns) ms ≡ []
+    → (Source.isAmong ms n ≡ true) × (Source.missing ns ms ≡ [])
+unfolding Source.missing
+all-among ms n ns e = by (Source.isAmong ms n) refl e
+  where
+    by : (b : Bool) → Source.isAmong ms n ≡ b → pick b [] (n ∷ []) ++ Source.missing ns ms ≡ []
+        → (Source.isAmong ms n ≡ true) × (Source.missing ns ms ≡ [])
+    by true q e = (q, e)
+    by false q e = let z : _≡_ {A = ℕ} 0 1 = cc in absurd (omega arith)
+
+module _ (index : List ℕ → ℕ) (ts : List Token) (ps : List Part) (kinds ids places roles widths : List ℕ)
+    (sc : Scanned ts kinds ids places) (nt : Noted index ts ps roles widths) where
+  found-along : {xs : List ℕ} {vs : List Variable} → Along (Declares ts widths) xs vs
+      → Source.missing (map nameOf vs) (map Source.targetOf (driven ps)) ≡ []
+      → Along (λ (t : ℕ) (v : Variable). Found index ts ps (targetOf ids roles (length ts) (getD ids t 0)) (v .named .spelled)) xs vs
+  unfolding SameTarget nameOf
+  found-along none e = none
+  found-along (next {a = t} {b = v} {xs = xs} {ys = vs} r p) e =
+      let f = all-among (map Source.targetOf (driven ps)) (v .named) (map nameOf vs) e in
+      next
+      (same-target index ts ps kinds ids places roles widths sc nt t (v .named) (r .named) (f .0))
+      (found-along {xs = xs} {vs = vs} p (f .1))
+
+pub wires-found : WiresFound
+unfolding WiresFound faults
+wires-found index ts ps kinds ids places roles widths sc nt e =
+    found-along index ts ps kinds ids places roles widths sc nt (nt .wires) (right-empty _ _ e)

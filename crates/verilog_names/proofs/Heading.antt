@@ -57,6 +57,10 @@ module _ (roles widths : List ℕ) (count n : ℕ) (e : n ≡ capped count) wher
   unfolding headOf ordered
   head-put t a b c d f g u p q r s v w z =
       both t d u _ _ (both t c d _ _ (both t b c _ _ (both t a b _ _ p q) r) s) (both d g u _ _ (both d f g _ _ v w) z)
-      ∙ ap (λ l. puts t (upTo 16 (countOf roles n 1) ∷ upTo 32 (countOf roles n 2) ∷ upTo 32 (countOf roles n 3) ∷ upTo 8 (countOf roles n 5) ∷ l))
+      ∙ ap (λ l. puts t (counts ++ l))
       (simp widths-append)
       ∙ ap (λ k. puts t (headOf roles widths k)) e
+    where
+      counts : List ℕ
+      counts =
+          upTo 16 (countOf roles n 1) ∷ upTo 32 (countOf roles n 2) ∷ upTo 32 (countOf roles n 3) ∷ upTo 8 (countOf roles n 5) ∷ []

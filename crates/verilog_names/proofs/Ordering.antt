@@ -1,8 +1,9 @@
 -- Laws of the next token of a kind. Assumes nothing.
 use mathlib.Core.Path.{_≡_, refl, sym, _∙_, ap}
 use mathlib.Core.Bool.{Bool, true, false}
-use mathlib.Core.List.{List, [], _∷_}
-use Prim.Native.Nat.{ℕ, _+_, _-_, _<_, _≤_}
+use mathlib.Core.List.{List, [], _∷_, _++_}
+use Prim.Native.Nat.{ℕ, zero, suc, _+_, _-_, _<_, _≤_}
+use native.Mathlib.Omega.{arith}
 use lib.Dec.{eqb}
 use lib.ListN.{getD}
 use Rattle.verilog_names.specs.Chosen.{capped, chosen, hasRole}
@@ -38,3 +39,46 @@ module _ (ids roles : List ℕ) (x i : ℕ) where
   pub target-out : hasRole roles 4 i ≡ false → false ≡ isTarget ids roles x i
   unfolding isTarget
   target-out e = rw e
+
+-- ---- all tokens of a role, one after the other
+
+module _ (test : ℕ → Bool) (n : ℕ) where
+  first-list : (m i : ℕ) → i + m ≡ n → firstOr n (chosen test m i) < n
+      → chosen test m i ≡ firstOr n (chosen test m i) ∷
+      chosen test (n - (firstOr n (chosen test m i) + 1)) (firstOr n (chosen test m i) + 1)
+  unfolding chosen firstOr
+  first-list zero i e h = absurd (omega arith)
+  first-list (suc m) i e h = by (test i) refl (first-list m (i + 1) (omega arith)) h
+    where
+      Goal : Type 0
+      Goal =
+          chosen test (suc m) i ≡ firstOr n (chosen test (suc m) i) ∷
+          chosen test (n - (firstOr n (chosen test (suc m) i) + 1)) (firstOr n (chosen test (suc m) i) + 1)
+
+      by : (t : Bool) → test i ≡ t
+          → (firstOr n (chosen test m (i + 1)) < n → chosen test m (i + 1) ≡ firstOr n (chosen test m (i + 1)) ∷
+          chosen test (n - (firstOr n (chosen test m (i + 1)) + 1)) (firstOr n (chosen test m (i + 1)) + 1))
+          → firstOr n (chosen test (suc m) i) < n → Goal
+      by true q f h = rw (here-in test i q) (ap (λ k. i ∷ chosen test k (i + 1)) {x = m} {y = n - (i + 1)} (omega arith))
+      by false q f h = rw (here-out test i q) (f (rw (here-out test i q) at h))
+
+  first-none : (m i : ℕ) → i + m ≡ n → n ≤ firstOr n (chosen test m i) → chosen test m i ≡ []
+  unfolding chosen firstOr
+  first-none zero i e h = refl
+  first-none (suc m) i e h = by (test i) refl (first-none m (i + 1) (omega arith)) h
+    where
+      by : (t : Bool) → test i ≡ t → (n ≤ firstOr n (chosen test m (i + 1)) → chosen test m (i + 1) ≡ [])
+          → n ≤ firstOr n (chosen test (suc m) i) → chosen test (suc m) i ≡ []
+      by true q f h = let l = rw (here-in test i q) at h in absurd (omega arith)
+      by false q f h = rw (here-out test i q) (f (rw (here-out test i q) at h))
+
+module _ (roles : List ℕ) (n r i : ℕ) (h : i ≤ n) where
+  pub next-some : nextOf roles n r i < n
+      → chosen (hasRole roles r) (n - i) i ≡ nextOf roles n r i ∷
+      chosen (hasRole roles r) (n - (nextOf roles n r i + 1)) (nextOf roles n r i + 1)
+  unfolding nextOf
+  next-some l = first-list (hasRole roles r) n (n - i) i (omega arith) l
+
+  pub next-none : n ≤ nextOf roles n r i → chosen (hasRole roles r) (n - i) i ≡ []
+  unfolding nextOf
+  next-none l = first-none (hasRole roles r) n (n - i) i (omega arith) l

@@ -1,23 +1,24 @@
 -- What is claimed of a text whose tables hold what `Tables` says. `proofs/Claims.antt` shows all of it.
 use mathlib.Core.Path.{_≡_}
-use mathlib.Core.Bool.{true}
+use mathlib.Core.Bool.{true, false}
 use mathlib.Core.List.{List, [], _∷_, _++_, map}
 use Prim.Native.Nat.{ℕ, _≤_}
 use lib.Dec.{eqb}
 use lib.ListN.{length, getD, drop}
 use Rattle.naming.specs.Naming.{sameText}
-use Rattle.verilog_tokens.specs.Tokens.{Token, Name}
-use Rattle.verilog_tokens.specs.Table.{numberIn, idOf}
+use Rattle.verilog_tokens.specs.Tokens.{Token, Name, tokens, places}
+use Rattle.verilog_tokens.specs.Table.{kinds, numbers, numberIn, idOf}
 use Rattle.verilog_grammar.specs.Meaning.{aWire, Driven, Part}
 use Rattle.verilog_source.specs.Names as Source
-use Rattle.verilog_source.specs.Names.{variables, driven, threads, numberOf, faults, lowest}
+use Rattle.verilog_source.specs.Names.{Variable, variables, driven, threads, numberOf, faults, lowest}
 use Rattle.verilog_source.specs.Written.{valueFor, writtenWires, writtenThreads, written}
 use Rattle.verilog_names.specs.declared.Fault.{Fault}
-use Rattle.verilog_names.specs.Faults.{faultAt, faultOf}
-use Rattle.verilog_names.specs.Numbers.{numbersFrom, numbered}
+use Rattle.verilog_names.specs.Chosen.{chosen, hasRole}
+use Rattle.verilog_names.specs.Faults.{faultOf}
+use Rattle.verilog_names.specs.Numbers.{numbered}
 use Rattle.verilog_names.specs.Head.{headOf}
 use Rattle.verilog_names.specs.Order.{targetOf}
-use Rattle.verilog_names.specs.Tables.{Stands, Drives, Scanned, Noted}
+use Rattle.verilog_names.specs.Tables.{Along, Stands, Drives, Scanned, Noted}
 
 -- ---- ids are equal exactly where the spellings are
 
@@ -25,16 +26,25 @@ unfoldable pub SameIds : Type 0
 SameIds = (ts : List Token) (t : ℕ) (m : Name) (s : List ℕ) → Stands ts t m
     → eqb (idOf ts (m .spelled)) (idOf ts s) ≡ sameText (m .spelled) s
 
+-- ---- the tables of a text, in front of anything
+
+unfoldable pub OfText : Type 0
+OfText = (text ks is qs : List ℕ) → length text ≤ 16384 → Scanned (tokens text) (kinds text ++ ks) (numbers text ++ is) (places text ++ qs)
+
 -- ---- 43: a fault is found exactly where `faults` has one, and then its place is the lowest
 
 unfoldable pub faultBy : List Name → Fault
-faultBy [] = faultAt 65536
-faultBy (n ∷ ns) = faultAt (lowest n ns)
+faultBy [] = record { found = false; place = 65536 }
+faultBy (n ∷ ns) = record { found = true; place = lowest n ns }
 
 unfoldable pub SameFaults : Type 0
 SameFaults = (index : List ℕ → ℕ) (ts : List Token) (ps : List Part) (kinds ids places roles widths : List ℕ)
     → Scanned ts kinds ids places → Noted index ts ps roles widths
     → faultOf kinds ids places roles (length ts) ≡ faultBy (faults ts ps)
+
+-- None is found exactly where there is none.
+unfoldable pub Faultless : Type 0
+Faultless = (ns : List Name) → faultBy ns .found ≡ false → ns ≡ []
 
 -- ---- numbers: each name has its variable's
 
@@ -61,3 +71,11 @@ SameTarget = (index : List ℕ → ℕ) (ts : List Token) (ps : List Part) (kind
     → Scanned ts kinds ids places → Noted index ts ps roles widths
     → (t : ℕ) (n : Name) → Stands ts t n → Source.isAmong (map Source.targetOf (driven ps)) n ≡ true
     → Found index ts ps (targetOf ids roles (length ts) (getD ids t 0)) (n .spelled)
+
+-- Where no name is at fault, each wire's declaration finds its target.
+unfoldable pub WiresFound : Type 0
+WiresFound = (index : List ℕ → ℕ) (ts : List Token) (ps : List Part) (kinds ids places roles widths : List ℕ)
+    → Scanned ts kinds ids places → Noted index ts ps roles widths → faults ts ps ≡ []
+    → Along (λ (t : ℕ) (v : Variable). Found index ts ps (targetOf ids roles (length ts) (getD ids t 0)) (v .named .spelled))
+    (chosen (hasRole roles 3) (length ts) 0)
+    (variables aWire ps)

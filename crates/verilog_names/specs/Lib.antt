@@ -5,3 +5,4 @@ pub mod Head
 pub mod Order
 pub mod Tables
 pub mod Claims
+pub mod Entries

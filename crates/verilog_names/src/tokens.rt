@@ -6,14 +6,14 @@ ghost use Rattle.verilog_grammar.specs.Meaning.{upTo};
 ghost use Rattle.verilog_names.specs.Chosen.{capped, countOf, hasRole, isUsed, isDeclared, isIn};
 
 // A table has 16,385 entries.
-pub fn capped(count: usize) -> usize
+pub(crate) fn capped(count: usize) -> usize
     ensures { λ r. ⌜ r ≡ capped count ⌝ }
 {
     if count < 16385 { count } else { 16385 }
 }
 
 // Is the token of that role?
-pub fn has_role(roles: &[u8; 16385], role: u8, i: usize) -> bool
+pub(crate) fn has_role(roles: &[u8; 16385], role: u8, i: usize) -> bool
     requires { ⌜ i < 16385 ⌝ }
     ensures { λ r. ⌜ r ≡ hasRole (now (roles .entry)) role i ⌝ }
 {
@@ -43,7 +43,7 @@ fn is_declared(roles: &[u8; 16385], i: usize) -> bool
 }
 
 // Is the token of that kind?
-pub fn is_in(kinds: &[u8; 16385], roles: &[u8; 16385], class: Class, i: usize) -> bool
+pub(crate) fn is_in(kinds: &[u8; 16385], roles: &[u8; 16385], class: Class, i: usize) -> bool
     requires { ⌜ i < 16385 ⌝ }
     ensures { λ r. ⌜ r ≡ isIn (now (kinds .entry)) (now (roles .entry)) class i ⌝ }
 {
@@ -56,7 +56,7 @@ pub fn is_in(kinds: &[u8; 16385], roles: &[u8; 16385], class: Class, i: usize) -
 }
 
 // How many tokens of a role there are.
-pub fn count_of(roles: &[u8; 16385], count: usize, role: u8) -> usize
+pub(crate) fn count_of(roles: &[u8; 16385], count: usize, role: u8) -> usize
     requires { ⌜ count ≤ 16385 ⌝ }
     ensures { λ r. ⌜ r ≡ countOf (now (roles .entry)) count role ⌝ }
 {
@@ -72,7 +72,7 @@ pub fn count_of(roles: &[u8; 16385], count: usize, role: u8) -> usize
 }
 
 // "a count or width past 01's range is written as 255"
-pub fn up_to(most: u8, n: usize) -> u8
+pub(crate) fn up_to(most: u8, n: usize) -> u8
     ensures { λ r. ⌜ r ≡ upTo most n ⌝ }
 {
     if n <= most as usize { n as u8 } else { 255 }

@@ -7,9 +7,18 @@ use Rattle.verilog_names.proofs.faults.first_fault.Tie as tie
 
 returns : tie.Need-returns
 returns c =
-    let faults = c .before .before .before .before .missing3 in
-    fault-all _ _ _ _ _ _ _ _ _ _ _ _ _ _ _ (c .before .before .before .before .before .before .before .before .before .capped .ensures) (c .before .before .before .before .before .before .before .before .missing .ensures) (c .before .before .before .before .before .before .before .repeated .ensures) (c .before .before .before .before .before .before .missing2 .ensures)
-    (c .before .before .before .before .before .repeated2 .ensures) (faults .ensures) (c .before .before .before .lower .ensures) (c .before .before .lower2 .ensures) (c .before .lower3 .ensures) (c .lower4 .ensures)
+    let at-lower = c .before .before .before in
+    let at-missing3 = at-lower .before in
+    let at-repeated2 = at-missing3 .before in
+    let at-missing2 = at-repeated2 .before in
+    let at-repeated = at-missing2 .before in
+    let at-missing = at-repeated .before in
+    let at-capped = at-missing .before in
+    let faults = at-missing3 .missing3 in
+    fault-all _ _ _ _ _ _ _ _ _ _ _ _ _ _ _ (at-capped .capped .ensures) (at-missing .missing .ensures)
+    (at-repeated .repeated .ensures) (at-missing2 .missing2 .ensures)
+    (at-repeated2 .repeated2 .ensures) (faults .ensures) (at-lower .lower .ensures) (c .before .before .lower2 .ensures)
+    (c .before .lower3 .ensures) (c .lower4 .ensures)
 
 pub first-fault-spec : {M : Type 1} → statement M
 first-fault-spec =

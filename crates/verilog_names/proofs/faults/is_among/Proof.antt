@@ -19,11 +19,14 @@ abbrev μ-loop : tie.MeasureT-loop
 
 returns : tie.Need-returns Inv-loop μ-loop
 returns c =
-    sym (among-found _ _ _ _ _ (c .before .before .loop-test .taken) (sym (c .before .is-such .ensures) ∙ c .if1 .taken)) ∙ c .before .before .before .loop .inv
+    let at-loop = c .before .before .before in
+    sym (among-found _ _ _ _ _ (c .before .before .loop-test .taken) (sym (c .before .is-such .ensures) ∙ c .if1 .taken))
+    ∙ at-loop .loop .inv
 
 loop-again : tie.Need-loop-again Inv-loop μ-loop
 loop-again c =
-    sym (among-on _ _ _ _ _ (c .before .before .loop-test .taken) (sym (c .before .is-such .ensures) ∙ c .if1 .left)) ∙ c .before .before .before .loop .inv
+    let at-loop = c .before .before .before in
+    sym (among-on _ _ _ _ _ (c .before .before .loop-test .taken) (sym (c .before .is-such .ensures) ∙ c .if1 .left)) ∙ at-loop .loop .inv
 
 pub is-among-spec : {M : Type 1} → statement M
 is-among-spec =

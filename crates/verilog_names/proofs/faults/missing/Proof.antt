@@ -22,10 +22,12 @@ abbrev μ-loop : tie.MeasureT-loop
 μ-loop kinds numbers places roles count a b best₀ i₀ best i = count - i
 
 loop-again : tie.Need-loop-again Inv-loop μ-loop
-loop-again c = (
-  lower-kept _ _ _ _ (c .lower .ensures) (c .before .before .before .loop .inv .0),
-  missing-turn _ _ _ _ _ _ _ _ _ _ (c .before .before .loop-test .taken) (c .before .missing-at .ensures) (c .lower .ensures) (c .before .before .before .loop .inv .1),
-)
+loop-again c =
+    let at-loop = c .before .before .before in (
+      lower-kept _ _ _ _ (c .lower .ensures) (at-loop .loop .inv .0),
+      missing-turn _ _ _ _ _ _ _ _ _ _ (c .before .before .loop-test .taken) (c .before .missing-at .ensures)
+          (c .lower .ensures) (at-loop .loop .inv .1),
+    )
 
 returns : tie.Need-returns Inv-loop μ-loop
 returns c =

@@ -6,7 +6,8 @@ use Rattle.verilog_names.proofs.head.put_count.Tie as tie
 
 returns : tie.Need-returns
 returns c =
-    count-put _ _ _ _ _ _ (c .before .before .before .count-of .ensures) (c .before .before .up-to .ensures) (c .put-byte .ensures)
+    let at-count-of = c .before .before .before in
+    count-put _ _ _ _ _ _ (at-count-of .count-of .ensures) (c .before .before .up-to .ensures) (c .put-byte .ensures)
 
 pub put-count-spec : {M : Type 1} → statement M
 put-count-spec =

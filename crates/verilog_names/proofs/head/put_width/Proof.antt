@@ -7,7 +7,9 @@ use Rattle.verilog_names.proofs.head.put_width.Tie as tie
 
 returns : tie.Need-returns
 returns c =
-    width-in _ _ _ _ _ (sym (c .before .before .before .before .has-role .ensures) ∙ c .before .before .before .if1 .taken) (c .put-byte .ensures)
+    let at-if1 = c .before .before .before in
+    let at-has-role = at-if1 .before in
+    width-in _ _ _ _ _ (sym (at-has-role .has-role .ensures) ∙ at-if1 .if1 .taken) (c .put-byte .ensures)
 
 pub put-width-spec : {M : Type 1} → statement M
 put-width-spec =

@@ -21,7 +21,8 @@ abbrev μ-loop : tie.MeasureT-loop
 
 loop-again : tie.Need-loop-again Inv-loop μ-loop
 loop-again c =
-    widths-turn _ _ _ _ _ _ _ (c .before .before .loop-test .taken) (c .put-width .ensures) (c .before .before .before .loop .inv)
+    let at-loop = c .before .before .before in
+    widths-turn _ _ _ _ _ _ _ (c .before .before .loop-test .taken) (c .put-width .ensures) (at-loop .loop .inv)
 
 pub put-widths-spec : {M : Type 1} → statement M
 put-widths-spec =

@@ -20,19 +20,25 @@ abbrev μ-loop : tie.MeasureT-loop
 
 number-at-requires : tie.Need-number-at-requires Inv-loop μ-loop
 number-at-requires c κs =
-    (capped-kept _ _ (c .before .before .before .before .capped .ensures), (c .before .before .before .count-of .ensures, (c .before .before .count-of2 .ensures, omega (arith, capped-kept _ _ (c .before .before .before .before .capped .ensures)))))
+    let at-count-of = c .before .before .before in
+    let at-capped = at-count-of .before in
+    let few = capped-kept _ _ (at-capped .capped .ensures) in
+    (few, (at-count-of .count-of .ensures, (c .before .before .count-of2 .ensures, omega (arith, few))))
 
 mul-out : tie.Need-mul-out Inv-loop μ-loop
 mul-out c =
-    omega (arith, capped-kept _ _ (c .before .before .before .before .before .capped .ensures))
+    let at-capped = c .before .before .before .before .before in
+    omega (arith, capped-kept _ _ (at-capped .capped .ensures))
 
 element-write-out : tie.Need-element-write-out Inv-loop μ-loop
 element-write-out c =
-    omega (arith, capped-kept _ _ (c .before .before .before .before .before .capped .ensures))
+    let at-capped = c .before .before .before .before .before in
+    omega (arith, capped-kept _ _ (at-capped .capped .ensures))
 
 add-i : tie.Need-add-i Inv-loop μ-loop
 add-i c =
-    omega (arith, capped-kept _ _ (c .before .before .before .before .before .capped .ensures))
+    let at-capped = c .before .before .before .before .before in
+    omega (arith, capped-kept _ _ (at-capped .capped .ensures))
 
 loop-again : tie.Need-loop-again Inv-loop μ-loop
 loop-again c =
@@ -40,7 +46,8 @@ loop-again c =
 
 returns : tie.Need-returns Inv-loop μ-loop
 returns c =
-    numbers-over _ _ _ _ _ _ _ _ (c .loop-test .left) (c .before .before .before .before .capped .ensures) (c .before .loop .inv)
+    let at-capped = c .before .before .before .before in
+    numbers-over _ _ _ _ _ _ _ _ (c .loop-test .left) (at-capped .capped .ensures) (c .before .loop .inv)
 
 pub number-spec : {M : Type 1} → statement M
 number-spec =

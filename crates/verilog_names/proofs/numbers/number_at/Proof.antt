@@ -6,7 +6,9 @@ use Rattle.verilog_names.proofs.numbers.number_at.Tie as tie
 
 returns-2 : tie.Need-returns-2
 returns-2 c =
-    number-name _ _ _ _ _ _ _ _ (c .before .before .before .if1 .left) (c .before .before .variable-of .ensures) (c .before .up-to .ensures) (c .entry .ensures)
+    let at-if1 = c .before .before .before in
+    number-name _ _ _ _ _ _ _ _ (at-if1 .if1 .left) (c .before .before .variable-of .ensures) (c .before .up-to .ensures)
+    (c .entry .ensures)
 
 pub number-at-spec : {M : Type 1} → statement M
 number-at-spec =

@@ -22,21 +22,35 @@ abbrev μ-loop : tie.MeasureT-loop
 
 returns : tie.Need-returns Inv-loop μ-loop
 returns c =
-    let a = c .before .before .before .before .before .before .args in
-    let l = c .before .before .before .before .before .loop in
+    let at-has-role = c .before .before .before in
+    let at-loop-test = at-has-role .before in
+    let at-loop = at-loop-test .before in
+    let at-start = at-loop .before in
+    let a = at-start .args in
+    let l = at-loop .loop in
     let test = hasRole (a .roles .now) (a .role) in
-    omega (arith, place-found (a .numbers .now) (a .id) test (a .count) (l .i) (c .before .before .before .before .loop-test .taken) (sym (c .before .before .before .has-role .ensures) ∙ c .before .before .if1 .taken) (c .if2 .taken))
+    omega (
+      arith,
+      place-found (a .numbers .now) (a .id) test (a .count) (l .i) (at-loop-test .loop-test .taken)
+          (sym (at-has-role .has-role .ensures) ∙ c .before .before .if1 .taken) (c .if2 .taken),
+    )
 
 loop-again : tie.Need-loop-again Inv-loop μ-loop
 loop-again c =
-    let a = c .before .before .before .before .args in
-    let l = c .before .before .before .loop in
+    let at-loop = c .before .before .before in
+    let at-start = at-loop .before in
+    let a = at-start .args in
+    let l = at-loop .loop in
     let h = c .before .before .loop-test .taken in
     let test = hasRole (a .roles .now) (a .role) in
     ⊎-elim
     (λ w. (
       omega (arith, w .3),
-      omega (arith, w .3, place-past (a .numbers .now) (a .id) test (a .count) (l .i) h (sym (c .before .has-role .ensures) ∙ w .0 .taken) (w .2 .left)),
+      omega (
+        arith,
+        w .3,
+        place-past (a .numbers .now) (a .id) test (a .count) (l .i) h (sym (c .before .has-role .ensures) ∙ w .0 .taken) (w .2 .left),
+      ),
     ))
     (λ w. (
       omega (arith, w .1),
@@ -47,7 +61,10 @@ loop-again c =
 returns-2 : tie.Need-returns-2 Inv-loop μ-loop
 returns-2 c =
     let a = c .before .before .args in
-    omega (arith, place-done (a .numbers .now) (a .id) (hasRole (a .roles .now) (a .role)) (a .count) (c .before .loop .i) (c .loop-test .left))
+    omega (
+      arith,
+      place-done (a .numbers .now) (a .id) (hasRole (a .roles .now) (a .role)) (a .count) (c .before .loop .i) (c .loop-test .left),
+    )
 
 pub place-of-spec : {M : Type 1} → statement M
 place-of-spec =

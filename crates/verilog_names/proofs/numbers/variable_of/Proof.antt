@@ -11,24 +11,43 @@ returns c =
 
 add-result : tie.Need-add-result
 add-result c =
-    omega (arith, count-fits _ _ _ _ (c .before .before .before .before .pre .1 .0) (c .before .before .before .before .pre .0), place-fits _ _ _ _ _ _ (c .before .place-of2 .ensures) (c .before .before .before .before .pre .0))
+    let at-start = c .before .before .before .before in
+    omega (
+      arith,
+      count-fits _ _ _ _ (at-start .pre .1 .0) (at-start .pre .0),
+      place-fits _ _ _ _ _ _ (c .before .place-of2 .ensures) (at-start .pre .0),
+    )
 
 returns-2 : tie.Need-returns-2
 returns-2 c =
-    place-register _ _ _ _ _ _ _ (c .before .before .before .place-of .ensures) (c .before .before .before .before .pre .1 .0) (c .before .before .if1 .left) (c .before .place-of2 .ensures) (rw (c .before .before .before .before .pre .1 .1) at (c .if2 .taken))
+    let at-place-of = c .before .before .before in
+    let at-start = at-place-of .before in
+    place-register _ _ _ _ _ _ _ (at-place-of .place-of .ensures) (at-start .pre .1 .0) (c .before .before .if1 .left)
+    (c .before .place-of2 .ensures) (rw (at-start .pre .1 .1) at (c .if2 .taken))
 
 add-result-2 : tie.Need-add-result-2
 add-result-2 c =
-    omega (arith, count-fits _ _ _ _ (c .before .before .before .before .before .pre .1 .0) (c .before .before .before .before .before .pre .0), count-fits _ _ _ _ (c .before .before .before .before .before .pre .1 .1) (c .before .before .before .before .before .pre .0))
+    let at-start = c .before .before .before .before .before in
+    omega (arith, count-fits _ _ _ _ (at-start .pre .1 .0) (at-start .pre .0), count-fits _ _ _ _ (at-start .pre .1 .1) (at-start .pre .0))
 
 add-result-3 : tie.Need-add-result-3
 add-result-3 c =
-    omega (arith, count-fits _ _ _ _ (c .before .before .before .before .before .pre .1 .0) (c .before .before .before .before .before .pre .0), count-fits _ _ _ _ (c .before .before .before .before .before .pre .1 .1) (c .before .before .before .before .before .pre .0), place-fits _ _ _ _ _ _ (c .place-of3 .ensures) (c .before .before .before .before .before .pre .0))
+    let at-start = c .before .before .before .before .before in
+    omega (
+      arith,
+      count-fits _ _ _ _ (at-start .pre .1 .0) (at-start .pre .0),
+      count-fits _ _ _ _ (at-start .pre .1 .1) (at-start .pre .0),
+      place-fits _ _ _ _ _ _ (c .place-of3 .ensures) (at-start .pre .0),
+    )
 
 returns-3 : tie.Need-returns-3
 returns-3 c =
-    let p = c .before .before .before .before .before .pre in
-    place-wire _ _ _ _ _ _ _ _ _ (c .before .before .before .before .place-of .ensures) (p .1 .0) (c .before .before .before .if1 .left) (c .before .before .place-of2 .ensures) (p .1 .1) (c .before .if2 .left) (c .place-of3 .ensures)
+    let at-if1 = c .before .before .before in
+    let at-place-of = at-if1 .before in
+    let at-start = at-place-of .before in
+    let p = at-start .pre in
+    place-wire _ _ _ _ _ _ _ _ _ (at-place-of .place-of .ensures) (p .1 .0) (at-if1 .if1 .left)
+    (c .before .before .place-of2 .ensures) (p .1 .1) (c .before .if2 .left) (c .place-of3 .ensures)
 
 pub variable-of-spec : {M : Type 1} → statement M
 variable-of-spec =

@@ -20,11 +20,16 @@ abbrev μ-loop : tie.MeasureT-loop
 
 returns : tie.Need-returns Inv-loop μ-loop
 returns c =
-    sym (first-here _ _ _ (c .before .before .loop-test .taken) (sym (c .before .has-role .ensures) ∙ c .if1 .taken)) ∙ c .before .before .before .loop .inv ∙ next-all _ _ _ (c .before .before .before .before .capped .ensures) _ _
+    let at-loop = c .before .before .before in
+    let at-capped = at-loop .before in
+    sym (first-here _ _ _ (c .before .before .loop-test .taken) (sym (c .before .has-role .ensures) ∙ c .if1 .taken))
+    ∙ at-loop .loop .inv
+    ∙ next-all _ _ _ (at-capped .capped .ensures) _ _
 
 loop-again : tie.Need-loop-again Inv-loop μ-loop
 loop-again c =
-    sym (first-on _ _ _ (c .before .before .loop-test .taken) (sym (c .before .has-role .ensures) ∙ c .if1 .left)) ∙ c .before .before .before .loop .inv
+    let at-loop = c .before .before .before in
+    sym (first-on _ _ _ (c .before .before .loop-test .taken) (sym (c .before .has-role .ensures) ∙ c .if1 .left)) ∙ at-loop .loop .inv
 
 returns-2 : tie.Need-returns-2 Inv-loop μ-loop
 returns-2 c =

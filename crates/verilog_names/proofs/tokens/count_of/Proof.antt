@@ -20,20 +20,29 @@ abbrev μ-loop : tie.MeasureT-loop
 
 add-n : tie.Need-add-n Inv-loop μ-loop
 add-n c =
-    omega (arith, chosen-few (hasRole (c .before .before .before .before .args .roles .now) (c .before .before .before .before .args .role)) (c .before .before .before .before .args .count) 0)
+    let at-start = c .before .before .before .before in
+    omega (arith, chosen-few (hasRole (at-start .args .roles .now) (at-start .args .role)) (at-start .args .count) 0)
 
 loop-again : tie.Need-loop-again Inv-loop μ-loop
 loop-again c =
-    let test = hasRole (c .before .before .before .before .args .roles .now) (c .before .before .before .before .args .role) in
+    let at-loop = c .before .before .before in
+    let at-start = at-loop .before in
+    let test = hasRole (at-start .args .roles .now) (at-start .args .role) in
+    let n = at-start .args .count in
+    let i = at-loop .loop .i in
     let step = c .before .before .loop-test .taken in
     ⊎-elim
-    (λ w. omega (arith, w .1, count-in test (c .before .before .before .before .args .count) (c .before .before .before .loop .i) step (sym (c .before .has-role .ensures) ∙ w .0 .taken)))
-    (λ w. omega (arith, w .1, count-out test (c .before .before .before .before .args .count) (c .before .before .before .loop .i) step (sym (c .before .has-role .ensures) ∙ w .0 .left)))
+    (λ w. omega (arith, w .1, count-in test n i step (sym (c .before .has-role .ensures) ∙ w .0 .taken)))
+    (λ w. omega (arith, w .1, count-out test n i step (sym (c .before .has-role .ensures) ∙ w .0 .left)))
     (c .if1 .came)
 
 returns : tie.Need-returns Inv-loop μ-loop
 returns c =
-    omega (arith, count-done (hasRole (c .before .before .args .roles .now) (c .before .before .args .role)) (c .before .before .args .count) (c .before .loop .i) (c .loop-test .left))
+    omega (
+      arith,
+      count-done (hasRole (c .before .before .args .roles .now) (c .before .before .args .role))
+          (c .before .before .args .count) (c .before .loop .i) (c .loop-test .left),
+    )
 
 pub count-of-spec : {M : Type 1} → statement M
 count-of-spec =
