@@ -7,7 +7,7 @@ use Prim.Native.Nat.{ℕ, suc, _+_, _-_, _≤_, min}
 use native.Mathlib.Omega.{arith}
 use lib.Dec.{ltb}
 use lib.ListN.{length, take, drop, set, length-append, length-set, take-append-drop}
-use lib.Seq.{take-at, take-suc-set}
+use lib.Seq.{take-at, take-suc-set, take-set-lt, set-at}
 use borrow.Author.Tests.{ltb-true, ltb-false}
 use Rattle.writing.specs.Buffer.{filled, put, puts}
 use Rattle.writing.proofs.Buffer.{put-in, put-full, puts-cons, puts-nil}
@@ -97,3 +97,24 @@ unfolding fronted behind
 held-fronted {bs} {q} from l a xs e held =
     let h = held-puts xs held in
     rw (e, held .place) (held-turned l a xs (rw (append-assoc l a xs, held .place) at h))
+
+-- ---- a byte in place of another
+
+pub held-set : {bs : List ℕ} {q : ℕ} (p : ℕ) (l r : List ℕ) (b c : ℕ) → p ≡ placeOf l → Held bs q (l ++ b ∷ r)
+    → Held (set bs p c) q (l ++ c ∷ r)
+held-set {bs} {q} p l r b c e held = record {
+  room = length-set bs p c ∙ held .room;
+  place = held .place ∙ ap (λ n. min n 65536) (long b ∙ sym (long c));
+  front = λ h. set-front (omega (arith, long c));
+}
+  where
+    long : (x : ℕ) → length (l ++ x ∷ r) ≡ length l + suc (length r)
+    long x = length-append l (x ∷ r)
+
+    set-front : length l + suc (length r) ≤ 65536 → take (length (l ++ c ∷ r)) (set bs p c) ≡ l ++ c ∷ r
+    set-front h =
+        let n : length (l ++ c ∷ r) ≡ length (l ++ b ∷ r) = long c ∙ sym (long b) in
+        let at : p ≡ length l = omega arith in
+        let kept : take (length (l ++ b ∷ r)) bs ≡ l ++ b ∷ r = held .front (omega (arith, long b)) in
+        ap (λ k. take k (set bs p c)) n ∙ take-set-lt (length (l ++ b ∷ r)) bs p c (omega (arith, long b))
+        ∙ ap (λ x. set x p c) kept ∙ set-at l b r c p (sym at)

@@ -1,14 +1,12 @@
 -- Samples, computed: the bytes of expressions of short texts.
 -- Assumes nothing.
 use mathlib.Core.Path.{_≡_, refl}
-use mathlib.Core.List.{List, [], _∷_}
-use Prim.Native.Nat.{ℕ}
+use mathlib.Core.List.{_∷_}
 use Prim.Native.String.{String}
-use lib.ListN.{take, replicate}
+use lib.ListN.{replicate}
 use Rattle.writing.specs.Ascii.{ascii}
 use Rattle.writing.specs.Buffer.{put, puts}
 use Rattle.encoding.specs.Encoding.{encodeWord}
-use Rattle.verilog_tokens.specs.Tokens.{tokens}
 use Rattle.verilog_tokens.specs.Table.{terminals, numberFrom, kindOf, kinds, nameIn, namesIn, placeOf, idOf, upTo255, numberIn, numbers}
 use Rattle.verilog_tokens.proofs.Samples.{seen}
 use Rattle.verilog_grammar.specs.Meaning.{upTo, cut}
@@ -18,7 +16,7 @@ use Rattle.verilog_exprs.specs.Constants.{constantBytes}
 use Rattle.verilog_exprs.specs.Exprs.{precedenceOf, operatorOf, binds, valueAt, atomAt, bracketsAt, primaryAt, prefixAt, operandAt}
 use Rattle.verilog_exprs.specs.Exprs.{joinAt, climbAt, choiceAt, armsAt, exprAt}
 
--- What reading a text as an expression leaves, with every definition open; the buffer's first 16 bytes are shown.
+-- What reading a text as an expression leaves in a buffer of 16 bytes, with every definition open.
 unfoldable pub left : String → Wrote
 unfolding seen terminals numberFrom kindOf kinds nameIn namesIn placeOf idOf upTo255 numberIn numbers upTo cut put puts encodeWord swapped
     reversed thrice turned behind fronted rowAt andThen isAt expected constantBytes precedenceOf operatorOf binds valueAt atomAt bracketsAt
