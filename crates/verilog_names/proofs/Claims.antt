@@ -2,32 +2,30 @@
 use mathlib.Core.Path.{_≡_, refl, sym, _∙_, ap}
 use mathlib.Core.Logic.{_≢_}
 use mathlib.Core.Bool.{Bool, true, false}
-use mathlib.Core.List.{List, [], _∷_, _++_, map, append-assoc, append-nil}
-use Prim.Native.Nat.{ℕ, zero, suc, _+_, _-_, _<_, _≤_}
-use native.Mathlib.Nat.{add-zero, zero-add}
+use mathlib.Core.List.{List, [], _∷_, _++_, map}
+use Prim.Native.Nat.{ℕ, suc, _+_, _-_, _<_, _≤_}
+use native.Mathlib.Nat.{zero-add}
 use native.Mathlib.Omega.{arith}
-use borrow.Author.Tests.{lt-ltb, eq-eqb, ne-eqb}
+use borrow.Author.Tests.{lt-ltb, ne-eqb}
 use lib.Dec.{ltb, eqb}
-use lib.ListN.{length, getD, take, drop, length-map}
+use lib.ListN.{length, getD, drop, length-map}
 use lib.Seq.{sets, sets-eq, drop-drop}
 use Rattle.values.specs.Values.{pick}
 use Rattle.naming.specs.Naming.{sameText}
 use Rattle.verilog_tokens.specs.Tokens.{Token, terminal, name, number, known, unknown, broken, Name}
 use Rattle.verilog_tokens.specs.Table.{kindOf, nameIn, namesIn, idOf, numberIn}
 use Rattle.verilog_tokens.specs.Table as Table
-use Rattle.verilog_grammar.specs.Meaning.{upTo, anInput, aRegister, aWire, Driven, Part}
+use Rattle.verilog_grammar.specs.Meaning.{upTo, aWire, Driven, Part}
 use Rattle.verilog_source.specs.Names as Source
-use Rattle.verilog_source.specs.Names.{Variable, variables, inOrder, declared, driven, threads}
+use Rattle.verilog_source.specs.Names.{Variable, variables, inOrder, driven}
 use Rattle.verilog_source.specs.Names.{nameOf, used, faults, lower, lowest, numberOf}
-use Rattle.verilog_source.specs.Written.{writtenWidths, valueFor, writtenWires, writtenThreads, written}
-use Rattle.verilog_names.specs.declared.Class.the-variants.{Used, Declared, Wire, Target}
-use Rattle.verilog_names.specs.declared.Fault.{Fault}
-use Rattle.verilog_names.specs.Chosen.{here, chosen, hasRole, isUsed, isDeclared, isIn, countOf}
-use Rattle.verilog_names.specs.Faults.{isAmong, missing, repeated, nearest, ofClass, faultsIn, faultAt, faultOf}
+use Rattle.verilog_source.specs.Written.{writtenWidths, valueFor, written}
+use Rattle.verilog_names.specs.Chosen.{here, chosen, hasRole, isUsed, isIn}
+use Rattle.verilog_names.specs.Faults.{isAmong, missing, repeated, nearest, faultsIn, faultAt, faultOf}
 use Rattle.verilog_names.specs.Numbers.{ordered, placeOf, numberAt, numbersFrom, numbered}
 use Rattle.verilog_names.specs.Head.{widthsOf, headOf}
 use Rattle.verilog_names.specs.Order.{firstOr, isTarget, targetOf}
-use Rattle.verilog_names.specs.Tables.{Along, none, next, Stands, Declares, Drives, Runs, Scanned, Noted}
+use Rattle.verilog_names.specs.Tables.{Along, none, next, Stands, Declares, Drives, Scanned, Noted}
 use Rattle.verilog_names.specs.Claims.{SameIds, faultBy, SameFaults, Faultless, SameNumbers, SameHead, Found, SameTarget, WiresFound}
 use Rattle.verilog_names.proofs.Chosen.{here-in, here-out, chosen-none, chosen-suc}
 use Rattle.verilog_names.proofs.AtFault.{lower-most, lower-few}
@@ -334,4 +332,8 @@ module _ (index : List ℕ → ℕ) (ts : List Token) (ps : List Part) (kinds id
 pub wires-found : WiresFound
 unfolding WiresFound faults
 wires-found index ts ps kinds ids places roles widths sc nt e =
-    found-along index ts ps kinds ids places roles widths sc nt (nt .wires) (right-empty _ _ e)
+    let ds = map Source.targetOf (driven ps) in
+    let ws = map nameOf (variables aWire ps) in
+    let vs = Source.declared ps in
+    let others = Source.missing (used ts) vs ++ Source.repeated [] vs ++ Source.missing ds ws ++ Source.repeated [] ds in
+    found-along index ts ps kinds ids places roles widths sc nt (nt .wires) (right-empty others (Source.missing ws ds) e)

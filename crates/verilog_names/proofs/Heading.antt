@@ -3,14 +3,14 @@ use mathlib.Core.Path.{_≡_, refl, sym, _∙_, ap}
 use mathlib.Core.Bool.{Bool, true, false}
 use mathlib.Core.List.{List, [], _∷_, _++_}
 use Prim.Native.Nat.{ℕ, _+_, _-_, _<_, _≤_}
-use lib.ListN.{length, getD}
+use lib.ListN.{getD}
 use Rattle.writing.specs.Buffer.{Text, puts}
 use Rattle.writing.proofs.Buffer.{puts-nil, puts-append, both}
 use Rattle.verilog_grammar.specs.Meaning.{upTo}
 use Rattle.verilog_names.specs.Chosen.{capped, here, chosen, hasRole, countOf}
 use Rattle.verilog_names.specs.Numbers.{ordered}
 use Rattle.verilog_names.specs.Head.{widthsOf, headOf}
-use Rattle.verilog_names.proofs.Chosen.{here-in, here-out, chosen-all, chosen-step, chosen-done}
+use Rattle.verilog_names.proofs.Chosen.{here-in, here-out, chosen-step, chosen-done}
 
 pub count-put : (t u : Text) (most n m b : ℕ) → n ≡ m → b ≡ upTo most n → u ≡ puts t (b ∷ []) → u ≡ puts t (upTo most m ∷ [])
 count-put t u most n m b e f g = g ∙ ap (λ k. puts t (k ∷ [])) (f ∙ ap (upTo most) e)

@@ -2,8 +2,8 @@
 use mathlib.Core.Path.{_≡_, refl, sym, _∙_, ap}
 use mathlib.Core.Logic.{_≢_}
 use mathlib.Core.Bool.{Bool, true, false, not}
-use mathlib.Core.List.{List, [], _∷_, _++_, map, append-assoc, append-nil}
-use Prim.Native.Nat.{ℕ, zero, suc, _+_, _<_}
+use mathlib.Core.List.{List, [], _∷_, _++_, map, append-assoc}
+use Prim.Native.Nat.{ℕ, _+_, _<_}
 use native.Mathlib.Omega.{arith}
 use borrow.Author.Tests.{eqb-true, ne-eqb}
 use lib.Dec.{eqb, ltb}
@@ -15,7 +15,7 @@ use Rattle.verilog_tokens.specs.Tokens.{Token, Name}
 use Rattle.verilog_grammar.specs.Meaning.{Kind, anInput, aRegister, aWire, Driven, Part, declares, drives, runs}
 use Rattle.verilog_source.specs.Names.{Variable, kindNumber, ofWidth, variables, declared, driven, threads}
 use Rattle.verilog_names.specs.Chosen.{here, chosen, hasRole, isDeclared}
-use Rattle.verilog_names.specs.Tables.{Along, none, next, Stands, Declares, Drives, Runs, Noted}
+use Rattle.verilog_names.specs.Tables.{Along, none, next, Stands, Declares, Drives, Runs}
 use Rattle.verilog_names.specs.Entries.{Entry, variable, target, thread, entriesOf, entries}
 use Rattle.verilog_names.specs.Entries.{roleOf, isNoted, Notes, declaring, driving, running, FromEntries}
 use Rattle.verilog_names.proofs.Kept.{kept, kept-chosen, chosen-same}

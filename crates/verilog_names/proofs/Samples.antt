@@ -7,7 +7,6 @@ use mathlib.Core.List.{List, [], _∷_}
 use Prim.Native.Nat.{ℕ}
 use Rattle.verilog_grammar.specs.Meaning.{upTo}
 use Rattle.verilog_source.specs.Names.{lower}
-use Rattle.verilog_names.specs.declared.Fault.{Fault}
 use Rattle.verilog_names.specs.Chosen.{here, chosen, hasRole, isUsed, isDeclared, isIn}
 use Rattle.verilog_names.specs.Faults.{isAmong, missing, repeated, nearest, faultsIn, faultAt, faultOf}
 use Rattle.verilog_names.specs.Numbers.{ordered, placeOf, numberAt, numbersFrom}

@@ -1,24 +1,23 @@
 -- The tables of a text are tables of its tokens. Assumes nothing.
-use mathlib.Core.Path.{_≡_, refl, sym, _∙_, ap}
+use mathlib.Core.Path.{_≡_, _∙_}
 use mathlib.Core.Bool.{Bool, true, false}
 use mathlib.Core.List.{List, [], _∷_, _++_, map, append-assoc}
 use Prim.Native.Nat.{ℕ, zero, suc, _+_, _-_, _<_, _≤_}
 use native.Mathlib.Omega.{arith}
-use lib.ListN.{length, getD, take, drop, length-drop, length-map}
-use lib.Seq.{take-at}
+use lib.ListN.{length, getD, take, drop, length-append, length-drop, length-map}
+use lib.Seq.{take-at, sets, sets-eq}
 use Rattle.values.specs.Values.{pick}
-use Rattle.verilog_tokens.specs.Words.{isKeyword, firstOf, signs}
+use Rattle.verilog_tokens.specs.Words.{isKeyword}
 use Rattle.verilog_tokens.specs.Characters.{isUnderscore, every, numeral}
-use Rattle.verilog_tokens.specs.Tokens.{Token, terminal, name, number, known, unknown, broken, Name, Lexeme, Located}
-use Rattle.verilog_tokens.specs.Tokens.{Radix, binary, octal, decimal, hexadecimal, Base, base, none as noBase}
+use Rattle.verilog_tokens.specs.Tokens.{Token, terminal, name, known, unknown, broken, Name, Located}
+use Rattle.verilog_tokens.specs.Tokens.{Base, base, none as noBase}
 use Rattle.verilog_tokens.specs.Tokens.{wordToken, word, numberToken, unsigned, isKnown}
 use Rattle.verilog_tokens.specs.Tokens.{isUnknown, valueToken, valueBehind, value, baseOf, based}
 use Rattle.verilog_tokens.specs.Tokens.{signToken, sign, Opening, opensWord, opensNumber, opensValue, opensSign, opening, tokenBy}
 use Rattle.verilog_tokens.specs.Tokens.{gap, goesOn, andThen, fromToken, fromGap, located, tokens, places}
 use Rattle.verilog_tokens.specs.Table as Table
 use Rattle.verilog_tokens.specs.Table.{kindOf, numberIn, idOf, kinds, numbers}
-use Rattle.verilog_names.specs.Tables.{Stands, Scanned}
-use Rattle.verilog_names.specs.Claims.{OfText}
+use Rattle.verilog_names.specs.Claims.{OfText, OfStored}
 
 -- ---- a name stands where its token does
 
@@ -124,3 +123,27 @@ of-text text ks is qs h =
       placed = λ t n s. at t n qs (s .behind) all (s .stands) .0;
       below = λ t n s. omega (arith, at t n qs (s .behind) all (s .stands) .1);
     }
+
+-- ---- stored
+
+-- A list stored from a table's first entry on.
+stored-front : (xs table : List ℕ) → length xs ≤ length table → sets table 0 xs ≡ xs ++ drop (0 + length xs) table
+stored-front xs table h = sets-eq xs table 0 (omega arith)
+
+ended : (xs : List ℕ) (b : ℕ) → length (xs ++ b ∷ []) ≡ length xs + 1
+ended xs b = length-append xs (b ∷ [])
+
+pub of-stored : OfStored
+unfolding OfText OfStored kinds numbers tokens places
+of-stored text ks is qs h a b c =
+    let ts = tokens text in
+    let i : length (kinds text) ≡ length ts + 1 = ended (map kindOf ts) 0 ∙ rw (length-map ts) in
+    let j : length (numbers text) ≡ length ts + 1 = ended (map (numberIn (idOf ts)) ts) 0 ∙ rw (length-map ts) in
+    let k : length (places text ++ length text ∷ []) ≡ length ts + 1 = ended (places text) (length text) ∙ simp length-map in
+    rw (
+      stored-front (kinds text) ks (omega arith),
+      stored-front (numbers text) is (omega arith),
+      stored-front (places text ++ length text ∷ []) qs (omega arith),
+      append-assoc (places text) (length text ∷ []),
+    )
+    (of-text text _ _ _ h)

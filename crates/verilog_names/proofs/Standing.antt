@@ -1,6 +1,6 @@
 -- Laws of the tables' tokens: what a table has of a token, ids and spellings, and lists of tokens along lists of names.
 -- Assumes nothing.
-use mathlib.Core.Path.{_≡_, refl, sym, _∙_, ap}
+use mathlib.Core.Path.{_≡_, refl, sym, ap}
 use mathlib.Core.Logic.{_≢_}
 use mathlib.Core.Bool.{Bool, true, false}
 use mathlib.Core.List.{List, [], _∷_, _++_, map}
@@ -12,9 +12,9 @@ use lib.ListN.{length, getD, take, drop}
 use Rattle.values.specs.Values.{pick}
 use Rattle.naming.specs.Naming.{sameText}
 use Rattle.naming.proofs.Naming.{sameText-refl, sameText→≡}
-use Rattle.verilog_tokens.specs.Tokens.{Token, terminal, name, number, known, unknown, broken, Name}
-use Rattle.verilog_tokens.specs.Table.{terminals, numberFrom, kindOf, nameIn, namesIn, placeOf, idOf, numberIn}
-use Rattle.verilog_names.specs.Tables.{Along, none, next, Stands, Scanned}
+use Rattle.verilog_tokens.specs.Tokens.{Token, terminal, name, Name}
+use Rattle.verilog_tokens.specs.Table.{terminals, numberFrom, kindOf, nameIn, namesIn, placeOf, idOf}
+use Rattle.verilog_names.specs.Tables.{Along, none, next}
 use Rattle.verilog_names.specs.Claims.{SameIds}
 
 -- ---- Along

@@ -2,9 +2,10 @@
 use mathlib.Core.Path.{_≡_}
 use mathlib.Core.Bool.{true, false}
 use mathlib.Core.List.{List, [], _∷_, _++_, map}
-use Prim.Native.Nat.{ℕ, _≤_}
+use Prim.Native.Nat.{ℕ, _≤_, _<_}
 use lib.Dec.{eqb}
 use lib.ListN.{length, getD, drop}
+use lib.Seq.{sets}
 use Rattle.naming.specs.Naming.{sameText}
 use Rattle.verilog_tokens.specs.Tokens.{Token, Name, tokens, places}
 use Rattle.verilog_tokens.specs.Table.{kinds, numbers, numberIn, idOf}
@@ -30,6 +31,12 @@ SameIds = (ts : List Token) (t : ℕ) (m : Name) (s : List ℕ) → Stands ts t 
 
 unfoldable pub OfText : Type 0
 OfText = (text ks is qs : List ℕ) → length text ≤ 16384 → Scanned (tokens text) (kinds text ++ ks) (numbers text ++ is) (places text ++ qs)
+
+-- The same where they are stored into tables with room for them, the text's end behind the last place.
+unfoldable pub OfStored : Type 0
+OfStored = (text ks is qs : List ℕ) → length text ≤ 16384 → length (tokens text) < length ks → length (tokens text) < length is
+    → length (tokens text) < length qs
+    → Scanned (tokens text) (sets ks 0 (kinds text)) (sets is 0 (numbers text)) (sets qs 0 (places text ++ length text ∷ []))
 
 -- ---- 43: a fault is found exactly where `faults` has one, and then its place is the lowest
 

@@ -4,12 +4,11 @@ use crate::Fault;
 use crate::tokens::capped;
 use crate::tokens::is_in;
 ghost use mathlib.Core.Path.{_≡_};
-ghost use mathlib.Core.List.{[], _∷_};
+ghost use mathlib.Core.List.{[]};
 ghost use Prim.Native.Nat.{_≤_, _<_};
-ghost use lib.ListN.{getD};
 ghost use Rattle.verilog_source.specs.Names.{lower};
 ghost use Rattle.verilog_names.specs.Chosen.{capped, here, chosen, isIn};
-ghost use Rattle.verilog_names.specs.Faults.{isAmong, missing, repeated, nearest, faultAt, faultOf};
+ghost use Rattle.verilog_names.specs.Faults.{isAmong, missing, repeated, nearest, faultOf};
 
 // The lower of two places.
 fn lower(a: usize, b: usize) -> usize

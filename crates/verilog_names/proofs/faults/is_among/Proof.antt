@@ -1,7 +1,7 @@
 -- `verilog_names::faults::is_among` meets its contract. The loop's invariant: the name is among the tokens from `i` on where it is among
 -- all of them. Assumes nothing.
 use borrow.Author.Needs.{needs}
-use mathlib.Core.Path.{_≡_, refl, sym, _∙_}
+use mathlib.Core.Path.{_≡_, sym, _∙_}
 use Prim.Native.Nat.{_-_}
 use Rattle.verilog_names.specs.Chosen.{chosen, isIn}
 use Rattle.verilog_names.specs.Faults.{isAmong}

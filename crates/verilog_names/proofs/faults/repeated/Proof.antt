@@ -1,9 +1,9 @@
 -- `verilog_names::faults::repeated` meets its contract. The loop's invariant: the best so far and what is left give the whole.
 -- Assumes nothing.
 use borrow.Author.Needs.{needs}
-use mathlib.Core.Path.{_≡_, refl, sym, _∙_, ap}
+use mathlib.Core.Path.{_≡_, sym, _∙_}
 use mathlib.Core.List.{[]}
-use Prim.Native.Nat.{ℕ, _-_, _≤_}
+use Prim.Native.Nat.{_-_, _≤_}
 use native.Mathlib.Omega.{arith}
 use Rattle.verilog_source.specs.Names.{lower}
 use Rattle.verilog_names.specs.Chosen.{chosen, isIn}

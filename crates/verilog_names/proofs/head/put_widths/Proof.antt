@@ -1,7 +1,7 @@
 -- `verilog_names::head::put_widths` meets its contract. The loop's invariant: what is still to be put gives the whole.
 -- Assumes nothing.
 use borrow.Author.Needs.{needs}
-use mathlib.Core.Path.{_≡_, refl, sym}
+use mathlib.Core.Path.{_≡_}
 use Prim.Native.Nat.{_-_}
 use Rattle.writing.specs.Buffer.{filled, puts}
 use Rattle.verilog_names.specs.Chosen.{chosen, hasRole}

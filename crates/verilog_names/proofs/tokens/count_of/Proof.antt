@@ -1,7 +1,7 @@
 -- `verilog_names::tokens::count_of` meets its contract. The loop's invariant: those so far and those from `i` on are all.
 -- Assumes nothing.
 use borrow.Author.Needs.{needs}
-use mathlib.Core.Path.{_≡_, refl, sym, _∙_}
+use mathlib.Core.Path.{_≡_, sym, _∙_}
 use Prim.Native.Nat.{_+_, _-_}
 use mathlib.Core.Logic.{⊎-elim}
 use lib.ListN.{length}
