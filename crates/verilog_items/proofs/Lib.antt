@@ -1,1 +1,4 @@
 pub mod Turns
+pub mod Noting
+pub mod Taking
+pub mod Declaring
