@@ -2,3 +2,4 @@ pub mod Turns
 pub mod Noting
 pub mod Taking
 pub mod Declaring
+pub mod Variables
