@@ -3,3 +3,4 @@ pub mod Noting
 pub mod Taking
 pub mod Declaring
 pub mod Variables
+pub mod Driving
