@@ -4,3 +4,4 @@ pub mod Taking
 pub mod Declaring
 pub mod Variables
 pub mod Driving
+pub mod Reading
