@@ -18,6 +18,8 @@ use Rattle.verilog_grammar.specs.AnnexA.{spellStatement}
 use Rattle.verilog_grammar.specs.Meaning.{Kind, anInput, aRegister, aWire, Part, runs, Source}
 use Rattle.verilog_grammar.specs.Reader.{Res, ok, no, Reader as Reads, bind, give, refuse, starts, ifNext, expect, list, statement}
 use Rattle.verilog_grammar.specs.Reader
+use Rattle.verilog_grammar.specs.Claims.{OnlyDerived, AllDerived}
+use Rattle.verilog_grammar.proofs.Module.{only-derived, all-derived}
 use Rattle.verilog_grammar.proofs.StatementSound.{statement-sound}
 use Rattle.verilog_grammar.proofs.StatementComplete.{longer-statement}
 use Rattle.verilog_exprs.specs.declared.Put.{Put}
@@ -29,11 +31,14 @@ use Rattle.verilog_stmts.specs.Steps.{refused, after, isNext}
 use Rattle.verilog_stmts.specs.Written.{statementIn}
 use Rattle.verilog_stmts.proofs.Signs.{semicolon-mark}
 use Rattle.verilog_names.specs.Entries
-use Rattle.verilog_names.specs.Entries.{Entry, entriesOf, entries, roleOf, running}
+use Rattle.verilog_names.specs.Entries.{Entry, entriesOf, entries, roleOf, running, FromEntries}
+use Rattle.verilog_names.specs.Chosen.{chosen}
+use Rattle.verilog_names.specs.Tables.{none}
+use Rattle.verilog_names.proofs.Noting.{from-entries}
 use Rattle.verilog_items.specs.Notes.{marked, Marks, marks, Notes, notes}
 use Rattle.verilog_items.specs.Items.{stay, passed, plainly, moved, rewound, inText, refusedIn, declaration, statementFrom, thread, assigns, itemBy, item}
 use Rattle.verilog_items.specs.Items.{endOr, items, ident, ended, nameList, heading, itemList, moduleIn, readIn}
-use Rattle.verilog_items.specs.Following.{Good, GoodIn, Tells, TellsIn, Reached, Ends, StatementsEnd}
+use Rattle.verilog_items.specs.Following.{Good, GoodIn, Tells, TellsIn, Reached, Ends, StatementsEnd, Said, ModulesRead}
 use Rattle.verilog_items.proofs.Noting.{marked-here, good-on, good-marked, noted-here}
 use Rattle.verilog_items.proofs.Taking.{good-after, next-kind, next-starts, took-name, took-tells, ident-named}
 use Rattle.verilog_items.proofs.Variables.{not-next, Stays, stays-expected, stays-list, declaration-tells}
@@ -350,3 +355,57 @@ module _ (index numbered : List ℕ → ℕ) (ts : List Token) (ks ns : List ℕ
       stays-toOpen
       (λ n ws q k. askedIn index numbered ts ks ns tab (ascii "(") 20 open-mark (omega arith) toPorts stays-toPorts partsOf _ b ws [] k
       (λ xs o. from-ports n (inText (moved (expected ks 20)) b) xs o)))
+
+-- ---- the claim
+
+all-read : (index : List ℕ → ℕ) (ts : List Token) (m : Source) (us : List Token) → Reader.readModule index ts ≡ ok m us
+    → Reader.readModule index ts ≡ ok m []
+unfolding OnlyDerived AllDerived
+all-read index ts m us q = all-derived index ts m (only-derived index ts m us q)
+
+module _ (index : List ℕ → ℕ) (ts : List Token) (s : Notes) where
+  no-said : (n : ℕ) → TellsIn index ts (λ (q : Source). entries (q .parts)) s (no n) → Said index ts s (no n)
+  unfolding TellsIn Said
+  no-said n h = h
+
+  ok-said : (m : Source) (us : List Token) → us ≡ [] → TellsIn index ts (λ (q : Source). entries (q .parts)) s (ok m us)
+      → Said index ts s (ok m us)
+  unfolding TellsIn Said FromEntries
+  ok-said m us z h =
+      let c : s .text .put .next ≡ length ts = omega (arith, h .good .to .count, ap (λ l. length l) z) in
+      (h .good .yes, from-entries index ts (m .parts) (s .roles) (s .widths) (rw c at (h .good .along)))
+
+pub modules-read : ModulesRead
+unfolding ModulesRead readIn chosen
+modules-read index numbered ts ks ns tab ends bs rs ws lb lr lw clear =
+    said (Reader.readModule index ts) refl (module-tells index numbered ts ks ns tab ends start ts begun)
+  where
+    start : Notes
+    start = notes (wrote (answer true 0 0) bs) rs ws
+
+    begun : GoodIn index ts ts start []
+    begun = record {
+      good = record {
+        yes = refl;
+        to = record { rest = refl; count = omega arith };
+        roomOfRoles = lr;
+        roomOfWidths = lw;
+        clear = λ k h. clear k;
+        along = none;
+      };
+      room = lb;
+    }
+
+    end : Notes
+    end = moduleIn ks ns (length ts) start
+
+    restOf : Res Source → List Token
+    restOf (ok q us) = us
+    restOf (no n) = []
+
+    said : (r : Res Source) → Reader.readModule index ts ≡ r
+        → TellsIn index ts (partsOf index numbered ts ks ns tab ends) end r → Said index ts end r
+    said (no n) q h = no-said index ts end n h
+    said (ok m us) q h =
+        let z : us ≡ [] = ap restOf (sym q ∙ all-read index ts m us q) in
+        ok-said index ts end m us z h
