@@ -29,7 +29,8 @@ use Rattle.verilog_exprs.proofs.Follows.{kind-is, number-is, map-follows, close
 use Rattle.verilog_stmts.specs.Steps.{State, moved, refused, after, isNext, write, stampAt, name as nameAt, named}
 use Rattle.verilog_stmts.specs.Events
 use Rattle.verilog_stmts.proofs.Passing
-use Rattle.verilog_stmts.proofs.Passing.{Still, not-next, none-left, still-write, still-stamp, still-refused, still-expected, still-next, then-follows, given, passed-write, passed-stamp}
+use Rattle.verilog_stmts.proofs.Passing.{Still, not-next, none-left, still-write, still-stamp, still-refused, still-expected}
+use Rattle.verilog_stmts.proofs.Passing.{still-next, then-follows, given, passed-write, passed-stamp}
 use Rattle.verilog_stmts.proofs.Signs.{at-mark, posedge-mark, negedge-mark, or-mark, comma-mark}
 
 -- ---- counts
@@ -133,18 +134,21 @@ module _ (index : List ℕ → ℕ) (small : (s : List ℕ) → index s < 256) (
       → Follows ts l termBytes (Events.term ks ns (edgeNumber e) s) (bind (ident us) (λ n. give (termOf index e n)))
   unfolding Events.term termOf encodeTerms
   term-follows e {l} s us h =
-      map-follows ts (l ++ (edgeNumber e ∷ [])) l nameBytes termBytes (named ks ns (write (edgeNumber e ∷ []) s)) (ident us) (λ n. termOf index e n)
+      map-follows ts (l ++ (edgeNumber e ∷ [])) l nameBytes termBytes (named ks ns (write (edgeNumber e ∷ []) s)) (ident us)
+      (λ n. termOf index e n)
       (named-follows (write (edgeNumber e ∷ []) s) us (passed-write ts (edgeNumber e ∷ []) s us h))
       (λ n. append-assoc l (edgeNumber e ∷ []) (index (n .spelled) ∷ []))
 
-  event-follows : {l : List ℕ} (s : State) (us : List Token) → Passed ts s us l → Follows ts l termBytes (Events.event ks ns s) (Reader.event index us)
+  event-follows : {l : List ℕ} (s : State) (us : List Token) → Passed ts s us l → Follows ts l termBytes (Events.event ks ns s)
+      (Reader.event index us)
   unfolding Events.event Reader.event Events.edge Reader.edge Reader.change edgeNumber
   event-follows {l} s us h =
       Passing.by-next index ts ks ns tab (ascii "posedge") 17 posedge-mark (omega arith) l termBytes (Events.edge ks ns 1) _
       (Reader.edge index (ascii "posedge") Posedge) _ s us h
       (λ e. Passing.over index ts ks ns tab (ascii "posedge") 17 posedge-mark (omega arith) l termBytes _ _ s us h e
       (λ vs j. term-follows Posedge (moved after s) vs j))
-      (λ e. Passing.by-next index ts ks ns tab (ascii "negedge") 18 negedge-mark (omega arith) l termBytes (Events.edge ks ns 2) (Events.term ks ns 0)
+      (λ e. Passing.by-next index ts ks ns tab (ascii "negedge") 18 negedge-mark (omega arith) l termBytes (Events.edge ks ns 2)
+      (Events.term ks ns 0)
       (Reader.edge index (ascii "negedge") Negedge) (Reader.change index) s us h
       (λ f. Passing.over index ts ks ns tab (ascii "negedge") 18 negedge-mark (omega arith) l termBytes _ _ s us h f
       (λ vs j. term-follows Negedge (moved after s) vs j))
@@ -168,7 +172,8 @@ module _ (index : List ℕ → ℕ) (small : (s : List ℕ) → index s < 256) (
   count-last : (c : ℕ) (r : List ℕ) (t : EdgeTerm) → Events.counted (min (c + 1) 9) ∷ (r ++ termBytes t) ≡ counting c r (t ∷ [])
   count-last c r t = ap (λ n. n ∷ (r ++ termBytes t)) (count-law (c + 1))
 
-  more-follow : (g from c : ℕ) (l r : List ℕ) (x : ℕ) (t : EdgeTerm) (s : State) (us : List Token) (w : List ℕ) (k : ℕ) (m : Numbered w k) (o : 1 ≤ k)
+  more-follow : (g from c : ℕ) (l r : List ℕ) (x : ℕ) (t : EdgeTerm) (s : State) (us : List Token) (w : List ℕ) (k : ℕ) (m : Numbered w k)
+      (o : 1 ≤ k)
       → ((v : State) (vs : List Token) → Passed ts v vs (l ++ (x ∷ (r ++ termBytes t)))
       → Follows ts l (counting (c + 1) (r ++ termBytes t)) (Events.events ks ns g from (min (c + 1) 9) v) (Reader.events index g vs))
       → Passed ts s us (l ++ (x ∷ (r ++ termBytes t))) → starts w us ≡ true
@@ -177,7 +182,8 @@ module _ (index : List ℕ → ℕ) (small : (s : List ℕ) → index s < 256) (
   unfolding Events.onward Reader.furtherEvents
   more-follow g from c l r x t s us w k m o ih h e =
       Passing.over index ts ks ns tab w k m o l (counting c r) _ _ s us h e
-      (λ vs j. map-follows ts l l (counting (c + 1) (r ++ termBytes t)) (counting c r) (Events.events ks ns g from (min (c + 1) 9) (moved after s))
+      (λ vs j. map-follows ts l l (counting (c + 1) (r ++ termBytes t)) (counting c r)
+      (Events.events ks ns g from (min (c + 1) 9) (moved after s))
       (Reader.events index g vs) (λ es. t ∷ es) (ih (moved after s) vs j) (λ es. ap (λ z. l ++ z) (count-one c r t es)))
 
   behind-follows : (g from c : ℕ) (l r : List ℕ) (x : ℕ) (t : EdgeTerm) (v : State) (vs : List Token) → from ≡ placeOf l
@@ -192,7 +198,8 @@ module _ (index : List ℕ → ℕ) (small : (s : List ℕ) → index s < 256) (
       (λ q. more-follow g from c l r x t v vs (ascii "or") 19 or-mark (omega arith) ih j q)
       (λ q. Passing.by-next index ts ks ns tab (ascii ",") 26 comma-mark (omega arith) l (counting c r) _ _ _ _ v vs j
       (λ z. more-follow g from c l r x t v vs (ascii ",") 26 comma-mark (omega arith) ih j z)
-      (λ z. given ts l _ (counting c r) _ vs (t ∷ []) (passed-stamp ts l (r ++ termBytes t) x (Events.counted (min (c + 1) 9)) from _ vs e j)
+      (λ z. given ts l _ (counting c r) _ vs (t ∷ []) (passed-stamp ts l (r ++ termBytes t) x (Events.counted (min (c + 1) 9)) from
+      _ vs e j)
       (ap (λ y. l ++ y) (count-last c r t))))
 
   pub events-follow : (g from c x : ℕ) (l r : List ℕ) (s : State) (us : List Token) → from ≡ placeOf l → Passed ts s us (l ++ (x ∷ r))
@@ -228,7 +235,8 @@ module _ (index : List ℕ → ℕ) (small : (s : List ℕ) → index s < 256) (
         Passing.over index ts ks ns tab (ascii "(") 20 open-mark (omega arith) l controlBytes _ _ s us h q
         (λ vs j.
         let n : count - moved after s .put .next ≡ length vs = omega (arith, all, j .to .count) in
-        rw n (closed-follows index ts ks ns tab (ascii ")") 21 close-mark (omega arith) (l ++ (0x0C ∷ 0x10 ∷ [])) l (counting 0 []) controlBytes
+        rw n (closed-follows index ts ks ns tab (ascii ")") 21 close-mark (omega arith) (l ++ (0x0C ∷ 0x10 ∷ [])) l
+        (counting 0 []) controlBytes
         (Events.events ks ns (length vs) from 0 (moved after s)) (Reader.events index (length vs) vs) (λ es. es)
         (events-follow (length vs) from 0 1 (l ++ (0x0C ∷ 0x10 ∷ [])) [] (moved after s) vs e j) (λ es. all-counted l es)))
 

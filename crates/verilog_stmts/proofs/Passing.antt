@@ -175,7 +175,8 @@ module _ (index : List ℕ → ℕ) (ts : List Token) (ks ns : List ℕ) (tab : 
         → Follows ts l (λ u. []) (moved (expected ks k) s) (bind (expect w us) (λ u. give (tt {0})))
     unfolding Follows
     expected-follows {l} s us h =
-        closed-follows index ts ks ns tab w k mark one l l (λ u. []) (λ u. []) s (ok (tt {0}) us) (λ u. tt {0}) (rw (append-nil l) h) (λ u. refl)
+        closed-follows index ts ks ns tab w k mark one l l (λ u. []) (λ u. []) s (ok (tt {0}) us) (λ u. tt {0}) (rw (append-nil l) h)
+        (λ u. refl)
 
     -- A mark that is asked for.
     pub asked : {B : Type 0} {l : List ℕ} (m : List ℕ) (bytesB : B → List ℕ) (f : State → State) (g : Unit {0} → Reader B) (s : State)

@@ -20,7 +20,8 @@ module _ (ks ns : List ℕ) (count : ℕ) (expr label : State → State) where
   first : (inner : State → State) (p : Put) (bs : List ℕ) {q a c b : Put} {bs1 bs2 bs3 : List ℕ} → q ≡ after p
       → wrote a bs1 ≡ write (0x06 ∷ []) (wrote q bs) → wrote c bs2 ≡ Stmts.condition ks ns count expr label (wrote a bs1)
       → wrote b bs3 ≡ Stmts.orNull ks ns count expr label inner (wrote c bs2)
-      → wrote b bs3 ≡ Stmts.orNull ks ns count expr label inner (Stmts.condition ks ns count expr label (write (0x06 ∷ []) (wrote (after p) bs)))
+      → wrote b bs3 ≡ Stmts.orNull ks ns count expr label inner
+      (Stmts.condition ks ns count expr label (write (0x06 ∷ []) (wrote (after p) bs)))
   first inner p bs e w d o = behind (λ s. Stmts.orNull ks ns count expr label inner s)
       (behind (λ s. Stmts.condition ks ns count expr label s) (rw e at w) d) o
 
@@ -62,7 +63,8 @@ module _ (ks ns : List ℕ) (count : ℕ) (expr label : State → State) where
       rest-none e x = rw e x
 
       rest-more : (n : ℕ) → (n ≡ 0 → ⊥)
-          → z ≡ pick (p .ok) (Stmts.blockBy ks ns count expr label inner (Stmts.blockRest ks ns count expr label inner (n - 1)) from) stay (wrote p bs)
+          → z ≡ pick (p .ok) (Stmts.blockBy ks ns count expr label inner (Stmts.blockRest ks ns count expr label inner (n - 1)) from) stay
+          (wrote p bs)
           → z ≡ Stmts.blockRest ks ns count expr label inner n from (wrote p bs)
       unfolding Stmts.blockRest
       rest-more zero k x = absurd (k refl)
@@ -77,7 +79,8 @@ module _ (ks ns : List ℕ) (count : ℕ) (expr label : State → State) where
         unfolding Stmts.blockBy
         rest-end h x = rest-more g k (taken _ stay refl f (taken (moved after) _ t h x))
 
-        pub rest-again : {a b : Put} {bs1 bs2 : List ℕ} → r ≡ false → wrote a bs1 ≡ front 0x0C from (wrote p bs) → wrote b bs2 ≡ inner (wrote a bs1)
+        pub rest-again : {a b : Put} {bs1 bs2 : List ℕ} → r ≡ false → wrote a bs1 ≡ front 0x0C from (wrote p bs) → wrote b bs2 ≡ inner
+            (wrote a bs1)
             → z ≡ Stmts.blockRest ks ns count expr label inner (g - 1) (a .pos) (wrote b bs2)
             → z ≡ Stmts.blockRest ks ns count expr label inner g from (wrote p bs)
         unfolding Stmts.blockBy Stmts.blockMore Stmts.blockNext
@@ -91,14 +94,16 @@ module _ (ks ns : List ℕ) (count : ℕ) (expr label : State → State) where
       block-none h x = rw (← e, h) x
 
       block-more : (n : ℕ) → (n ≡ 0 → ⊥)
-          → z ≡ pick (isNext ks 9 p) (Stmts.null ks ns count expr label) (Stmts.blockNext ks ns count expr label inner (Stmts.blockRest ks ns count expr label inner (n - 1))) (wrote p bs)
+          → z ≡ pick (isNext ks 9 p) (Stmts.null ks ns count expr label)
+          (Stmts.blockNext ks ns count expr label inner (Stmts.blockRest ks ns count expr label inner (n - 1))) (wrote p bs)
           → z ≡ Stmts.blockFirst ks ns count expr label inner n (wrote p bs)
       unfolding Stmts.blockFirst
       block-more zero k x = absurd (k refl)
       block-more (suc n) k x = rw sub-one at x
 
       module _ (k : g ≡ 0 → ⊥) {r : Bool} (t : r ≡ isNext ks 9 p) where
-        pub block-empty : {q : Put} → r ≡ true → q ≡ after p → z ≡ write (0x00 ∷ []) (wrote q bs) → z ≡ Stmts.block ks ns count expr label inner (wrote p bs)
+        pub block-empty : {q : Put} → r ≡ true → q ≡ after p → z ≡ write (0x00 ∷ []) (wrote q bs) → z
+            ≡ Stmts.block ks ns count expr label inner (wrote p bs)
         unfolding Stmts.block Stmts.null
         block-empty h w x = rw (← e) (block-more g k (taken (Stmts.null ks ns count expr label) _ t h (rw w at x)))
 
@@ -122,11 +127,13 @@ module _ (ks ns : List ℕ) (count : ℕ) (expr label : State → State) where
       unfolding Stmts.defaulted Stmts.colon
       default-plain h x = rw (← e, ← t, h) x
 
-    pub label-path : (i : ℕ) {a l b : Put} {bs1 bs2 : List ℕ} → wrote a bs1 ≡ Stmts.heading ks ns count expr label i (wrote p bs) → wrote l bs2 ≡ label (wrote a bs1)
+    pub label-path : (i : ℕ) {a l b : Put} {bs1 bs2 : List ℕ} → wrote a bs1 ≡ Stmts.heading ks ns count expr label i (wrote p bs)
+        → wrote l bs2 ≡ label (wrote a bs1)
         → b ≡ expected ks 24 l → z ≡ Stmts.orNull ks ns count expr label inner (wrote b bs2)
         → z ≡ Stmts.labelled ks ns count expr label inner i (wrote p bs)
     unfolding Stmts.labelled
-    label-path i w y e x = behind (λ s. Stmts.orNull ks ns count expr label inner s) (onward (expected ks 24) e (behind (λ s. label s) w y)) x
+    label-path i w y e x = behind (λ s. Stmts.orNull ks ns count expr label inner s)
+        (onward (expected ks 24) e (behind (λ s. label s) w y)) x
 
     module _ (rest : Case → State → State) (c : Case) {r : Bool} (t : r ≡ isNext ks 13 p) where
       pub items-end : r ≡ true → z ≡ caseEnd c (wrote p bs) → z ≡ Stmts.itemsBehind ks ns count expr label inner rest c (wrote p bs)
@@ -143,7 +150,8 @@ module _ (ks ns : List ℕ) (count : ℕ) (expr label : State → State) where
       items-none e x = rw e x
 
       items-step : (n : ℕ) → (n ≡ 0 → ⊥)
-          → z ≡ pick (p .ok) (Stmts.caseItem ks ns count expr label inner (Stmts.caseItems ks ns count expr label inner (n - 1)) c) stay (wrote p bs)
+          → z ≡ pick (p .ok) (Stmts.caseItem ks ns count expr label inner (Stmts.caseItems ks ns count expr label inner (n - 1)) c) stay
+          (wrote p bs)
           → z ≡ Stmts.caseItems ks ns count expr label inner n c (wrote p bs)
       unfolding Stmts.caseItems
       items-step zero k x = absurd (k refl)
@@ -153,25 +161,39 @@ module _ (ks ns : List ℕ) (count : ℕ) (expr label : State → State) where
       items-failed k f x = items-step g k (left _ stay refl f x)
 
       module _ (k : g ≡ 0 → ⊥) (f : p .ok ≡ true) {r : Bool} (t : r ≡ isNext ks 14 p) where
-        pub item-second : r ≡ true → c .closed ≡ true → z ≡ wrote (refused p) bs → z ≡ Stmts.caseItems ks ns count expr label inner g c (wrote p bs)
+        pub item-second : r ≡ true → c .closed ≡ true → z ≡ wrote (refused p) bs → z ≡ Stmts.caseItems ks ns count expr label inner g c
+            (wrote p bs)
         unfolding Stmts.caseItem Stmts.caseDefault
-        item-second h d x = items-step g k (taken _ stay refl f (taken (Stmts.caseDefault ks ns count expr label inner (Stmts.caseItems ks ns count expr label inner (g - 1)) c) _ t h (rw d x)))
+        item-second h d x = items-step g k
+            (taken _ stay refl f (taken
+            (Stmts.caseDefault ks ns count expr label inner (Stmts.caseItems ks ns count expr label inner (g - 1)) c) _ t h (rw d x)))
 
-        pub item-default : {d : Put} {bs1 : List ℕ} → r ≡ true → c .closed ≡ false → wrote d bs1 ≡ Stmts.defaulted ks ns count expr label inner (wrote p bs)
-            → z ≡ Stmts.itemsBehind ks ns count expr label inner (Stmts.caseItems ks ns count expr label inner (g - 1)) (closedAt c (p .pos) (d .pos)) (wrote d bs1)
+        pub item-default : {d : Put} {bs1 : List ℕ} → r ≡ true → c .closed ≡ false → wrote d bs1
+            ≡ Stmts.defaulted ks ns count expr label inner (wrote p bs)
+            → z ≡ Stmts.itemsBehind ks ns count expr label inner (Stmts.caseItems ks ns count expr label inner (g - 1))
+            (closedAt c (p .pos) (d .pos)) (wrote d bs1)
             → z ≡ Stmts.caseItems ks ns count expr label inner g c (wrote p bs)
         unfolding Stmts.caseItem Stmts.caseDefault Stmts.firstDefault Stmts.closing
-        item-default h d w x = items-step g k (taken _ stay refl f (taken (Stmts.caseDefault ks ns count expr label inner (Stmts.caseItems ks ns count expr label inner (g - 1)) c) _ t h
-            (rw d (behind (λ s. Stmts.closing ks ns count expr label inner (Stmts.caseItems ks ns count expr label inner (g - 1)) c (p .pos) s) w x))))
+        item-default h d w x = items-step g k
+            (taken _ stay refl f (taken
+            (Stmts.caseDefault ks ns count expr label inner (Stmts.caseItems ks ns count expr label inner (g - 1)) c) _ t h
+            (rw d (behind (λ s. Stmts.closing ks ns count expr label inner (Stmts.caseItems ks ns count expr label inner (g - 1)) c
+            (p .pos) s) w x))))
 
-        pub item-label : {l : Put} {bs1 : List ℕ} → r ≡ false → wrote l bs1 ≡ Stmts.labelled ks ns count expr label inner (c .subject) (wrote p bs)
-            → z ≡ Stmts.itemsBehind ks ns count expr label inner (Stmts.caseItems ks ns count expr label inner (g - 1)) (tested c (p .pos)) (wrote l bs1)
+        pub item-label : {l : Put} {bs1 : List ℕ} → r ≡ false → wrote l bs1 ≡ Stmts.labelled ks ns count expr label inner (c .subject)
+            (wrote p bs)
+            → z ≡ Stmts.itemsBehind ks ns count expr label inner (Stmts.caseItems ks ns count expr label inner (g - 1))
+            (tested c (p .pos)) (wrote l bs1)
             → z ≡ Stmts.caseItems ks ns count expr label inner g c (wrote p bs)
         unfolding Stmts.caseItem Stmts.caseLabel
-        item-label h w x = items-step g k (taken _ stay refl f (left (Stmts.caseDefault ks ns count expr label inner (Stmts.caseItems ks ns count expr label inner (g - 1)) c) _ t h
-            (behind (λ s. Stmts.itemsBehind ks ns count expr label inner (Stmts.caseItems ks ns count expr label inner (g - 1)) (tested c (p .pos)) s) w x)))
+        item-label h w x = items-step g k
+            (taken _ stay refl f (left
+            (Stmts.caseDefault ks ns count expr label inner (Stmts.caseItems ks ns count expr label inner (g - 1)) c) _ t h
+            (behind (λ s. Stmts.itemsBehind ks ns count expr label inner (Stmts.caseItems ks ns count expr label inner (g - 1))
+            (tested c (p .pos)) s) w x)))
 
-    pub case-path : {a b c : Put} {bs1 : List ℕ} {g : ℕ} → a ≡ after p → b ≡ after a → wrote c bs1 ≡ Stmts.subject ks ns count expr label (wrote a bs)
+    pub case-path : {a b c : Put} {bs1 : List ℕ} {g : ℕ} → a ≡ after p → b ≡ after a → wrote c bs1 ≡ Stmts.subject ks ns count expr label
+        (wrote a bs)
         → g ≡ count - c .next → z ≡ Stmts.caseItems ks ns count expr label inner g (opened (b .next)) (wrote c bs1)
         → z ≡ Stmts.caseStatement ks ns count expr label inner (wrote p bs)
     unfolding Stmts.caseStatement Stmts.caseBody
@@ -185,7 +207,8 @@ module _ (ks ns : List ℕ) (count : ℕ) (expr label : State → State) where
     stmt-none e x = rw e x
 
     stmt-step : (n : ℕ) → (n ≡ 0 → ⊥)
-        → z ≡ pick (p .ok) (Stmts.statementBy ks ns count expr label (Stmts.statementAt ks ns count expr label (n - 1)) (rowAt ks (p .next))) stay (wrote p bs)
+        → z ≡ pick (p .ok) (Stmts.statementBy ks ns count expr label (Stmts.statementAt ks ns count expr label (n - 1))
+        (rowAt ks (p .next))) stay (wrote p bs)
         → z ≡ Stmts.statementAt ks ns count expr label n (wrote p bs)
     unfolding Stmts.statementAt
     stmt-step zero k x = absurd (k refl)
@@ -204,7 +227,8 @@ module _ (ks ns : List ℕ) (count : ℕ) (expr label : State → State) where
       unfolding Stmts.statementBy
       stmt-if e x = by-kind (rw e x)
 
-      pub stmt-case : m ≡ 12 → z ≡ Stmts.caseStatement ks ns count expr label (Stmts.statementAt ks ns count expr label (f - 1)) (wrote p bs)
+      pub stmt-case : m ≡ 12 → z ≡ Stmts.caseStatement ks ns count expr label (Stmts.statementAt ks ns count expr label (f - 1))
+          (wrote p bs)
           → z ≡ Stmts.statementAt ks ns count expr label f (wrote p bs)
       unfolding Stmts.statementBy
       stmt-case e x = by-kind (rw e x)
@@ -227,9 +251,11 @@ module _ (ks ns : List ℕ) (count : ℕ) (expr label : State → State) where
           → z ≡ Stmts.orNull ks ns count expr label (Stmts.statementAt ks ns count expr label (f - 1)) (wrote c bs1)
           → z ≡ Stmts.statementAt ks ns count expr label f (wrote p bs)
       unfolding Stmts.statementBy Stmts.timing
-      stmt-wait e w x = by-kind (rw e (behind (λ s. Stmts.orNull ks ns count expr label (Stmts.statementAt ks ns count expr label (f - 1)) s) w x))
+      stmt-wait e w x = by-kind
+          (rw e (behind (λ s. Stmts.orNull ks ns count expr label (Stmts.statementAt ks ns count expr label (f - 1)) s) w x))
 
-      pub stmt-block : {q : Put} → m ≡ 8 → q ≡ after p → z ≡ Stmts.block ks ns count expr label (Stmts.statementAt ks ns count expr label (f - 1)) (wrote q bs)
+      pub stmt-block : {q : Put} → m ≡ 8 → q ≡ after p → z ≡ Stmts.block ks ns count expr label
+          (Stmts.statementAt ks ns count expr label (f - 1)) (wrote q bs)
           → z ≡ Stmts.statementAt ks ns count expr label f (wrote p bs)
       unfolding Stmts.statementBy
       stmt-block e i x = by-kind (rw (e, ← i) x)

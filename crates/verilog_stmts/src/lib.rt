@@ -17,8 +17,10 @@ ghost use Prim.Native.Nat.{_-_, _%_};
 ghost use Rattle.verilog_exprs.specs.Rows.{wrote};
 ghost use Rattle.verilog_stmts.specs.Steps.{refused, after, isNext, write, front, stamped, named};
 ghost use Rattle.verilog_stmts.specs.Stmts.{value, labelValue, labelAt, caseEnd};
-ghost use Rattle.verilog_stmts.specs.Written.{conditionIn, subjectIn, closedIn, assignmentIn, headingIn, orNullIn, conditionalIn, blockRestIn};
-ghost use Rattle.verilog_stmts.specs.Written.{blockIn, defaultedIn, labelledIn, itemsBehindIn, caseItemsIn, caseStatementIn, statementIn};
+ghost use Rattle.verilog_stmts.specs.Written.{conditionIn, subjectIn, closedIn, assignmentIn, headingIn, orNullIn};
+ghost use Rattle.verilog_stmts.specs.Written.{conditionalIn, blockRestIn};
+ghost use Rattle.verilog_stmts.specs.Written.{blockIn, defaultedIn, labelledIn, itemsBehindIn, caseItemsIn, caseStatementIn};
+ghost use Rattle.verilog_stmts.specs.Written.{statementIn};
 ghost use Rattle.verilog_stmts.specs.Events.{oneMore, counted, term, event, events, control};
 
 // A case's tests so far: its subject's token, the place of the last test, where its default begins and ends, and whether it has one.
@@ -47,7 +49,7 @@ fn wide(n: u16) -> usize
 }
 
 // How many tokens are left.
-pub fn left(count: u16, i: usize) -> u16
+fn left(count: u16, i: usize) -> u16
     ensures { λ r. ⌜ r ≡ count - i ⌝ }
 {
     let n = wide(count);
@@ -55,7 +57,7 @@ pub fn left(count: u16, i: usize) -> u16
 }
 
 // Refused here.
-pub fn refused(at: Put) -> Put
+fn refused(at: Put) -> Put
     ensures { λ r. ⌜ r ≡ refused at ⌝ }
 {
     Put {
@@ -66,7 +68,7 @@ pub fn refused(at: Put) -> Put
 }
 
 // Behind the token.
-pub fn after(at: Put) -> Put
+fn after(at: Put) -> Put
     ensures { λ r. ⌜ r ≡ after at ⌝ }
 {
     let i = at.next;
@@ -81,7 +83,7 @@ pub fn after(at: Put) -> Put
 }
 
 // Whether a token of a kind is next.
-pub fn is_next(kinds: &[u8; 16385], k: u8, at: Put) -> bool
+fn is_next(kinds: &[u8; 16385], k: u8, at: Put) -> bool
     ensures { λ r. ⌜ r ≡ isNext (now (kinds .entry)) k at ⌝ }
 {
     if !at.ok {
@@ -201,7 +203,8 @@ fn events(
     n: u8,
     fuel: u16,
 ) -> Put
-    ensures { λ r. ⌜ wrote r (now (out .exit)) ≡ events (now (kinds .entry)) (now (numbers .entry)) fuel from n (wrote at (now (out .entry))) ⌝ }
+    ensures { λ r. ⌜ wrote r (now (out .exit)) ≡
+        events (now (kinds .entry)) (now (numbers .entry)) fuel from n (wrote at (now (out .entry))) ⌝ }
 {
     if fuel == 0 {
         return refused(at);
@@ -226,7 +229,8 @@ fn control(
     out: &mut [u8; 65536],
     at: Put,
 ) -> Put
-    ensures { λ r. ⌜ wrote r (now (out .exit)) ≡ control (now (kinds .entry)) (now (numbers .entry)) count (wrote at (now (out .entry))) ⌝ }
+    ensures { λ r. ⌜ wrote r (now (out .exit)) ≡
+        control (now (kinds .entry)) (now (numbers .entry)) count (wrote at (now (out .entry))) ⌝ }
 {
     let a = write_pair(0x0C, 0x10, out, expect(kinds, at, 27));
     let b = write(1, out, a);
@@ -241,7 +245,7 @@ fn control(
 // ---- expressions within statements
 
 // An expression.
-pub fn value(
+fn value(
     kinds: &[u8; 16385],
     numbers: &[u32; 16385],
     count: u16,
@@ -265,7 +269,8 @@ fn condition(
     out: &mut [u8; 65536],
     at: Put,
 ) -> Put
-    ensures { λ r. ⌜ wrote r (now (out .exit)) ≡ conditionIn (now (kinds .entry)) (now (numbers .entry)) count (wrote at (now (out .entry))) ⌝ }
+    ensures { λ r. ⌜ wrote r (now (out .exit)) ≡
+        conditionIn (now (kinds .entry)) (now (numbers .entry)) count (wrote at (now (out .entry))) ⌝ }
 {
     let e = value(kinds, numbers, count, out, expect(kinds, at, 20));
     expect(kinds, e, 21)
@@ -279,7 +284,8 @@ fn subject(
     out: &mut [u8; 65536],
     at: Put,
 ) -> Put
-    ensures { λ r. ⌜ wrote r (now (out .exit)) ≡ subjectIn (now (kinds .entry)) (now (numbers .entry)) count (wrote at (now (out .entry))) ⌝ }
+    ensures { λ r. ⌜ wrote r (now (out .exit)) ≡
+        subjectIn (now (kinds .entry)) (now (numbers .entry)) count (wrote at (now (out .entry))) ⌝ }
 {
     let e = condition(
         kinds,
@@ -307,7 +313,8 @@ fn closed(
     out: &mut [u8; 65536],
     at: Put,
 ) -> Put
-    ensures { λ r. ⌜ wrote r (now (out .exit)) ≡ closedIn (now (kinds .entry)) (now (numbers .entry)) count (wrote at (now (out .entry))) ⌝ }
+    ensures { λ r. ⌜ wrote r (now (out .exit)) ≡
+        closedIn (now (kinds .entry)) (now (numbers .entry)) count (wrote at (now (out .entry))) ⌝ }
 {
     let e = value(kinds, numbers, count, out, at);
     expect(kinds, e, 25)
@@ -321,7 +328,8 @@ fn assignment(
     out: &mut [u8; 65536],
     at: Put,
 ) -> Put
-    ensures { λ r. ⌜ wrote r (now (out .exit)) ≡ assignmentIn (now (kinds .entry)) (now (numbers .entry)) count (wrote at (now (out .entry))) ⌝ }
+    ensures { λ r. ⌜ wrote r (now (out .exit)) ≡
+        assignmentIn (now (kinds .entry)) (now (numbers .entry)) count (wrote at (now (out .entry))) ⌝ }
 {
     let a = write(0x03, out, at);
     let n = named(kinds, numbers, out, a);
@@ -342,7 +350,8 @@ fn label_value(
     width: u8,
     at: Put,
 ) -> Put
-    ensures { λ r. ⌜ wrote r (now (out .exit)) ≡ labelValue (now (kinds .entry)) (now (numbers .entry)) width (wrote at (now (out .entry))) ⌝ }
+    ensures { λ r. ⌜ wrote r (now (out .exit)) ≡
+        labelValue (now (kinds .entry)) (now (numbers .entry)) width (wrote at (now (out .entry))) ⌝ }
 {
     if is_next(kinds, 67, at) {
         let a = after(at);
@@ -377,7 +386,8 @@ fn heading(
     at: Put,
     subject: usize,
 ) -> Put
-    ensures { λ r. ⌜ wrote r (now (out .exit)) ≡ headingIn (now (kinds .entry)) (now (numbers .entry)) count subject (wrote at (now (out .entry))) ⌝ }
+    ensures { λ r. ⌜ wrote r (now (out .exit)) ≡
+        headingIn (now (kinds .entry)) (now (numbers .entry)) count subject (wrote at (now (out .entry))) ⌝ }
 {
     let a = write(0x0E, out, at);
     let b = write_pair(0x31, 0x08, out, a);
@@ -423,7 +433,8 @@ fn or_null(
     at: Put,
     fuel: usize,
 ) -> Put
-    ensures { λ r. ⌜ wrote r (now (out .exit)) ≡ orNullIn (now (kinds .entry)) (now (numbers .entry)) count fuel (wrote at (now (out .entry))) ⌝ }
+    ensures { λ r. ⌜ wrote r (now (out .exit)) ≡
+        orNullIn (now (kinds .entry)) (now (numbers .entry)) count fuel (wrote at (now (out .entry))) ⌝ }
 {
     if is_next(kinds, 25, at) {
         return write(0x00, out, after(at));
@@ -440,7 +451,8 @@ fn conditional(
     at: Put,
     fuel: usize,
 ) -> Put
-    ensures { λ r. ⌜ wrote r (now (out .exit)) ≡ conditionalIn (now (kinds .entry)) (now (numbers .entry)) count fuel (wrote at (now (out .entry))) ⌝ }
+    ensures { λ r. ⌜ wrote r (now (out .exit)) ≡
+        conditionalIn (now (kinds .entry)) (now (numbers .entry)) count fuel (wrote at (now (out .entry))) ⌝ }
 {
     let a = write(0x06, out, after(at));
     let c = condition(kinds, numbers, count, out, a);
@@ -463,7 +475,8 @@ fn block_rest(
     fuel: usize,
     turns: u16,
 ) -> Put
-    ensures { λ r. ⌜ wrote r (now (out .exit)) ≡ blockRestIn (now (kinds .entry)) (now (numbers .entry)) count fuel turns from (wrote at (now (out .entry))) ⌝ }
+    ensures { λ r. ⌜ wrote r (now (out .exit)) ≡
+        blockRestIn (now (kinds .entry)) (now (numbers .entry)) count fuel turns from (wrote at (now (out .entry))) ⌝ }
 {
     if turns == 0 {
         return refused(at);
@@ -488,7 +501,8 @@ fn block(
     at: Put,
     fuel: usize,
 ) -> Put
-    ensures { λ r. ⌜ wrote r (now (out .exit)) ≡ blockIn (now (kinds .entry)) (now (numbers .entry)) count fuel (wrote at (now (out .entry))) ⌝ }
+    ensures { λ r. ⌜ wrote r (now (out .exit)) ≡
+        blockIn (now (kinds .entry)) (now (numbers .entry)) count fuel (wrote at (now (out .entry))) ⌝ }
 {
     let turns = left(count, at.next);
     if turns == 0 {
@@ -510,7 +524,8 @@ fn defaulted(
     at: Put,
     fuel: usize,
 ) -> Put
-    ensures { λ r. ⌜ wrote r (now (out .exit)) ≡ defaultedIn (now (kinds .entry)) (now (numbers .entry)) count fuel (wrote at (now (out .entry))) ⌝ }
+    ensures { λ r. ⌜ wrote r (now (out .exit)) ≡
+        defaultedIn (now (kinds .entry)) (now (numbers .entry)) count fuel (wrote at (now (out .entry))) ⌝ }
 {
     let a = after(at);
     if is_next(kinds, 24, a) {
@@ -529,7 +544,8 @@ fn labelled(
     subject: usize,
     fuel: usize,
 ) -> Put
-    ensures { λ r. ⌜ wrote r (now (out .exit)) ≡ labelledIn (now (kinds .entry)) (now (numbers .entry)) count fuel subject (wrote at (now (out .entry))) ⌝ }
+    ensures { λ r. ⌜ wrote r (now (out .exit)) ≡
+        labelledIn (now (kinds .entry)) (now (numbers .entry)) count fuel subject (wrote at (now (out .entry))) ⌝ }
 {
     let a = heading(kinds, numbers, count, out, at, subject);
     let l = label(kinds, numbers, out, a);
@@ -548,7 +564,8 @@ fn items_behind(
     fuel: usize,
     turns: u16,
 ) -> Put
-    ensures { λ r. ⌜ wrote r (now (out .exit)) ≡ itemsBehindIn (now (kinds .entry)) (now (numbers .entry)) count fuel turns c (wrote at (now (out .entry))) ⌝ }
+    ensures { λ r. ⌜ wrote r (now (out .exit)) ≡
+        itemsBehindIn (now (kinds .entry)) (now (numbers .entry)) count fuel turns c (wrote at (now (out .entry))) ⌝ }
 {
     if is_next(kinds, 13, at) {
         return case_end(out, at, c);
@@ -567,7 +584,8 @@ fn case_items(
     fuel: usize,
     turns: u16,
 ) -> Put
-    ensures { λ r. ⌜ wrote r (now (out .exit)) ≡ caseItemsIn (now (kinds .entry)) (now (numbers .entry)) count fuel turns c (wrote at (now (out .entry))) ⌝ }
+    ensures { λ r. ⌜ wrote r (now (out .exit)) ≡
+        caseItemsIn (now (kinds .entry)) (now (numbers .entry)) count fuel turns c (wrote at (now (out .entry))) ⌝ }
 {
     if turns == 0 {
         return refused(at);
@@ -609,7 +627,8 @@ fn case_statement(
     at: Put,
     fuel: usize,
 ) -> Put
-    ensures { λ r. ⌜ wrote r (now (out .exit)) ≡ caseStatementIn (now (kinds .entry)) (now (numbers .entry)) count fuel (wrote at (now (out .entry))) ⌝ }
+    ensures { λ r. ⌜ wrote r (now (out .exit)) ≡
+        caseStatementIn (now (kinds .entry)) (now (numbers .entry)) count fuel (wrote at (now (out .entry))) ⌝ }
 {
     let a = after(at);
     let b = after(a);
@@ -633,7 +652,8 @@ pub fn statement(
     at: Put,
     fuel: usize,
 ) -> Put
-    ensures { λ r. ⌜ wrote r (now (out .exit)) ≡ statementIn (now (kinds .entry)) (now (numbers .entry)) count fuel (wrote at (now (out .entry))) ⌝ }
+    ensures { λ r. ⌜ wrote r (now (out .exit)) ≡
+        statementIn (now (kinds .entry)) (now (numbers .entry)) count fuel (wrote at (now (out .entry))) ⌝ }
 {
     if fuel == 0 {
         return refused(at);

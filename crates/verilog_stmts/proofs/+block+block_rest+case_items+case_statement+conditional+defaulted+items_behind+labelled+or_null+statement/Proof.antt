@@ -313,11 +313,23 @@ block-returns t c =
 
 block-returns-2 : (t : ℕ) → block-lts.Need-returns-2 (block-calls t) (block-at t) block.Post
 block-returns-2 t c =
-    paths.block-empty _ _ _ _ _ _ _ _ (c .before .before .before .before .before .before .left .ensures) (c .before .before .before .before .before .if1 .left) (c .before .before .before .before .is-next .ensures) (c .before .before .before .if2 .taken) (c .before .after .ensures) (c .write .ensures)
+    let at-if2 = c .before .before .before in
+    let at-is-next = at-if2 .before in
+    let at-if1 = at-is-next .before in
+    let at-left = at-if1 .before in
+    paths.block-empty _ _ _ _ _ _ _ _ (at-left .left .ensures)
+    (at-if1 .if1 .left) (at-is-next .is-next .ensures)
+    (at-if2 .if2 .taken) (c .before .after .ensures) (c .write .ensures)
 
 block-returns-3 : (t : ℕ) → block-lts.Need-returns-3 (block-calls t) (block-at t) block.Post
 block-returns-3 t c =
-    paths.block-first _ _ _ _ _ _ _ _ (c .before .before .before .before .before .before .before .left .ensures) (c .before .before .before .before .before .before .if1 .left) (c .before .before .before .before .before .is-next .ensures) (c .before .before .before .before .if2 .left) (c .before .before .statement .ensures) (c .block-rest .ensures)
+    let at-if2 = c .before .before .before .before in
+    let at-is-next = at-if2 .before in
+    let at-if1 = at-is-next .before in
+    let at-left = at-if1 .before in
+    paths.block-first _ _ _ _ _ _ _ _ (at-left .left .ensures)
+    (at-if1 .if1 .left) (at-is-next .is-next .ensures)
+    (at-if2 .if2 .left) (c .before .before .statement .ensures) (c .block-rest .ensures)
 
 block-rest-returns : (t : ℕ) → block-rest-lts.Need-returns (block-rest-calls t) (block-rest-at t) block-rest.Post
 block-rest-returns t c =
@@ -325,15 +337,33 @@ block-rest-returns t c =
 
 block-rest-returns-2 : (t : ℕ) → block-rest-lts.Need-returns-2 (block-rest-calls t) (block-rest-at t) block-rest.Post
 block-rest-returns-2 t c =
-    paths.rest-failed _ _ _ _ _ _ _ _ _ _ (c .before .before .if1 .left) (not-true (c .before .before .before .args .at .ok) (c .if2 .taken)) refl
+    let at-start = c .before .before .before in
+    paths.rest-failed _ _ _ _ _ _ _ _ _ _ (c .before .before .if1 .left)
+    (not-true (at-start .args .at .ok) (c .if2 .taken)) refl
 
 block-rest-returns-3 : (t : ℕ) → block-rest-lts.Need-returns-3 (block-rest-calls t) (block-rest-at t) block-rest.Post
 block-rest-returns-3 t c =
-    paths.rest-end _ _ _ _ _ _ _ _ _ _ (c .before .before .before .before .before .if1 .left) (not-false (c .before .before .before .before .before .before .args .at .ok) (c .before .before .before .if2 .left)) (c .before .before .is-next .ensures) (c .before .if3 .taken) (rw (← c .after .ensures) refl)
+    let at-if2 = c .before .before .before in
+    let at-if1 = at-if2 .before .before in
+    let at-start = at-if1 .before in
+    paths.rest-end _ _ _ _ _ _ _ _ _ _ (at-if1 .if1 .left)
+    (not-false (at-start .args .at .ok) (at-if2 .if2 .left))
+    (c .before .before .is-next .ensures) (c .before .if3 .taken) (rw (← c .after .ensures) refl)
 
 block-rest-returns-4 : (t : ℕ) → block-rest-lts.Need-returns-4 (block-rest-calls t) (block-rest-at t) block-rest.Post
 block-rest-returns-4 t c =
-    paths.rest-again _ _ _ _ _ _ _ _ _ _ (c .before .before .before .before .before .before .before .before .before .before .if1 .left) (not-false (c .before .before .before .before .before .before .before .before .before .before .before .args .at .ok) (c .before .before .before .before .before .before .before .before .if2 .left)) (c .before .before .before .before .before .before .before .is-next .ensures) (c .before .before .before .before .before .before .if3 .left) (c .before .before .before .before .front .ensures) (c .before .before .statement .ensures) (c .block-rest .ensures)
+    let at-front = c .before .before .before .before in
+    let at-if3 = at-front .before .before in
+    let at-is-next = at-if3 .before in
+    let at-if2 = at-is-next .before in
+    let at-if1 = at-if2 .before .before in
+    let at-start = at-if1 .before in
+    paths.rest-again _ _ _ _ _ _ _ _ _ _ (at-if1 .if1 .left)
+    (not-false (at-start .args .at .ok)
+    (at-if2 .if2 .left))
+    (at-is-next .is-next .ensures)
+    (at-if3 .if3 .left) (at-front .front .ensures)
+    (c .before .before .statement .ensures) (c .block-rest .ensures)
 
 case-items-returns : (t : ℕ) → case-items-lts.Need-returns (case-items-calls t) (case-items-at t) case-items.Post
 case-items-returns t c =
@@ -341,59 +371,127 @@ case-items-returns t c =
 
 case-items-returns-2 : (t : ℕ) → case-items-lts.Need-returns-2 (case-items-calls t) (case-items-at t) case-items.Post
 case-items-returns-2 t c =
-    paths.items-failed _ _ _ _ _ _ _ _ _ _ (c .before .before .if1 .left) (not-true (c .before .before .before .args .at .ok) (c .if2 .taken)) refl
+    let at-start = c .before .before .before in
+    paths.items-failed _ _ _ _ _ _ _ _ _ _ (c .before .before .if1 .left)
+    (not-true (at-start .args .at .ok) (c .if2 .taken)) refl
 
 case-items-returns-3 : (t : ℕ) → case-items-lts.Need-returns-3 (case-items-calls t) (case-items-at t) case-items.Post
 case-items-returns-3 t c =
-    paths.item-second _ _ _ _ _ _ _ _ _ _ (c .before .before .before .before .before .before .if1 .left) (not-false (c .before .before .before .before .before .before .before .args .at .ok) (c .before .before .before .before .if2 .left)) (c .before .before .before .is-next .ensures) (c .before .before .if3 .taken) (c .before .if4 .taken) (rw (← c .refused2 .ensures) refl)
+    let at-is-next = c .before .before .before in
+    let at-if2 = at-is-next .before in
+    let at-if1 = at-if2 .before .before in
+    let at-start = at-if1 .before in
+    paths.item-second _ _ _ _ _ _ _ _ _ _ (at-if1 .if1 .left)
+    (not-false (at-start .args .at .ok) (at-if2 .if2 .left))
+    (at-is-next .is-next .ensures) (c .before .before .if3 .taken) (c .before .if4 .taken)
+    (rw (← c .refused2 .ensures) refl)
 
 case-items-returns-4 : (t : ℕ) → case-items-lts.Need-returns-4 (case-items-calls t) (case-items-at t) case-items.Post
 case-items-returns-4 t c =
-    paths.item-default _ _ _ _ _ _ _ _ _ _ (c .before .before .before .before .before .before .before .before .before .if1 .left) (not-false (c .before .before .before .before .before .before .before .before .before .before .args .at .ok) (c .before .before .before .before .before .before .before .if2 .left)) (c .before .before .before .before .before .before .is-next .ensures) (c .before .before .before .before .before .if3 .taken) (c .before .before .before .before .if4 .left) (c .before .before .defaulted .ensures) (c .items-behind .ensures)
+    let at-if4 = c .before .before .before .before in
+    let at-if3 = at-if4 .before in
+    let at-is-next = at-if3 .before in
+    let at-if2 = at-is-next .before in
+    let at-if1 = at-if2 .before .before in
+    let at-start = at-if1 .before in
+    paths.item-default _ _ _ _ _ _ _ _ _ _ (at-if1 .if1 .left)
+    (not-false (at-start .args .at .ok)
+    (at-if2 .if2 .left))
+    (at-is-next .is-next .ensures) (at-if3 .if3 .taken)
+    (at-if4 .if4 .left) (c .before .before .defaulted .ensures) (c .items-behind .ensures)
 
 case-items-returns-5 : (t : ℕ) → case-items-lts.Need-returns-5 (case-items-calls t) (case-items-at t) case-items.Post
 case-items-returns-5 t c =
-    paths.item-label _ _ _ _ _ _ _ _ _ _ (c .before .before .before .before .before .before .before .before .if1 .left) (not-false (c .before .before .before .before .before .before .before .before .before .args .at .ok) (c .before .before .before .before .before .before .if2 .left)) (c .before .before .before .before .before .is-next .ensures) (c .before .before .before .before .if3 .left) (c .before .before .labelled .ensures) (c .items-behind2 .ensures)
+    let at-if3 = c .before .before .before .before in
+    let at-is-next = at-if3 .before in
+    let at-if2 = at-is-next .before in
+    let at-if1 = at-if2 .before .before in
+    let at-start = at-if1 .before in
+    paths.item-label _ _ _ _ _ _ _ _ _ _ (at-if1 .if1 .left)
+    (not-false (at-start .args .at .ok)
+    (at-if2 .if2 .left)) (at-is-next .is-next .ensures)
+    (at-if3 .if3 .left) (c .before .before .labelled .ensures) (c .items-behind2 .ensures)
 
 case-statement-returns : (t : ℕ) → case-statement-lts.Need-returns (case-statement-calls t) (case-statement-at t) case-statement.Post
 case-statement-returns t c =
-    paths.case-path _ _ _ _ _ _ _ _ (c .before .before .before .before .before .before .after .ensures) (c .before .before .before .before .before .after2 .ensures) (c .before .before .before .subject .ensures) (c .before .left .ensures) (c .case-items .ensures)
+    let at-subject = c .before .before .before in
+    let at-after2 = at-subject .before .before in
+    let at-after = at-after2 .before in
+    paths.case-path _ _ _ _ _ _ _ _ (at-after .after .ensures)
+    (at-after2 .after2 .ensures) (at-subject .subject .ensures) (c .before .left .ensures)
+    (c .case-items .ensures)
 
 conditional-returns : (t : ℕ) → conditional-lts.Need-returns (conditional-calls t) (conditional-at t) conditional.Post
 conditional-returns t c =
-    paths.if-else _ _ _ _ _ _ _ _ (c .before .before .before .before .before .before .before .before .before .before .before .before .after .ensures) (c .before .before .before .before .before .before .before .before .before .before .before .write .ensures) (c .before .before .before .before .before .before .before .before .before .condition .ensures) (c .before .before .before .before .before .before .before .or-null .ensures) (c .before .before .before .before .before .before .is-next .ensures) (c .before .before .before .before .before .if1 .taken) (c .before .before .before .stamp .ensures) (c .before .after2 .ensures) (c .or-null2 .ensures)
+    let at-stamp = c .before .before .before in
+    let at-if1 = at-stamp .before .before in
+    let at-is-next = at-if1 .before in
+    let at-or-null = at-is-next .before in
+    let at-condition = at-or-null .before .before in
+    let at-write = at-condition .before .before in
+    let at-after = at-write .before in
+    paths.if-else _ _ _ _ _ _ _ _
+    (at-after .after .ensures)
+    (at-write .write .ensures)
+    (at-condition .condition .ensures)
+    (at-or-null .or-null .ensures)
+    (at-is-next .is-next .ensures) (at-if1 .if1 .taken)
+    (at-stamp .stamp .ensures) (c .before .after2 .ensures) (c .or-null2 .ensures)
 
 conditional-returns-2 : (t : ℕ) → conditional-lts.Need-returns-2 (conditional-calls t) (conditional-at t) conditional.Post
 conditional-returns-2 t c =
-    paths.if-only _ _ _ _ _ _ _ _ (c .before .before .before .before .before .before .before .after .ensures) (c .before .before .before .before .before .before .write .ensures) (c .before .before .before .before .condition .ensures) (c .before .before .or-null .ensures) (c .before .is-next .ensures) (c .if1 .left) refl
+    let at-condition = c .before .before .before .before in
+    let at-write = at-condition .before .before in
+    let at-after = at-write .before in
+    paths.if-only _ _ _ _ _ _ _ _ (at-after .after .ensures)
+    (at-write .write .ensures) (at-condition .condition .ensures)
+    (c .before .before .or-null .ensures) (c .before .is-next .ensures) (c .if1 .left) refl
 
 defaulted-returns : (t : ℕ) → defaulted-lts.Need-returns (defaulted-calls t) (defaulted-at t) defaulted.Post
 defaulted-returns t c =
-    paths.default-colon _ _ _ _ _ _ _ _ (c .before .before .before .before .before .after .ensures) (c .before .before .before .before .is-next .ensures) (c .before .before .before .if1 .taken) (c .before .after2 .ensures) (c .or-null .ensures)
+    let at-if1 = c .before .before .before in
+    let at-is-next = at-if1 .before in
+    let at-after = at-is-next .before in
+    paths.default-colon _ _ _ _ _ _ _ _ (at-after .after .ensures)
+    (at-is-next .is-next .ensures) (at-if1 .if1 .taken) (c .before .after2 .ensures)
+    (c .or-null .ensures)
 
 defaulted-returns-2 : (t : ℕ) → defaulted-lts.Need-returns-2 (defaulted-calls t) (defaulted-at t) defaulted.Post
 defaulted-returns-2 t c =
-    paths.default-plain _ _ _ _ _ _ _ _ (c .before .before .before .before .after .ensures) (c .before .before .before .is-next .ensures) (c .before .before .if1 .left) (c .or-null2 .ensures)
+    let at-is-next = c .before .before .before in
+    let at-after = at-is-next .before in
+    paths.default-plain _ _ _ _ _ _ _ _ (at-after .after .ensures) (at-is-next .is-next .ensures)
+    (c .before .before .if1 .left) (c .or-null2 .ensures)
 
 items-behind-returns : (t : ℕ) → items-behind-lts.Need-returns (items-behind-calls t) (items-behind-at t) items-behind.Post
 items-behind-returns t c =
-    paths.items-end _ _ _ _ _ _ _ _ _ _ (c .before .before .before .is-next .ensures) (c .before .before .if1 .taken) (c .case-end .ensures)
+    let at-is-next = c .before .before .before in
+    paths.items-end _ _ _ _ _ _ _ _ _ _ (at-is-next .is-next .ensures) (c .before .before .if1 .taken) (c .case-end .ensures)
 
 items-behind-returns-2 : (t : ℕ) → items-behind-lts.Need-returns-2 (items-behind-calls t) (items-behind-at t) items-behind.Post
 items-behind-returns-2 t c =
-    paths.items-more _ _ _ _ _ _ _ _ _ _ (c .before .before .before .is-next .ensures) (c .before .before .if1 .left) (c .case-items .ensures)
+    let at-is-next = c .before .before .before in
+    paths.items-more _ _ _ _ _ _ _ _ _ _ (at-is-next .is-next .ensures) (c .before .before .if1 .left)
+    (c .case-items .ensures)
 
 labelled-returns : (t : ℕ) → labelled-lts.Need-returns (labelled-calls t) (labelled-at t) labelled.Post
 labelled-returns t c =
-    paths.label-path _ _ _ _ _ _ _ _ _ (c .before .before .before .before .before .heading .ensures) (c .before .before .before .label .ensures) (c .before .before .expect .ensures) (c .or-null .ensures)
+    let at-label = c .before .before .before in
+    let at-heading = at-label .before .before in
+    paths.label-path _ _ _ _ _ _ _ _ _ (at-heading .heading .ensures)
+    (at-label .label .ensures) (c .before .before .expect .ensures) (c .or-null .ensures)
 
 or-null-returns : (t : ℕ) → or-null-lts.Need-returns (or-null-calls t) (or-null-at t) or-null.Post
 or-null-returns t c =
-    paths.null-taken _ _ _ _ _ _ _ _ (c .before .before .before .before .is-next .ensures) (c .before .before .before .if1 .taken) (c .before .after .ensures) (c .write .ensures)
+    let at-if1 = c .before .before .before in
+    let at-is-next = at-if1 .before in
+    paths.null-taken _ _ _ _ _ _ _ _ (at-is-next .is-next .ensures) (at-if1 .if1 .taken)
+    (c .before .after .ensures) (c .write .ensures)
 
 or-null-returns-2 : (t : ℕ) → or-null-lts.Need-returns-2 (or-null-calls t) (or-null-at t) or-null.Post
 or-null-returns-2 t c =
-    paths.null-left _ _ _ _ _ _ _ _ (c .before .before .before .is-next .ensures) (c .before .before .if1 .left) (c .statement .ensures)
+    let at-is-next = c .before .before .before in
+    paths.null-left _ _ _ _ _ _ _ _ (at-is-next .is-next .ensures) (c .before .before .if1 .left) (c .statement .ensures)
 
 statement-returns : (t : ℕ) → statement-lts.Need-returns (statement-calls t) (statement-at t) statement′.Post
 statement-returns t c =
@@ -401,38 +499,99 @@ statement-returns t c =
 
 statement-returns-2 : (t : ℕ) → statement-lts.Need-returns-2 (statement-calls t) (statement-at t) statement′.Post
 statement-returns-2 t c =
-    paths.stmt-failed _ _ _ _ _ _ _ _ (c .before .before .if1 .left) (not-true (c .before .before .before .args .at .ok) (c .if2 .taken)) refl
+    let at-start = c .before .before .before in
+    paths.stmt-failed _ _ _ _ _ _ _ _ (c .before .before .if1 .left)
+    (not-true (at-start .args .at .ok) (c .if2 .taken)) refl
 
 statement-returns-3 : (t : ℕ) → statement-lts.Need-returns-3 (statement-calls t) (statement-at t) statement′.Post
 statement-returns-3 t c =
-    paths.stmt-if _ _ _ _ _ _ _ _ (c .before .before .before .before .before .before .if1 .left) (not-false (c .before .before .before .before .before .before .before .args .at .ok) (c .before .before .before .before .if2 .left)) (c .before .before .before .kind-at .ensures) (c .before .before .match .keys1) (c .conditional .ensures)
+    let at-kind-at = c .before .before .before in
+    let at-if2 = at-kind-at .before in
+    let at-if1 = at-if2 .before .before in
+    let at-start = at-if1 .before in
+    paths.stmt-if _ _ _ _ _ _ _ _ (at-if1 .if1 .left)
+    (not-false (at-start .args .at .ok) (at-if2 .if2 .left))
+    (at-kind-at .kind-at .ensures) (c .before .before .match .keys1) (c .conditional .ensures)
 
 statement-returns-4 : (t : ℕ) → statement-lts.Need-returns-4 (statement-calls t) (statement-at t) statement′.Post
 statement-returns-4 t c =
-    paths.stmt-case _ _ _ _ _ _ _ _ (c .before .before .before .before .before .before .if1 .left) (not-false (c .before .before .before .before .before .before .before .args .at .ok) (c .before .before .before .before .if2 .left)) (c .before .before .before .kind-at .ensures) (c .before .before .match .keys2) (c .case-statement .ensures)
+    let at-kind-at = c .before .before .before in
+    let at-if2 = at-kind-at .before in
+    let at-if1 = at-if2 .before .before in
+    let at-start = at-if1 .before in
+    paths.stmt-case _ _ _ _ _ _ _ _ (at-if1 .if1 .left)
+    (not-false (at-start .args .at .ok) (at-if2 .if2 .left))
+    (at-kind-at .kind-at .ensures) (c .before .before .match .keys2) (c .case-statement .ensures)
 
 statement-returns-5 : (t : ℕ) → statement-lts.Need-returns-5 (statement-calls t) (statement-at t) statement′.Post
 statement-returns-5 t c =
-    paths.stmt-while _ _ _ _ _ _ _ _ (c .before .before .before .before .before .before .before .before .before .before .before .if1 .left) (not-false (c .before .before .before .before .before .before .before .before .before .before .before .before .args .at .ok) (c .before .before .before .before .before .before .before .before .before .if2 .left)) (c .before .before .before .before .before .before .before .before .kind-at .ensures) (c .before .before .before .before .before .before .before .match .keys3) (c .before .before .before .before .before .after .ensures) (c .before .before .before .before .write .ensures) (c .before .before .condition .ensures) (c .statement .ensures)
+    let at-write = c .before .before .before .before in
+    let at-after = at-write .before in
+    let at-match = at-after .before .before in
+    let at-kind-at = at-match .before in
+    let at-if2 = at-kind-at .before in
+    let at-if1 = at-if2 .before .before in
+    let at-start = at-if1 .before in
+    paths.stmt-while _ _ _ _ _ _ _ _
+    (at-if1 .if1 .left)
+    (not-false (at-start .args .at .ok)
+    (at-if2 .if2 .left))
+    (at-kind-at .kind-at .ensures)
+    (at-match .match .keys3) (at-after .after .ensures)
+    (at-write .write .ensures) (c .before .before .condition .ensures) (c .statement .ensures)
 
 statement-returns-6 : (t : ℕ) → statement-lts.Need-returns-6 (statement-calls t) (statement-at t) statement′.Post
 statement-returns-6 t c =
-    paths.stmt-forever _ _ _ _ _ _ _ _ (c .before .before .before .before .before .before .before .before .before .if1 .left) (not-false (c .before .before .before .before .before .before .before .before .before .before .args .at .ok) (c .before .before .before .before .before .before .before .if2 .left)) (c .before .before .before .before .before .before .kind-at .ensures) (c .before .before .before .before .before .match .keys4) (c .before .before .before .after2 .ensures) (c .before .before .write2 .ensures) (c .statement2 .ensures)
+    let at-after2 = c .before .before .before in
+    let at-match = at-after2 .before .before in
+    let at-kind-at = at-match .before in
+    let at-if2 = at-kind-at .before in
+    let at-if1 = at-if2 .before .before in
+    let at-start = at-if1 .before in
+    paths.stmt-forever _ _ _ _ _ _ _ _ (at-if1 .if1 .left)
+    (not-false (at-start .args .at .ok)
+    (at-if2 .if2 .left))
+    (at-kind-at .kind-at .ensures) (at-match .match .keys4)
+    (at-after2 .after2 .ensures) (c .before .before .write2 .ensures) (c .statement2 .ensures)
 
 statement-returns-7 : (t : ℕ) → statement-lts.Need-returns-7 (statement-calls t) (statement-at t) statement′.Post
 statement-returns-7 t c =
-    paths.stmt-wait _ _ _ _ _ _ _ _ (c .before .before .before .before .before .before .before .before .if1 .left) (not-false (c .before .before .before .before .before .before .before .before .before .args .at .ok) (c .before .before .before .before .before .before .if2 .left)) (c .before .before .before .before .before .kind-at .ensures) (c .before .before .before .before .match .keys5) (c .before .before .control .ensures) (c .or-null .ensures)
+    let at-match = c .before .before .before .before in
+    let at-kind-at = at-match .before in
+    let at-if2 = at-kind-at .before in
+    let at-if1 = at-if2 .before .before in
+    let at-start = at-if1 .before in
+    paths.stmt-wait _ _ _ _ _ _ _ _ (at-if1 .if1 .left)
+    (not-false (at-start .args .at .ok)
+    (at-if2 .if2 .left)) (at-kind-at .kind-at .ensures)
+    (at-match .match .keys5) (c .before .before .control .ensures) (c .or-null .ensures)
 
 statement-returns-8 : (t : ℕ) → statement-lts.Need-returns-8 (statement-calls t) (statement-at t) statement′.Post
 statement-returns-8 t c =
-    paths.stmt-block _ _ _ _ _ _ _ _ (c .before .before .before .before .before .before .before .if1 .left) (not-false (c .before .before .before .before .before .before .before .before .args .at .ok) (c .before .before .before .before .before .if2 .left)) (c .before .before .before .before .kind-at .ensures) (c .before .before .before .match .keys6) (c .before .after3 .ensures) (c .block .ensures)
+    let at-match = c .before .before .before in
+    let at-kind-at = at-match .before in
+    let at-if2 = at-kind-at .before in
+    let at-if1 = at-if2 .before .before in
+    let at-start = at-if1 .before in
+    paths.stmt-block _ _ _ _ _ _ _ _ (at-if1 .if1 .left)
+    (not-false (at-start .args .at .ok)
+    (at-if2 .if2 .left)) (at-kind-at .kind-at .ensures)
+    (at-match .match .keys6) (c .before .after3 .ensures) (c .block .ensures)
 
 statement-returns-9 : (t : ℕ) → statement-lts.Need-returns-9 (statement-calls t) (statement-at t) statement′.Post
 statement-returns-9 t c =
+    let at-kind-at = c .before .before .before in
+    let at-if2 = at-kind-at .before in
+    let at-if1 = at-if2 .before .before in
+    let at-start = at-if1 .before in
     let r = c .before .before .match .rest in
-    paths.stmt-assign _ _ _ _ _ _ _ _ (c .before .before .before .before .before .before .if1 .left) (not-false (c .before .before .before .before .before .before .before .args .at .ok) (c .before .before .before .before .if2 .left)) (c .before .before .before .kind-at .ensures) (r .0 .0 .0 .0 .0 .1) (r .0 .0 .0 .0 .1) (r .0 .0 .0 .1) (r .0 .0 .1) (r .0 .1) (r .1) (c .assignment .ensures)
+    paths.stmt-assign _ _ _ _ _ _ _ _ (at-if1 .if1 .left)
+    (not-false (at-start .args .at .ok) (at-if2 .if2 .left))
+    (at-kind-at .kind-at .ensures) (r .0 .0 .0 .0 .0 .1) (r .0 .0 .0 .0 .1) (r .0 .0 .0 .1) (r .0 .0 .1) (r .0 .1) (r .1)
+    (c .assignment .ensures)
 
-pub +block+block-rest+case-items+case-statement+conditional+defaulted+items-behind+labelled+or-null+statement-spec : {M : Type 1} → statement M
+pub +block+block-rest+case-items+case-statement+conditional+defaulted+items-behind+labelled+or-null+statement-spec : {M : Type 1}
+    → statement M
 +block+block-rest+case-items+case-statement+conditional+defaulted+items-behind+labelled+or-null+statement-spec =
     close μ-block μ-block-rest μ-case-items μ-case-statement μ-conditional μ-defaulted μ-items-behind μ-labelled μ-or-null μ-statement
     (λ t. block-lts.spec (block-calls t) (block-at t) block.Post

@@ -54,18 +54,47 @@ events-returns t c =
 
 events-returns-2 : (t : ℕ) → events-lts.Need-returns-2 (events-calls t) (events-at t) events.Post
 events-returns-2 t c =
-    on-or _ _ _ _ _ _ _ (c .before .before .before .before .before .before .before .before .if1 .left) (c .before .before .before .before .before .one-more .ensures) (c .before .before .before .before .before .before .event .ensures) (c .before .before .before .before .is-next .ensures) (c .before .before .before .if2 .taken)
+    let at-if2 = c .before .before .before in
+    let at-is-next = at-if2 .before in
+    let at-one-more = at-is-next .before in
+    let at-event = at-one-more .before in
+    let at-if1 = at-event .before .before in
+    on-or _ _ _ _ _ _ _ (at-if1 .if1 .left)
+    (at-one-more .one-more .ensures) (at-event .event .ensures)
+    (at-is-next .is-next .ensures) (at-if2 .if2 .taken)
     (rw (← c .before .after .ensures) (c .events .ensures))
 
 events-returns-3 : (t : ℕ) → events-lts.Need-returns-3 (events-calls t) (events-at t) events.Post
 events-returns-3 t c =
-    on-comma _ _ _ _ _ _ _ (c .before .before .before .before .before .before .before .before .before .before .if1 .left) (c .before .before .before .before .before .before .before .one-more .ensures) (c .before .before .before .before .before .before .before .before .event .ensures) (c .before .before .before .before .before .before .is-next .ensures) (c .before .before .before .before .before .if2 .left) (c .before .before .before .before .is-next2 .ensures) (c .before .before .before .if3 .taken)
+    let at-if3 = c .before .before .before in
+    let at-is-next2 = at-if3 .before in
+    let at-if2 = at-is-next2 .before in
+    let at-is-next = at-if2 .before in
+    let at-one-more = at-is-next .before in
+    let at-event = at-one-more .before in
+    let at-if1 = at-event .before .before in
+    on-comma _ _ _ _ _ _ _ (at-if1 .if1 .left)
+    (at-one-more .one-more .ensures)
+    (at-event .event .ensures)
+    (at-is-next .is-next .ensures) (at-if2 .if2 .left)
+    (at-is-next2 .is-next2 .ensures) (at-if3 .if3 .taken)
     (rw (← c .before .after2 .ensures) (c .events2 .ensures))
 
 events-returns-4 : (t : ℕ) → events-lts.Need-returns-4 (events-calls t) (events-at t) events.Post
 unfolding stampAt
 events-returns-4 t c =
-    ended _ _ _ _ _ _ _ (c .before .before .before .before .before .before .before .before .before .before .if1 .left) (c .before .before .before .before .before .before .before .one-more .ensures) (c .before .before .before .before .before .before .before .before .event .ensures) (c .before .before .before .before .before .before .is-next .ensures) (c .before .before .before .before .before .if2 .left) (c .before .before .before .before .is-next2 .ensures) (c .before .before .before .if3 .left)
+    let at-if3 = c .before .before .before in
+    let at-is-next2 = at-if3 .before in
+    let at-if2 = at-is-next2 .before in
+    let at-is-next = at-if2 .before in
+    let at-one-more = at-is-next .before in
+    let at-event = at-one-more .before in
+    let at-if1 = at-event .before .before in
+    ended _ _ _ _ _ _ _ (at-if1 .if1 .left)
+    (at-one-more .one-more .ensures)
+    (at-event .event .ensures)
+    (at-is-next .is-next .ensures) (at-if2 .if2 .left)
+    (at-is-next2 .is-next2 .ensures) (at-if3 .if3 .left)
     (rw (← c .before .before .counted .ensures, ← c .stamp .ensures) refl)
 
 pub +events-spec : {M : Type 1} → statement M

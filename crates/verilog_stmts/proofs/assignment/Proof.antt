@@ -10,14 +10,85 @@ use Rattle.verilog_stmts.proofs.assignment.Tie as tie
 returns : tie.Need-returns
 unfolding assignment assigned now
 returns c =
-    behind (λ s. assigned (c .before .before .before .before .before .before .before .before .before .args .kinds .now) (c .before .before .before .before .before .before .before .before .before .args .numbers .now) (c .before .before .before .before .before .before .before .before .before .args .count) (value (c .before .before .before .before .before .before .before .before .before .args .kinds .now) (c .before .before .before .before .before .before .before .before .before .args .numbers .now) (c .before .before .before .before .before .before .before .before .before .args .count)) (labelAt (c .before .before .before .before .before .before .before .before .before .args .kinds .now) (c .before .before .before .before .before .before .before .before .before .args .numbers .now)) (c .before .before .before .before .before .before .before .before .before .args .at .pos) s) (behind (λ s. named (c .before .before .before .before .before .before .before .before .before .args .kinds .now) (c .before .before .before .before .before .before .before .before .before .args .numbers .now) s) (c .before .before .before .before .before .before .before .write .ensures) (c .before .before .before .before .before .named .ensures))
-    (taken (now (c .before .before .before .before .before .before .before .before .before .args .kinds .now) (c .before .before .before .before .before .before .before .before .before .args .numbers .now) (c .before .before .before .before .before .before .before .before .before .args .count) (value (c .before .before .before .before .before .before .before .before .before .args .kinds .now) (c .before .before .before .before .before .before .before .before .before .args .numbers .now) (c .before .before .before .before .before .before .before .before .before .args .count)) (labelAt (c .before .before .before .before .before .before .before .before .before .args .kinds .now) (c .before .before .before .before .before .before .before .before .before .args .numbers .now))) (later (c .before .before .before .before .before .before .before .before .before .args .kinds .now) (c .before .before .before .before .before .before .before .before .before .args .numbers .now) (c .before .before .before .before .before .before .before .before .before .args .count) (value (c .before .before .before .before .before .before .before .before .before .args .kinds .now) (c .before .before .before .before .before .before .before .before .before .args .numbers .now) (c .before .before .before .before .before .before .before .before .before .args .count)) (labelAt (c .before .before .before .before .before .before .before .before .before .args .kinds .now) (c .before .before .before .before .before .before .before .before .before .args .numbers .now)) (c .before .before .before .before .before .before .before .before .before .args .at .pos)) (c .before .before .before .before .is-next .ensures) (c .before .before .before .if1 .taken) (rw (← c .before .after .ensures) (c .closed .ensures)))
+    let at-if1 = c .before .before .before in
+    let at-is-next = at-if1 .before in
+    let at-named = at-is-next .before in
+    let at-write = at-named .before .before in
+    let at-start = at-write .before .before in
+    behind (λ s. assigned (at-start .args .kinds .now)
+    (at-start .args .numbers .now)
+    (at-start .args .count)
+    (value (at-start .args .kinds .now)
+    (at-start .args .numbers .now)
+    (at-start .args .count))
+    (labelAt (at-start .args .kinds .now)
+    (at-start .args .numbers .now))
+    (at-start .args .at .pos) s)
+    (behind (λ s. named (at-start .args .kinds .now)
+    (at-start .args .numbers .now) s)
+    (at-write .write .ensures)
+    (at-named .named .ensures))
+    (taken (now (at-start .args .kinds .now)
+    (at-start .args .numbers .now)
+    (at-start .args .count)
+    (value (at-start .args .kinds .now)
+    (at-start .args .numbers .now)
+    (at-start .args .count))
+    (labelAt (at-start .args .kinds .now)
+    (at-start .args .numbers .now)))
+    (later (at-start .args .kinds .now)
+    (at-start .args .numbers .now)
+    (at-start .args .count)
+    (value (at-start .args .kinds .now)
+    (at-start .args .numbers .now)
+    (at-start .args .count))
+    (labelAt (at-start .args .kinds .now)
+    (at-start .args .numbers .now))
+    (at-start .args .at .pos))
+    (at-is-next .is-next .ensures) (at-if1 .if1 .taken)
+    (rw (← c .before .after .ensures) (c .closed .ensures)))
 
 returns-2 : tie.Need-returns-2
 unfolding assignment assigned later stampAt
 returns-2 c =
-    behind (λ s. assigned (c .before .before .before .before .before .before .before .before .before .before .before .args .kinds .now) (c .before .before .before .before .before .before .before .before .before .before .before .args .numbers .now) (c .before .before .before .before .before .before .before .before .before .before .before .args .count) (value (c .before .before .before .before .before .before .before .before .before .before .before .args .kinds .now) (c .before .before .before .before .before .before .before .before .before .before .before .args .numbers .now) (c .before .before .before .before .before .before .before .before .before .before .before .args .count)) (labelAt (c .before .before .before .before .before .before .before .before .before .before .before .args .kinds .now) (c .before .before .before .before .before .before .before .before .before .before .before .args .numbers .now)) (c .before .before .before .before .before .before .before .before .before .before .before .args .at .pos) s) (behind (λ s. named (c .before .before .before .before .before .before .before .before .before .before .before .args .kinds .now) (c .before .before .before .before .before .before .before .before .before .before .before .args .numbers .now) s) (c .before .before .before .before .before .before .before .before .before .write .ensures) (c .before .before .before .before .before .before .before .named .ensures))
-    (left (now (c .before .before .before .before .before .before .before .before .before .before .before .args .kinds .now) (c .before .before .before .before .before .before .before .before .before .before .before .args .numbers .now) (c .before .before .before .before .before .before .before .before .before .before .before .args .count) (value (c .before .before .before .before .before .before .before .before .before .before .before .args .kinds .now) (c .before .before .before .before .before .before .before .before .before .before .before .args .numbers .now) (c .before .before .before .before .before .before .before .before .before .before .before .args .count)) (labelAt (c .before .before .before .before .before .before .before .before .before .before .before .args .kinds .now) (c .before .before .before .before .before .before .before .before .before .before .before .args .numbers .now))) (later (c .before .before .before .before .before .before .before .before .before .before .before .args .kinds .now) (c .before .before .before .before .before .before .before .before .before .before .before .args .numbers .now) (c .before .before .before .before .before .before .before .before .before .before .before .args .count) (value (c .before .before .before .before .before .before .before .before .before .before .before .args .kinds .now) (c .before .before .before .before .before .before .before .before .before .before .before .args .numbers .now) (c .before .before .before .before .before .before .before .before .before .before .before .args .count)) (labelAt (c .before .before .before .before .before .before .before .before .before .before .before .args .kinds .now) (c .before .before .before .before .before .before .before .before .before .before .before .args .numbers .now)) (c .before .before .before .before .before .before .before .before .before .before .before .args .at .pos)) (c .before .before .before .before .before .before .is-next .ensures) (c .before .before .before .before .before .if1 .left) (rw (← c .before .expect .ensures, ← c .before .before .before .stamp .ensures) (c .closed2 .ensures)))
+    let at-stamp = c .before .before .before in
+    let at-if1 = at-stamp .before .before in
+    let at-is-next = at-if1 .before in
+    let at-named = at-is-next .before in
+    let at-write = at-named .before .before in
+    let at-start = at-write .before .before in
+    behind (λ s. assigned (at-start .args .kinds .now)
+    (at-start .args .numbers .now)
+    (at-start .args .count)
+    (value (at-start .args .kinds .now)
+    (at-start .args .numbers .now)
+    (at-start .args .count))
+    (labelAt (at-start .args .kinds .now)
+    (at-start .args .numbers .now))
+    (at-start .args .at .pos) s)
+    (behind (λ s. named (at-start .args .kinds .now)
+    (at-start .args .numbers .now) s)
+    (at-write .write .ensures)
+    (at-named .named .ensures))
+    (left (now (at-start .args .kinds .now)
+    (at-start .args .numbers .now)
+    (at-start .args .count)
+    (value (at-start .args .kinds .now)
+    (at-start .args .numbers .now)
+    (at-start .args .count))
+    (labelAt (at-start .args .kinds .now)
+    (at-start .args .numbers .now)))
+    (later (at-start .args .kinds .now)
+    (at-start .args .numbers .now)
+    (at-start .args .count)
+    (value (at-start .args .kinds .now)
+    (at-start .args .numbers .now)
+    (at-start .args .count))
+    (labelAt (at-start .args .kinds .now)
+    (at-start .args .numbers .now))
+    (at-start .args .at .pos))
+    (at-is-next .is-next .ensures) (at-if1 .if1 .left)
+    (rw (← c .before .expect .ensures, ← at-stamp .stamp .ensures) (c .closed2 .ensures)))
 
 pub assignment-spec : {M : Type 1} → statement M
 assignment-spec =

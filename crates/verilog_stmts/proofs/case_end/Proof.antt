@@ -11,12 +11,20 @@ use Rattle.verilog_stmts.proofs.case_end.Tie as tie
 returns : tie.Need-returns
 unfolding caseEnd last turning
 returns c =
-    taken (last (c .before .before .before .before .args .c .from) (c .before .before .before .before .args .c .mid)) (stampAt 0x06 (c .before .before .before .before .args .c .last)) refl (c .before .before .if1 .taken) (rw (← c .before .before .before .after .ensures, ← c .turn .ensures) refl)
+    let at-after = c .before .before .before in
+    let at-start = at-after .before in
+    taken (last (at-start .args .c .from) (at-start .args .c .mid))
+    (stampAt 0x06 (at-start .args .c .last)) refl (c .before .before .if1 .taken)
+    (rw (← at-after .after .ensures, ← c .turn .ensures) refl)
 
 returns-2 : tie.Need-returns-2
 unfolding caseEnd stampAt
 returns-2 c =
-    left (last (c .before .before .before .before .args .c .from) (c .before .before .before .before .args .c .mid)) (stampAt 0x06 (c .before .before .before .before .args .c .last)) refl (c .before .before .if1 .left) (rw (← c .before .before .before .after .ensures, ← c .stamp .ensures) refl)
+    let at-after = c .before .before .before in
+    let at-start = at-after .before in
+    left (last (at-start .args .c .from) (at-start .args .c .mid))
+    (stampAt 0x06 (at-start .args .c .last)) refl (c .before .before .if1 .left)
+    (rw (← at-after .after .ensures, ← c .stamp .ensures) refl)
 
 pub case-end-spec : {M : Type 1} → statement M
 case-end-spec =

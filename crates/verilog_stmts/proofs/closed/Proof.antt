@@ -9,7 +9,8 @@ use Rattle.verilog_stmts.proofs.closed.Tie as tie
 returns : tie.Need-returns
 unfolding closed
 returns c =
-    onward (expected (c .before .before .before .args .kinds .now) 25) (c .expect .ensures) (c .before .value .ensures)
+    let at-start = c .before .before .before in
+    onward (expected (at-start .args .kinds .now) 25) (c .expect .ensures) (c .before .value .ensures)
 
 pub closed-spec : {M : Type 1} → statement M
 closed-spec =

@@ -10,7 +10,9 @@ use Rattle.verilog_stmts.proofs.condition.Tie as tie
 returns : tie.Need-returns
 unfolding condition
 returns c =
-    onward (expected (c .before .before .before .before .args .kinds .now) 21) (c .expect2 .ensures) (rw (← c .before .before .expect .ensures) (c .before .value .ensures))
+    let at-start = c .before .before .before .before in
+    onward (expected (at-start .args .kinds .now) 21) (c .expect2 .ensures)
+    (rw (← c .before .before .expect .ensures) (c .before .value .ensures))
 
 pub condition-spec : {M : Type 1} → statement M
 condition-spec =

@@ -9,18 +9,46 @@ use Rattle.verilog_stmts.proofs.event.Tie as tie
 returns : tie.Need-returns
 unfolding event edge
 returns c =
-    taken (edge (c .before .before .before .before .before .args .kinds .now) (c .before .before .before .before .before .args .numbers .now) 1) _ (c .before .before .before .before .is-next .ensures) (c .before .before .before .if1 .taken) (rw (← c .before .after .ensures) (c .term .ensures))
+    let at-if1 = c .before .before .before in
+    let at-is-next = at-if1 .before in
+    let at-start = at-is-next .before in
+    taken (edge (at-start .args .kinds .now)
+    (at-start .args .numbers .now) 1) _ (at-is-next .is-next .ensures)
+    (at-if1 .if1 .taken) (rw (← c .before .after .ensures) (c .term .ensures))
 
 returns-2 : tie.Need-returns-2
 unfolding event edge
 returns-2 c =
-    left (edge (c .before .before .before .before .before .before .before .args .kinds .now) (c .before .before .before .before .before .before .before .args .numbers .now) 1) _ (c .before .before .before .before .before .before .is-next .ensures) (c .before .before .before .before .before .if1 .left)
-    (taken (edge (c .before .before .before .before .before .before .before .args .kinds .now) (c .before .before .before .before .before .before .before .args .numbers .now) 2) (term (c .before .before .before .before .before .before .before .args .kinds .now) (c .before .before .before .before .before .before .before .args .numbers .now) 0) (c .before .before .before .before .is-next2 .ensures) (c .before .before .before .if2 .taken) (rw (← c .before .after2 .ensures) (c .term2 .ensures)))
+    let at-if2 = c .before .before .before in
+    let at-is-next2 = at-if2 .before in
+    let at-if1 = at-is-next2 .before in
+    let at-is-next = at-if1 .before in
+    let at-start = at-is-next .before in
+    left (edge (at-start .args .kinds .now)
+    (at-start .args .numbers .now) 1) _
+    (at-is-next .is-next .ensures) (at-if1 .if1 .left)
+    (taken (edge (at-start .args .kinds .now)
+    (at-start .args .numbers .now) 2)
+    (term (at-start .args .kinds .now)
+    (at-start .args .numbers .now) 0)
+    (at-is-next2 .is-next2 .ensures) (at-if2 .if2 .taken)
+    (rw (← c .before .after2 .ensures) (c .term2 .ensures)))
 
 returns-3 : tie.Need-returns-3
 unfolding event
 returns-3 c =
-    left (edge (c .before .before .before .before .before .before .args .kinds .now) (c .before .before .before .before .before .before .args .numbers .now) 1) _ (c .before .before .before .before .before .is-next .ensures) (c .before .before .before .before .if1 .left) (left (edge (c .before .before .before .before .before .before .args .kinds .now) (c .before .before .before .before .before .before .args .numbers .now) 2) (term (c .before .before .before .before .before .before .args .kinds .now) (c .before .before .before .before .before .before .args .numbers .now) 0) (c .before .before .before .is-next2 .ensures) (c .before .before .if2 .left) (c .term3 .ensures))
+    let at-is-next2 = c .before .before .before in
+    let at-if1 = at-is-next2 .before in
+    let at-is-next = at-if1 .before in
+    let at-start = at-is-next .before in
+    left (edge (at-start .args .kinds .now)
+    (at-start .args .numbers .now) 1) _
+    (at-is-next .is-next .ensures) (at-if1 .if1 .left)
+    (left (edge (at-start .args .kinds .now)
+    (at-start .args .numbers .now) 2)
+    (term (at-start .args .kinds .now)
+    (at-start .args .numbers .now) 0) (at-is-next2 .is-next2 .ensures)
+    (c .before .before .if2 .left) (c .term3 .ensures))
 
 pub event-spec : {M : Type 1} → statement M
 event-spec =

@@ -11,7 +11,15 @@ use Rattle.verilog_stmts.proofs.heading.Tie as tie
 returns : tie.Need-returns
 unfolding heading
 returns c =
-    ap (λ s. atToken (c .before .before .before .before .before .before .args .at .next) s) (behind (λ s. value (c .before .before .before .before .before .before .args .kinds .now) (c .before .before .before .before .before .before .args .numbers .now) (c .before .before .before .before .before .before .args .count) (atToken (c .before .before .before .before .before .before .args .subject) s)) (behind (λ s. write (0x31 ∷ 0x08 ∷ []) s) (c .before .before .before .before .write .ensures) (c .before .before .write-pair .ensures)) (c .value .ensures))
+    let at-write = c .before .before .before .before in
+    let at-start = at-write .before .before in
+    ap (λ s. atToken (at-start .args .at .next) s)
+    (behind (λ s. value (at-start .args .kinds .now)
+    (at-start .args .numbers .now)
+    (at-start .args .count)
+    (atToken (at-start .args .subject) s))
+    (behind (λ s. write (0x31 ∷ 0x08 ∷ []) s) (at-write .write .ensures)
+    (c .before .before .write-pair .ensures)) (c .value .ensures))
 
 pub heading-spec : {M : Type 1} → statement M
 heading-spec =

@@ -15,7 +15,8 @@ returns c =
 returns-2 : tie.Need-returns-2
 unfolding isNext
 returns-2 c =
-    rw (not-false (c .before .before .before .args .at .ok) (c .before .if1 .left), c .kind-at .ensures) refl
+    let at-start = c .before .before .before in
+    rw (not-false (at-start .args .at .ok) (c .before .if1 .left), c .kind-at .ensures) refl
 
 pub is-next-spec : {M : Type 1} → statement M
 is-next-spec =

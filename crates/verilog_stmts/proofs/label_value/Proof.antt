@@ -10,13 +10,24 @@ use Rattle.verilog_stmts.proofs.label_value.Tie as tie
 returns : tie.Need-returns
 unfolding labelValue known write
 returns c =
-    taken (known (c .before .before .before .before .before .before .args .kinds .now) (c .before .before .before .before .before .before .args .numbers .now) (c .before .before .before .before .before .before .args .width)) (moved refused) (c .before .before .before .before .before .is-next .ensures) (c .before .before .before .before .if1 .taken)
-    (rw (← c .before .before .before .after .ensures, ← c .before .before .number-at .ensures) (ap (λ t. placed (c .before .before .before .after .result) t) (c .put-constant .ensures)))
+    let at-after = c .before .before .before in
+    let at-if1 = at-after .before in
+    let at-is-next = at-if1 .before in
+    let at-start = at-is-next .before in
+    taken (known (at-start .args .kinds .now)
+    (at-start .args .numbers .now)
+    (at-start .args .width)) (moved refused)
+    (at-is-next .is-next .ensures) (at-if1 .if1 .taken)
+    (rw (← at-after .after .ensures, ← c .before .before .number-at .ensures)
+    (ap (λ t. placed (at-after .after .result) t) (c .put-constant .ensures)))
 
 returns-2 : tie.Need-returns-2
 unfolding labelValue
 returns-2 c =
-    left (known (c .before .before .before .args .kinds .now) (c .before .before .before .args .numbers .now) (c .before .before .before .args .width)) (moved refused) (c .before .before .is-next .ensures) (c .before .if1 .left) (rw (← c .refused .ensures) refl)
+    let at-start = c .before .before .before in
+    left (known (at-start .args .kinds .now) (at-start .args .numbers .now)
+    (at-start .args .width)) (moved refused) (c .before .before .is-next .ensures) (c .before .if1 .left)
+    (rw (← c .refused .ensures) refl)
 
 pub label-value-spec : {M : Type 1} → statement M
 label-value-spec =

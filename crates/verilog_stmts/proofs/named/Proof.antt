@@ -9,12 +9,22 @@ use Rattle.verilog_stmts.proofs.named.Tie as tie
 returns : tie.Need-returns
 unfolding named name
 returns c =
-    taken (name (c .before .before .before .before .before .before .before .args .numbers .now)) (moved refused) (c .before .before .before .before .before .before .is-next .ensures) (c .before .before .before .before .before .if1 .taken) (rw (← c .before .after .ensures, ← c .before .before .before .before .number-at .ensures, ← c .before .before .before .low .ensures) (c .write .ensures))
+    let at-low = c .before .before .before in
+    let at-number-at = at-low .before in
+    let at-if1 = at-number-at .before in
+    let at-is-next = at-if1 .before in
+    let at-start = at-is-next .before in
+    taken (name (at-start .args .numbers .now)) (moved refused)
+    (at-is-next .is-next .ensures) (at-if1 .if1 .taken)
+    (rw (← c .before .after .ensures, ← at-number-at .number-at .ensures, ← at-low .low .ensures)
+    (c .write .ensures))
 
 returns-2 : tie.Need-returns-2
 unfolding named
 returns-2 c =
-    left (name (c .before .before .before .args .numbers .now)) (moved refused) (c .before .before .is-next .ensures) (c .before .if1 .left) (rw (← c .refused .ensures) refl)
+    let at-start = c .before .before .before in
+    left (name (at-start .args .numbers .now)) (moved refused) (c .before .before .is-next .ensures)
+    (c .before .if1 .left) (rw (← c .refused .ensures) refl)
 
 pub named-spec : {M : Type 1} → statement M
 named-spec =

@@ -11,7 +11,9 @@ use Rattle.verilog_stmts.proofs.term.Tie as tie
 returns : tie.Need-returns
 unfolding term
 returns c =
-    behind (λ s. named (c .before .before .before .before .args .kinds .now) (c .before .before .before .before .args .numbers .now) s) (c .before .before .write .ensures) (c .named .ensures)
+    let at-start = c .before .before .before .before in
+    behind (λ s. named (at-start .args .kinds .now) (at-start .args .numbers .now) s)
+    (c .before .before .write .ensures) (c .named .ensures)
 
 pub term-spec : {M : Type 1} → statement M
 term-spec =

@@ -10,12 +10,19 @@ use Rattle.verilog_stmts.proofs.value.Tie as tie
 returns : tie.Need-returns
 unfolding value
 returns c =
-    left (valueAt (c .before .before .args .kinds .now) (c .before .before .args .numbers .now) (c .before .before .args .count)) stay refl (not-true (c .before .before .args .at .ok) (c .if1 .taken)) refl
+    left (valueAt (c .before .before .args .kinds .now) (c .before .before .args .numbers .now)
+    (c .before .before .args .count)) stay refl (not-true (c .before .before .args .at .ok) (c .if1 .taken)) refl
 
 returns-2 : tie.Need-returns-2
 unfolding value valueAt
 returns-2 c =
-    taken (valueAt (c .before .before .before .before .before .before .args .kinds .now) (c .before .before .before .before .before .before .args .numbers .now) (c .before .before .before .before .before .before .args .count)) stay refl (not-false (c .before .before .before .before .before .before .args .at .ok) (c .before .before .before .before .if1 .left)) (rw (← c .before .before .left .ensures, ← c .before .wide .ensures) (c .expression .ensures))
+    let at-if1 = c .before .before .before .before in
+    let at-start = at-if1 .before .before in
+    taken (valueAt (at-start .args .kinds .now)
+    (at-start .args .numbers .now)
+    (at-start .args .count)) stay refl
+    (not-false (at-start .args .at .ok) (at-if1 .if1 .left))
+    (rw (← c .before .before .left .ensures, ← c .before .wide .ensures) (c .expression .ensures))
 
 pub value-spec : {M : Type 1} → statement M
 value-spec =
