@@ -49,7 +49,7 @@ fn wide(n: u16) -> usize
 }
 
 // How many tokens are left.
-fn left(count: u16, i: usize) -> u16
+pub fn left(count: u16, i: usize) -> u16
     ensures { λ r. ⌜ r ≡ count - i ⌝ }
 {
     let n = wide(count);
@@ -57,7 +57,7 @@ fn left(count: u16, i: usize) -> u16
 }
 
 // Refused here.
-fn refused(at: Put) -> Put
+pub fn refused(at: Put) -> Put
     ensures { λ r. ⌜ r ≡ refused at ⌝ }
 {
     Put {
@@ -68,7 +68,7 @@ fn refused(at: Put) -> Put
 }
 
 // Behind the token.
-fn after(at: Put) -> Put
+pub fn after(at: Put) -> Put
     ensures { λ r. ⌜ r ≡ after at ⌝ }
 {
     let i = at.next;
@@ -83,7 +83,7 @@ fn after(at: Put) -> Put
 }
 
 // Whether a token of a kind is next.
-fn is_next(kinds: &[u8; 16385], k: u8, at: Put) -> bool
+pub fn is_next(kinds: &[u8; 16385], k: u8, at: Put) -> bool
     ensures { λ r. ⌜ r ≡ isNext (now (kinds .entry)) k at ⌝ }
 {
     if !at.ok {
@@ -245,7 +245,7 @@ fn control(
 // ---- expressions within statements
 
 // An expression.
-fn value(
+pub fn value(
     kinds: &[u8; 16385],
     numbers: &[u32; 16385],
     count: u16,
