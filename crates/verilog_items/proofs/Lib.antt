@@ -5,3 +5,4 @@ pub mod Declaring
 pub mod Variables
 pub mod Driving
 pub mod Reading
+pub mod Claims

@@ -3,7 +3,7 @@
 use mathlib.Core.Path.{_≡_}
 use mathlib.Core.Bool.{true, false}
 use mathlib.Core.List.{List, []}
-use Prim.Native.Nat.{ℕ, _≤_}
+use Prim.Native.Nat.{ℕ, _<_, _≤_}
 use lib.ListN.{length, getD}
 use Rattle.verilog_tokens.specs.Tokens.{Token}
 use Rattle.verilog_grammar.specs.Meaning.{Source}
@@ -66,5 +66,11 @@ Said index ts s (no n) = Stopped ts (s .text) n
 
 unfoldable pub ModulesRead : Type 0
 ModulesRead = (index numbered : List ℕ → ℕ) (ts : List Token) (ks ns : List ℕ) → Tabled numbered ts ks ns → StatementsEnd index ts ks ns
+    → (bs rs ws : List ℕ) → length bs ≡ 65536 → length rs ≡ 16385 → length ws ≡ 16385 → ((k : ℕ) → getD rs k 0 ≡ 0)
+    → Said index ts (readIn ks ns (length ts) bs rs ws) (readModule index ts)
+
+-- Over tables whose names' numbers are bytes nothing is asked of statements.
+unfoldable pub ModulesFollow : Type 0
+ModulesFollow = (index : List ℕ → ℕ) (ts : List Token) (ks ns : List ℕ) → Tabled index ts ks ns → ((s : List ℕ) → index s < 256)
     → (bs rs ws : List ℕ) → length bs ≡ 65536 → length rs ≡ 16385 → length ws ≡ 16385 → ((k : ℕ) → getD rs k 0 ≡ 0)
     → Said index ts (readIn ks ns (length ts) bs rs ws) (readModule index ts)
