@@ -1,4 +1,5 @@
--- What is claimed of a text whose tables hold what `Tables` says. `proofs/Claims.antt` shows all of it.
+-- What is claimed of a text whose tables hold what `Tables` says. proofs/ shows it: ids in Standing, a text's tables in Scanning, the
+-- rest in Claims.
 use mathlib.Core.Path.{_≡_}
 use mathlib.Core.Bool.{true, false}
 use mathlib.Core.List.{List, [], _∷_, _++_, map}
