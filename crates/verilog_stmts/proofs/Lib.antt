@@ -5,3 +5,6 @@ pub mod Passing
 pub mod Signs
 pub mod EventReading
 pub mod StmtReading
+pub mod Full
+pub mod CaseReading
+pub mod Following
