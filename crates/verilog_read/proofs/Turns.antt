@@ -126,11 +126,12 @@ module _ (s : List ℕ) where
   pub copied-turn : (lent new whole : List ℕ) (i b n : ℕ) → i < length lent → b ≡ getD s i 0 → new ≡ set lent i b
       → (length lent ≡ n) × (sets lent i (padded s (length lent - i) i) ≡ whole)
       → (length new ≡ n) × (sets new (i + 1) (padded s (length new - (i + 1)) (i + 1)) ≡ whole)
-  copied-turn lent new whole i b n h e f g =
-      (rw (f, length-set) (g .0),
-      rw (f, length-set, e)
-      (ap (λ k. sets (set lent i (getD s i 0)) k (padded s (length lent - (i + 1)) (i + 1))) (add-one i)
-      ∙ (rw (padded-step (length lent) i h) at (g .1))))
+  copied-turn lent new whole i b n h e f g = (
+    rw (f, length-set) (g .0),
+    rw (f, length-set, e)
+        (ap (λ k. sets (set lent i (getD s i 0)) k (padded s (length lent - (i + 1)) (i + 1))) (add-one i)
+        ∙ (rw (padded-step (length lent) i h) at (g .1))),
+  )
 
   pub copied-over : (lent whole : List ℕ) (i : ℕ) → length lent ≤ i → sets lent i (padded s (length lent - i) i) ≡ whole → lent ≡ whole
   unfolding padded
