@@ -10,20 +10,23 @@ use Rattle.values.specs.Values.{pick}
 use Rattle.state.specs.declared.State.{State}
 use Rattle.events.specs.declared.Inputs.{Inputs}
 use Rattle.events.specs.declared.Chosen.{Chosen}
-use Rattle.events.specs.declared.Rested.{Rested}
+use Rattle.events.specs.declared.Rested.{Rested as Ended}
 use Rattle.events.specs.Calls.{start, choose, runPlain, instant}
 use Rattle.options.specs.declared.Way.{Way}
 use Rattle.options.specs.declared.Way.the-variants.{Plain, Drawn, Expressed}
 use Rattle.driving.specs.declared.Rest.{Rest}
 use Rattle.driving.specs.declared.Row.{Row}
-use Rattle.driving.specs.Driving.{rest, left, isQuiet, plainly, nextSeed, drawnChoice, draw, drawn, byWay, toRest, seedOf, begun, inputsOf, byEvents}
+use Rattle.driving.specs.declared.Ending.the-variants.{Rested, Refused, Restless}
+use Rattle.driving.specs.Driving.{rest, left, plainMost, drawnMost, isQuiet, plainly, nextSeed, drawnChoice}
+use Rattle.driving.specs.Driving.{draw, drawn, byWay, toRest, seedOf, begun, inputsOf, byEvents}
+use Rattle.driving.specs.Endings.{mostOf, endingOf}
 
 pick-second : (t : Bool) (a b : Rest) → t ≡ false → pick t a b ≡ b
 pick-second t a b e = rw e
 
 module _ (s : List ℕ) (r : Rest) where
   pub plainly-is :
-      (p : Rested) (q : Bool) → p ≡ runPlain s (r .state) 65535 → q ≡ isQuiet (p .verdict) → left r 0 q (p .state) ≡ plainly s r
+      (p : Ended) (q : Bool) → p ≡ runPlain s (r .state) plainMost → q ≡ isQuiet (p .verdict) → left r 0 q (p .state) ≡ plainly s r
   unfolding plainly
   plainly-is p q e h = rw (h, e)
 
@@ -50,7 +53,7 @@ module _ (s : List ℕ) (r : Rest) where
 
     -- ---- toRest, by way
 
-    pub rest-drawn : {n : ℕ} → r .way ≡ Drawn n → drawn s items 4000000 r ≡ toRest s items r
+    pub rest-drawn : {n : ℕ} → r .way ≡ Drawn n → drawn s items drawnMost r ≡ toRest s items r
     unfolding toRest byWay
     rest-drawn e = rw e
 
@@ -79,3 +82,19 @@ pub begun-is :
     toRest s items (rest way 0 false (c .state) seed) ≡ begun s items way
 unfolding begun
 begun-is s items way c seed e h = rw (e, h)
+
+-- ---- endingOf
+
+module _ (r : Rest) where
+  pub ending-refused : (r .number ≡ 0 → ⊥) → Refused (r .number) ≡ endingOf r
+  unfolding endingOf
+  ending-refused h = rw (ne-eqb (r .number) 0 h)
+
+  module _ (z : r .number ≡ 0) where
+    pub ending-rested : r .rested ≡ true → Rested ≡ endingOf r
+    unfolding endingOf
+    ending-rested h = rw (eq-eqb (r .number) 0 z, h)
+
+    pub ending-restless : r .rested ≡ false → (n : ℕ) → n ≡ mostOf (r .way) → Restless n ≡ endingOf r
+    unfolding endingOf
+    ending-restless h n e = rw (eq-eqb (r .number) 0 z, h, e)

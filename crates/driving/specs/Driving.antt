@@ -23,7 +23,15 @@ rest way number rested st seed = record { way = way; number = number; rested = r
 unfoldable pub left : Rest → ℕ → Bool → State → Rest
 left r number rested st = rest (r .way) number rested st (r .seed)
 
--- ---- plainly: the plain run, of at most 65,535 choices
+-- ---- how many choices a run to rest may take: a plain run, and one whose choices are drawn
+
+abbrev pub plainMost : ℕ
+plainMost = 65535
+
+abbrev pub drawnMost : ℕ
+drawnMost = 4000000
+
+-- ---- plainly: the plain run
 
 unfoldable pub isQuiet : Verdict → Bool
 isQuiet Quiet = true
@@ -33,7 +41,7 @@ isQuiet (Refused n) = false
 
 unfoldable pub plainly : List ℕ → Rest → Rest
 plainly s r =
-    let p = runPlain s (r .state) 65535 in
+    let p = runPlain s (r .state) plainMost in
     left r 0 (isQuiet (p .verdict)) (p .state)
 
 -- ---- drawn: at most n choices by a generator of seeds below 2^32, until a commit is refused with 35, "commit with none pending"
@@ -65,7 +73,7 @@ byWay Plain a b = b
 byWay Expressed a b = b
 
 unfoldable pub toRest : List ℕ → ℕ → Rest → Rest
-toRest s items r = byWay (r .way) (drawn s items 4000000 r) (plainly s r)
+toRest s items r = byWay (r .way) (drawn s items drawnMost r) (plainly s r)
 
 -- ---- begun: from the start to rest
 

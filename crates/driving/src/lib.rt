@@ -2,11 +2,18 @@
 // nothing is left to choose. Each function equals its definition in specs/.
 use events::Inputs;
 use events::Verdict;
+use options::Outcome;
 use options::Way;
 use state::State;
 ghost use mathlib.Core.Path.{_≡_};
 ghost use Rattle.driving.specs.Driving.{left, isQuiet, plainly, nextSeed, drawnChoice, draw, drawn, seedOf, toRest, begun, inputsOf};
-ghost use Rattle.driving.specs.Driving.{byEvents};
+ghost use Rattle.driving.specs.Driving.{byEvents, drawnMost};
+ghost use Rattle.driving.specs.Endings.{mostOf, endingOf, outcomeOf};
+
+// How many choices a run to rest may take, of a plain run and of one whose choices are drawn.
+const PLAIN_MOST: u16 = 65535;
+
+const DRAWN_MOST: usize = 4000000;
 
 // A state, and how it is run: by which way, the number that refused a call, whether it came to rest, and the generator's next seed.
 pub struct Rest {
@@ -21,6 +28,14 @@ pub struct Rest {
 pub struct Row {
     pub value: [u32; 16],
     pub unknown: [bool; 16],
+}
+
+// What is said of a run that was to come to rest: that it did, the number that refused it, or that it was not at rest after so many
+// choices.
+pub enum Ending {
+    Rested,
+    Refused(u8),
+    Restless(usize),
 }
 
 // The same way on: what a call has left.
@@ -56,7 +71,7 @@ fn plainly(sheet: &[u8], r: Rest) -> Rest
     ensures { λ e. ⌜ e ≡ plainly (now (sheet .entry)) r ⌝ }
 {
     let st = r.state;
-    let p = simulator::run_plain(sheet, st, 65535);
+    let p = simulator::run_plain(sheet, st, PLAIN_MOST);
     let v = p.verdict;
     let after = p.state;
     left(r, 0, is_quiet(v), after)
@@ -100,12 +115,12 @@ fn draw(sheet: &[u8], items: u64, r: Rest) -> Rest
     }
 }
 
-// Choices until there is none, at most 4,000,000.
+// Choices until there is none, or as many as may be.
 fn by_draw(sheet: &[u8], items: u64, r: Rest) -> Rest
-    ensures { λ e. ⌜ e ≡ drawn (now (sheet .entry)) items 4000000 r ⌝ }
+    ensures { λ e. ⌜ e ≡ drawn (now (sheet .entry)) items drawnMost r ⌝ }
 {
     let mut e = r;
-    let mut turns: usize = 4000000;
+    let mut turns = DRAWN_MOST;
     while turns > 0 {
         if e.rested {
             return e;
@@ -185,4 +200,42 @@ pub fn by_events(sheet: &[u8], items: u64, before: Rest, count: u8, clock: u32, 
         return r;
     }
     to_rest(sheet, items, r)
+}
+
+// ---- what is said of it
+
+// How many choices a run may take.
+fn most_of(way: Way) -> usize
+    ensures { λ r. ⌜ r ≡ mostOf way ⌝ }
+{
+    match way {
+        Way::Plain => PLAIN_MOST as usize,
+        Way::Drawn(_) => DRAWN_MOST,
+        Way::Expressed => PLAIN_MOST as usize,
+    }
+}
+
+// Did it come to rest, and if not, why?
+pub fn ending_of(r: Rest) -> Ending
+    ensures { λ e. ⌜ e ≡ endingOf r ⌝ }
+{
+    if r.number != 0 {
+        return Ending::Refused(r.number);
+    }
+    if r.rested {
+        return Ending::Rested;
+    }
+    let way = r.way;
+    Ending::Restless(most_of(way))
+}
+
+// How a command ends whose run ends so.
+pub fn outcome_of(e: Ending) -> Outcome
+    ensures { λ o. ⌜ o ≡ outcomeOf e ⌝ }
+{
+    match e {
+        Ending::Rested => Outcome::Done,
+        Ending::Refused(_) => Outcome::Refused,
+        Ending::Restless(_) => Outcome::Refused,
+    }
 }

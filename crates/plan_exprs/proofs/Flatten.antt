@@ -23,14 +23,14 @@ use Rattle.plan_exprs.specs.Flatten.{Adding, adding, putNode, more, emit
 
 -- ---- four words put in a row
 
-abbrev four : ℕ → ℕ → ℕ → ℕ → ℕ → List ℕ → List ℕ
+abbrev pub four : ℕ → ℕ → ℕ → ℕ → ℕ → List ℕ → List ℕ
 four j k a b c ws = set (set (set (set ws j k) (j + 1) a) (j + 2) b) (j + 3) c
 
 module _ (j k a b c : ℕ) (ws : List ℕ) where
-  four-length : length (four j k a b c ws) ≡ length ws
+  pub four-length : length (four j k a b c ws) ≡ length ws
   four-length = simp length-set
 
-  four-other : (i : ℕ) → i ≢ j → i ≢ j + 1 → i ≢ j + 2 → i ≢ j + 3 → getD (four j k a b c ws) i 0 ≡ getD ws i 0
+  pub four-other : (i : ℕ) → i ≢ j → i ≢ j + 1 → i ≢ j + 2 → i ≢ j + 3 → getD (four j k a b c ws) i 0 ≡ getD ws i 0
   four-other i p q r s =
       getD-set-other (set (set (set ws j k) (j + 1) a) (j + 2) b) (j + 3) i c 0 s
       ∙ getD-set-other (set (set ws j k) (j + 1) a) (j + 2) i b 0 r
@@ -38,25 +38,25 @@ module _ (j k a b c : ℕ) (ws : List ℕ) where
       ∙ getD-set-other ws j i k 0 p
 
   module _ (h : j + 3 < length ws) where
-    four-0 : getD (four j k a b c ws) j 0 ≡ k
+    pub four-0 : getD (four j k a b c ws) j 0 ≡ k
     four-0 =
         getD-set-other (set (set (set ws j k) (j + 1) a) (j + 2) b) (j + 3) j c 0 (λ q. omega arith)
         ∙ getD-set-other (set (set ws j k) (j + 1) a) (j + 2) j b 0 (λ q. omega arith)
         ∙ getD-set-other (set ws j k) (j + 1) j a 0 (λ q. omega arith)
         ∙ getD-set-same ws j k 0 (omega arith)
 
-    four-1 : getD (four j k a b c ws) (j + 1) 0 ≡ a
+    pub four-1 : getD (four j k a b c ws) (j + 1) 0 ≡ a
     four-1 =
         getD-set-other (set (set (set ws j k) (j + 1) a) (j + 2) b) (j + 3) (j + 1) c 0 (λ q. omega arith)
         ∙ getD-set-other (set (set ws j k) (j + 1) a) (j + 2) (j + 1) b 0 (λ q. omega arith)
         ∙ getD-set-same (set ws j k) (j + 1) a 0 (simp length-set (omega arith))
 
-    four-2 : getD (four j k a b c ws) (j + 2) 0 ≡ b
+    pub four-2 : getD (four j k a b c ws) (j + 2) 0 ≡ b
     four-2 =
         getD-set-other (set (set (set ws j k) (j + 1) a) (j + 2) b) (j + 3) (j + 2) c 0 (λ q. omega arith)
         ∙ getD-set-same (set (set ws j k) (j + 1) a) (j + 2) b 0 (simp length-set (omega arith))
 
-    four-3 : getD (four j k a b c ws) (j + 3) 0 ≡ c
+    pub four-3 : getD (four j k a b c ws) (j + 3) 0 ≡ c
     four-3 = getD-set-same (set (set (set ws j k) (j + 1) a) (j + 2) b) (j + 3) c 0 (simp length-set h)
 
 -- ---- a node put
@@ -81,7 +81,7 @@ module _ (n k a b c : ℕ) (ws : List ℕ) (h : n < 4176) where
   pub put-above : (i : ℕ) → 16704 ≤ i → getD (putNode n k a b c ws) i 0 ≡ getD ws i 0
   put-above i u = rw put-four (four-other (4 * n) k a b c ws i (λ q. omega arith) (λ q. omega arith) (λ q. omega arith) (λ q. omega arith))
 
-node-kept : (ws us : List ℕ) (n : ℕ) → ((i : ℕ) → i < 4 * n → getD us i 0 ≡ getD ws i 0) → (i : ℕ) → i < n → nodeAt ws i ≡ nodeAt us i
+pub node-kept : (ws us : List ℕ) (n : ℕ) → ((i : ℕ) → i < 4 * n → getD us i 0 ≡ getD ws i 0) → (i : ℕ) → i < n → nodeAt ws i ≡ nodeAt us i
 node-kept ws us n h i u =
     sym (rw (h (4 * i) (omega arith), h (4 * i + 1) (omega arith), h (4 * i + 2) (omega arith), h (4 * i + 3) (omega arith)))
 
@@ -101,7 +101,7 @@ module _ (f g : ℕ → Node) (base : ℕ) where
 
 -- ---- how many nodes an expression has
 
-pub count : Expr → ℕ
+unfoldable pub count : Expr → ℕ
 count (variable v) = 0
 count (constant w n) = 1
 count (unknown w) = 1
@@ -144,7 +144,7 @@ pub record Widths (vs ws : List ℕ) : Type 0 where
   pub narrow : (v : ℕ) → v < length vs → getD vs v 0 ≤ 32
   pub long : 16704 ≤ length ws
 
-widths-kept : (vs ws us : List ℕ) → ((i : ℕ) → 16704 ≤ i → getD us i 0 ≡ getD ws i 0) → length us ≡ length ws → Widths vs ws → Widths vs us
+pub widths-kept : (vs ws us : List ℕ) → ((i : ℕ) → 16704 ≤ i → getD us i 0 ≡ getD ws i 0) → length us ≡ length ws → Widths vs ws → Widths vs us
 unfolding widthAt
 widths-kept vs ws us h l w =
     record {
@@ -153,7 +153,7 @@ widths-kept vs ws us h l w =
       long = rw l (w .long);
     }
 
-more-in : (n : ℕ) → n < 4176 → more n ≡ n + 1
+pub more-in : (n : ℕ) → n < 4176 → more n ≡ n + 1
 unfolding more
 more-in n h = rw (lt-ltb n 4176 h)
 

@@ -36,14 +36,14 @@ fn index(w: u32) -> usize
 }
 
 // The number after a node's; there is none after the last cell's.
-fn more(n: u32) -> u32
+pub fn more(n: u32) -> u32
     ensures { λ r. ⌜ r ≡ more n ⌝ }
 {
     if n < 4176 { n + 1 } else { n }
 }
 
 // Puts a node.
-fn put_node(plan: &mut PlanTable, n: u32, kind: u32, a: u32, b: u32, c: u32)
+pub fn put_node(plan: &mut PlanTable, n: u32, kind: u32, a: u32, b: u32, c: u32)
     ensures { λ _. ⌜ now (plan .exit) ≡ putNode n kind a b c (now (plan .entry)) ⌝ }
 {
     if 4176 <= n {

@@ -18,6 +18,7 @@ use Rattle.sheet.specs.Answers.{startsOf}
 use Rattle.sheet.proofs.Reading.{bind-ok, check-ok, ok-injective}
 use Rattle.sheet.proofs.Sections.{wires-count, threads-count, Headed, headed}
 use Rattle.sheet.proofs.Trees.{mapRes, size-map, trees, read-located}
+use Rattle.evaluation.specs.Evaluation.{reads}
 use Rattle.pseudocode.specs.Translation.{Instr, wait!, go, threadCode}
 use Rattle.pseudocode.specs.Instruction.{noTerm, termsOf, instructionOf}
 use Rattle.pseudocode.specs.declared.Instruction.the-variants.{Wait}
@@ -31,7 +32,8 @@ use Rattle.tables.specs.Holding.{Fetched, Holding}
 use Rattle.tables.proofs.Readers.{atMost-same}
 use Rattle.tables.proofs.Marking.{ReadAt, Below, below}
 use Rattle.tables.proofs.Watching.{watched-named}
-use Rattle.tables.proofs.Placing.{stands, located-read, placed-fetched, placed-wait, placed-at, Threaded, threads-placed}
+use Rattle.tables.proofs.Placing.{stands, located-read, Coded, placed-coded, placed-fetched, placed-wait, placed-at}
+use Rattle.tables.proofs.Placing.{Threaded, threads-placed}
 
 -- An element of a list is the same whatever stands for none.
 getD-any : {A : Type 0} (xs : List A) (k : ℕ) (a b : A) → k < length xs → getD xs k a ≡ getD xs k b
@@ -89,6 +91,7 @@ accepted s r h =
     let ts = bind-ok (readThreads (located s) c s (hd .0 .threads) (es .0 .next)) _ (es .2) in
     let z = check-ok (eqb (ts .0 .next) (length s)) 10 (ts .0 .next) _ (ts .2) in
     let x = headed s (hd .1) in
+    let few : c .inputs + c .registers ≤ 256 = omega (arith, x .inputs-most, x .registers-most) in
     let w = wires-count (located s) c s (hd .0 .wires) (c .inputs + c .registers) (hd .0 .next) (es .1) in
     let t = threads-count (located s) c s (hd .0 .threads) (es .0 .next) (ts .1) in
     rw (← ok-injective (z .1))
@@ -97,7 +100,7 @@ accepted s r h =
       wires = omega (arith, w, x .wires-most);
       threads = omega (arith, t, x .threads-most);
       wire = wires-placed c s (hd .0 .wires) (c .inputs + c .registers) (hd .0 .next) (es .1);
-      thread = threads-placed c s (hd .0 .threads) (es .0 .next) (ts .1);
+      thread = threads-placed c s few (hd .0 .threads) (es .0 .next) (ts .1);
     })
 
 -- ---- the places of the wires
@@ -128,7 +131,7 @@ module _ (s code : List ℕ) (r : Sheet ℕ) (x : Accepted s r) where
 
   -- ---- wires
 
-  wire-read : (k : ℕ) → k < length wires → ReadAt ws s (getD wires k (unknown 1)) (getD starts k 0)
+  pub wire-read : (k : ℕ) → k < length wires → ReadAt ws s (getD wires k (unknown 1)) (getD starts k 0)
   wire-read k h =
       let n = length-map (r .contents .wires) at in
       let l : k < length (r .contents .wires) = omega arith in
@@ -136,7 +139,7 @@ module _ (s code : List ℕ) (r : Sheet ℕ) (x : Accepted s r) where
       let e = getD-any wires k (unknown 1) (at 0) h ∙ List·getD-map at (r .contents .wires) k 0 in
       (q .0, rw (starts-at (r .contents .wires) k (x .wires) l) (q .1), q .2 ∙ sym e)
 
-  marked : Below (λ k. getD wires k (unknown 1)) (length wires) (readersBelow s starts (length wires) (replicate 80 0))
+  pub marked : Below (λ k. reads (getD wires k (unknown 1))) (length wires) (readersBelow s starts (length wires) (replicate 80 0))
   marked =
       let n = length-map (r .contents .wires) at in
       let m = x .wires in
@@ -144,14 +147,14 @@ module _ (s code : List ℕ) (r : Sheet ℕ) (x : Accepted s r) where
 
   -- ---- threads
 
-  thread-at : (i : ℕ) → getD threads i empty ≡ mapStmt at (getD (r .contents .threads) i empty)
+  pub thread-at : (i : ℕ) → getD threads i empty ≡ mapStmt at (getD (r .contents .threads) i empty)
   unfolding mapStmt
   thread-at i = List·getD-map (mapStmt at) (r .contents .threads) i empty
 
-  thread-below : (i : ℕ) → i < length threads → i < length (r .contents .threads)
+  pub thread-below : (i : ℕ) → i < length threads → i < length (r .contents .threads)
   thread-below i h = let n = length-map (r .contents .threads) (mapStmt at) in omega arith
 
-  thread-size : (i : ℕ) → length (threadCode (getD threads i empty)) ≡ size (getD (r .contents .threads) i empty) + 1
+  pub thread-size : (i : ℕ) → length (threadCode (getD threads i empty)) ≡ size (getD (r .contents .threads) i empty) + 1
   thread-size i =
       let a = getD (r .contents .threads) i empty in
       ap (λ (b : Stmt Expr). length (threadCode b)) (thread-at i)
@@ -162,8 +165,15 @@ module _ (s code : List ℕ) (r : Sheet ℕ) (x : Accepted s r) where
   table = compileAt s (length (r .contents .threads)) (r .body) code
 
   module _ (z : Compiles s (r .contents .threads) table) where
-    size-at : (i : ℕ) → i < length threads → getD (table .sizes) i 0 ≡ length (threadCode (getD threads i empty))
+    pub size-at : (i : ℕ) → i < length threads → getD (table .sizes) i 0 ≡ length (threadCode (getD threads i empty))
     size-at i h = z .size-of i (thread-below i h) ∙ sym (thread-size i)
+
+    pub coded-at : (i p : ℕ) → i < length threads → p < length (threadCode (getD threads i empty))
+        → Coded ws s (getD (threadCode (getD threads i empty)) p (go 0)) (fetchAt s (table .code) i p)
+    coded-at i p h l =
+        let n = thread-size i in
+        let b = thread-below i h in
+        rw (z .fetched i p b (omega arith), thread-at i) (placed-coded (placed-at (x .thread i b .placed) p))
 
     fetched-at : (i p : ℕ) → i < length threads → p < length (threadCode (getD threads i empty))
         → Fetched s ws (getD (threadCode (getD threads i empty)) p (go 0)) (fetchAt s (table .code) i p)
@@ -238,6 +248,24 @@ holding s code r m h e long =
     (watchedBelow s (c .code) (c .sizes) (length (n .threads)) (replicate 80 false)))
     (module-same s r m h e)
     (holds s code r (accepted s r h) (compile-law s code r h long))
+
+-- Each instruction that is fetched is the translation's, with its expression read where the code says.
+abbrev AllCoded : List ℕ → List ℕ → Module Expr → Type 0
+AllCoded s code m =
+    (i p : ℕ) → i < length (m .threads) → p < length (threadCode (getD (m .threads) i empty))
+    → Coded (m .scope .widths) s (getD (threadCode (getD (m .threads) i empty)) p (go 0)) (fetchAt s code i p)
+
+coded-trees : (s code : List ℕ) (r : Sheet ℕ) → Accepted s r
+    → Compiles s (r .contents .threads) (compileAt s (length (r .contents .threads)) (r .body) code)
+    → AllCoded s (compileAt s (length (r .contents .threads)) (r .body) code .code) (trees s r .contents)
+unfolding trees mapModule
+coded-trees s code r x z = coded-at s code r x z
+
+pub coded : (s code : List ℕ) (r : Sheet ℕ) (m : Module Expr) → readSheet (located s) s ≡ ok r → read s ≡ ok m → length code ≡ 4096
+    → AllCoded s (compileAt s (length (r .contents .threads)) (r .body) code .code) m
+coded s code r m h e long =
+    subst (AllCoded s (compileAt s (length (r .contents .threads)) (r .body) code .code)) (module-same s r m h e)
+    (coded-trees s code r (accepted s r h) (compile-law s code r h long))
 
 -- ---- the counts that the code is handed are the module's
 

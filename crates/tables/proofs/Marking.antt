@@ -31,10 +31,10 @@ pub record Marks (k : ℕ) (rs ss : List ℕ) (f : ℕ → Bool) : Type 0 where
   pub own : (v : ℕ) → v < 80 → bit ss v k ≡ (bit rs v k || f v)
   pub others : (v j : ℕ) → (j ≡ k → ⊥) → bit ss v j ≡ bit rs v j
 
-marks-none : (k : ℕ) (rs : List ℕ) → length rs ≡ 80 → Marks k rs rs (λ v. false)
+pub marks-none : (k : ℕ) (rs : List ℕ) → length rs ≡ 80 → Marks k rs rs (λ v. false)
 marks-none k rs long = record { long = long; own = λ v l. sym (or-false (bit rs v k)); others = λ v j n. refl }
 
-marks-then : {k : ℕ} {rs ss us : List ℕ} {f g : ℕ → Bool} → Marks k rs ss f → Marks k ss us g → Marks k rs us (λ v. f v || g v)
+pub marks-then : {k : ℕ} {rs ss us : List ℕ} {f g : ℕ → Bool} → Marks k rs ss f → Marks k ss us g → Marks k rs us (λ v. f v || g v)
 marks-then {k} {rs} {f = f} {g = g} a b =
     record {
       long = b .long;
@@ -75,7 +75,7 @@ module _ (k u : ℕ) (rs : List ℕ) where
         by true e = getD-set-other (bits (getD rs u 0)) k j true false n ∙ ap (λ (x : ℕ). bit rs x j) (eqb-true u v e)
         by false e = refl
 
-    marks-variable : Marks k rs (markVariable k u rs) (eqb u)
+    pub marks-variable : Marks k rs (markVariable k u rs) (eqb u)
     marks-variable =
         rw (markVariable-in k u rs hu)
         (record { long = length-set rs u (mask more) ∙ long; own = λ v l. stored-own v; others = stored-others })
@@ -111,19 +111,21 @@ module _ (ws s : List ℕ) (few : length ws ≤ 80) (k : ℕ) (hk : k < 32) wher
 abbrev pub ReadAt : List ℕ → List ℕ → Expr → ℕ → Type 0
 ReadAt ws s e p = (q : Parsed Expr) × Reads ws s 16 p q × (q .item ≡ e)
 
-module _ (wire : ℕ → Expr) where
-  -- The table holds the marks of the wires below n, and no other.
+-- A table of zeros has no mark.
+pub zeros : (n v : ℕ) → _≡_ {A = ℕ} (getD (replicate n 0) v 0) 0
+zeros zero v = refl
+zeros (suc n) zero = refl
+zeros (suc n) (suc v) = zeros n v
+
+-- f says which marks each of the numbers below n sets.
+module _ (f : ℕ → ℕ → Bool) where
+  -- The table holds the marks of the numbers below n, and no other.
   pub record Below (n : ℕ) (rs : List ℕ) : Type 0 where
     pub long : length rs ≡ 80
-    pub own : (v j : ℕ) → v < 80 → j < n → bit rs v j ≡ reads (wire j) v
+    pub own : (v j : ℕ) → v < 80 → j < n → bit rs v j ≡ f j v
     pub none : (v j : ℕ) → n ≤ j → bit rs v j ≡ false
 
-  zeros : (n v : ℕ) → _≡_ {A = ℕ} (getD (replicate n 0) v 0) 0
-  zeros zero v = refl
-  zeros (suc n) zero = refl
-  zeros (suc n) (suc v) = zeros n v
-
-  below-none : Below 0 (replicate 80 0)
+  pub below-none : Below 0 (replicate 80 0)
   below-none =
       record {
         long = refl;
@@ -131,7 +133,7 @@ module _ (wire : ℕ → Expr) where
         none = λ v j l. ap (λ (x : ℕ). getD (bits x) j false) (zeros 80 v) ∙ any-none (bits 0) (any-bits 0 (omega arith)) j;
       }
 
-  below-more : (n : ℕ) {rs ss : List ℕ} → Below n rs → Marks n rs ss (reads (wire n)) → Below (suc n) ss
+  pub below-more : (n : ℕ) {rs ss : List ℕ} → Below n rs → Marks n rs ss (f n) → Below (suc n) ss
   below-more n {rs} {ss} b x =
       record {
         long = x .long;
@@ -139,21 +141,23 @@ module _ (wire : ℕ → Expr) where
         none = λ v j l. x .others v j (λ e. omega arith) ∙ b .none v j (omega arith);
       }
     where
-      by : (v j : ℕ) → v < 80 → j < suc n → (t : Bool) → eqb j n ≡ t → bit ss v j ≡ reads (wire j) v
+      by : (v j : ℕ) → v < 80 → j < suc n → (t : Bool) → eqb j n ≡ t → bit ss v j ≡ f j v
       by v j l m true e =
           let q = eqb-true j n e in
           ap (bit ss v) q
           ∙ x .own v l
-          ∙ ap (λ (y : Bool). y || reads (wire n) v) (b .none v n (le-refl n))
-          ∙ ap (λ (i : ℕ). reads (wire i) v) (sym q)
+          ∙ ap (λ (y : Bool). y || f n v) (b .none v n (le-refl n))
+          ∙ ap (λ (i : ℕ). f i v) (sym q)
       by v j l m false e = let q = eqb-false j n e in x .others v j q ∙ b .own v j l (omega arith)
 
-  pub below : (ws s starts : List ℕ) (count : ℕ) → length ws ≤ 80 → count ≤ 32
-      → ((j : ℕ) → j < count → ReadAt ws s (wire j) (getD starts j 0)) → (n : ℕ) → n ≤ count → Below n (readersBelow s starts n (replicate 80 0))
-  unfolding readersBelow
-  below ws s starts count few most at zero h = below-none
-  below ws s starts count few most at (suc n) h =
-      let b = below ws s starts count few most at n (omega arith) in
-      let q = at n h in
-      let x = walk ws s few n (omega arith) (q .1) (readersBelow s starts n (replicate 80 0)) (b .long) in
-      below-more n b (rw (q .2) at (x .marks))
+-- The readers of the wires below n.
+pub below : (wire : ℕ → Expr) (ws s starts : List ℕ) (count : ℕ) → length ws ≤ 80 → count ≤ 32
+    → ((j : ℕ) → j < count → ReadAt ws s (wire j) (getD starts j 0)) → (n : ℕ) → n ≤ count
+    → Below (λ j. reads (wire j)) n (readersBelow s starts n (replicate 80 0))
+unfolding readersBelow
+below wire ws s starts count few most at zero h = below-none (λ j. reads (wire j))
+below wire ws s starts count few most at (suc n) h =
+    let b = below wire ws s starts count few most at n (omega arith) in
+    let q = at n h in
+    let x = walk ws s few n (omega arith) (q .1) (readersBelow s starts n (replicate 80 0)) (b .long) in
+    below-more (λ j. reads (wire j)) n b (rw (q .2) at (x .marks))

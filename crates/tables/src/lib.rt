@@ -16,14 +16,14 @@ fn wide(b: u8) -> usize
 }
 
 // A count, or the limit where it is more.
-fn at_most(limit: usize, n: usize) -> usize
+pub fn at_most(limit: usize, n: usize) -> usize
     ensures { λ r. ⌜ r ≡ atMost limit n ⌝ }
 {
     if n < limit { n } else { limit }
 }
 
 // Marks wire `k` at a variable.
-fn mark_variable(k: usize, v: u8, readers: &mut [u32; 80])
+pub fn mark_variable(k: usize, v: u8, readers: &mut [u32; 80])
     ensures { λ _. ⌜ now (readers .exit) ≡ markVariable k v (now (readers .entry)) ⌝ }
 {
     let i = wide(v);
@@ -101,7 +101,7 @@ fn watch_variable(v: u8, watched: &mut [bool; 80])
 }
 
 // How many terms of a wait are looked at.
-fn term_count(count: u8) -> u8
+pub fn term_count(count: u8) -> u8
     ensures { λ r. ⌜ r ≡ atMost 8 count ⌝ }
 {
     if count < 8 { count } else { 8 }

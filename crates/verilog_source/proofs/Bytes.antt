@@ -25,7 +25,8 @@ use Rattle.verilog_grammar.specs.AnnexA.{Unary, negation, complement, Binary, p
 use Rattle.verilog_grammar.specs.AnnexA.{Statement, blocking, nonblocking, selects, whether, either, chain, endless, repeats, after, block, OrNull, some, null, Chain, last, lastElse, leg, Statements, none as noStatements, more, CaseItem, labelled, default, defaultColon, CaseItems, lastItem, item}
 use Rattle.verilog_grammar.specs.AnnexA.{Listed, one, also, NetAssignment, Item, input, reg, wire, assign, always, ModuleDeclaration}
 use Rattle.verilog_grammar.specs.Meaning.{upTo, cut, numberExpr, unaryNumber, binaryNumber, nested, blockOf, Arm, on, otherwise, fallback, test, tests, orEmpty, caseOf, Kind, anInput, aRegister, aWire, Driven, Part, declares, drives, runs, listOf, exprOf, primaryOf, termOf, termsOf, controlOf, stmtOf, orNullOf, chainOf, stmtsOf, armOf, armsOf, drivenOf, partOf, partsOf, meaning}
-use Rattle.verilog_source.specs.Names.{Variable, variables, inOrder, driven, threads, numberOf, placeOf}
+use Rattle.verilog_tokens.specs.Table.{placeOf}
+use Rattle.verilog_source.specs.Names.{Variable, variables, inOrder, driven, threads, numberOf}
 use Rattle.verilog_source.specs.Written.{writtenStmt, writtenThreads, writtenWidths, valueFor, writtenWires, written}
 use Rattle.verilog_source.specs.Claims.{declaredBy, sheetBy}
 

@@ -14,7 +14,8 @@ use Rattle.sheet.specs.Statement.{size, isRegister, readTerms, narrow, narrowAl
 use Rattle.sheet.specs.Module.{readWidths, readHead, readWires, readThreads, readSheet, read}
 use Rattle.encoding.specs.Encoding.{encodeWord, encodeExpr, encodeTerms}
 use Rattle.verilog_grammar.specs.Reader.{unsigned as unsignedReader, naught, constant, furtherListed, listed, list, bounds, range, declaration, netAssignment, continuousAssign, alwaysConstruct, moduleItem, moduleEnd, moduleMore, moduleItems, ended, readModule}
-use Rattle.verilog_source.specs.Names.{kindNumber, ofWidth, variables, declared, driven, threads, inOrder, nameOf, placeOf, numberOf, isAmong as isAmongNames, missing, repeated, nameIn, namesIn, used, targetOf, faults, lower, lowest}
+use Rattle.verilog_tokens.specs.Table.{nameIn, namesIn, placeOf}
+use Rattle.verilog_source.specs.Names.{kindNumber, ofWidth, variables, declared, driven, threads, inOrder, nameOf, numberOf, isAmong as isAmongNames, missing, repeated, used, targetOf, faults, lower, lowest}
 use Rattle.verilog_source.specs.Written.{writtenStmt, writtenThreads, writtenWidths, valueFor, writtenWires, written}
 use Rattle.verilog_source.specs.Compiled.{refused, accepted, unnumbered, partsOf, sheetOf, judged, named, spot, derived, short, lentRight, compiled}
 use Rattle.verilog_tokens.specs.Tokens.{Token, tokens, places}

@@ -2,14 +2,15 @@
 -- kind".
 use mathlib.Core.Bool.{Bool, true, false}
 use mathlib.Core.List.{List, [], _∷_, _++_, map}
-use Prim.Native.Nat.{ℕ, zero, suc}
+use Prim.Native.Nat.{ℕ}
 use lib.Dec.{ltb, eqb}
 use lib.ListN.{drop}
 use Rattle.values.specs.Values.{pick}
 use Rattle.sheet.specs.Expression.{Expr}
 use Rattle.sheet.specs.Statement.{Stmt}
 use Rattle.naming.specs.Naming.{sameText}
-use Rattle.verilog_tokens.specs.Tokens.{Token, terminal, name, number, known, unknown, broken, Name}
+use Rattle.verilog_tokens.specs.Tokens.{Token, Name}
+use Rattle.verilog_tokens.specs.Table.{namesIn, placeOf}
 use Rattle.verilog_grammar.specs.Meaning.{upTo, Kind, anInput, aRegister, aWire, Driven, Part, declares, drives, runs, Source}
 
 -- ---- what a module's parts declare, drive and run
@@ -62,10 +63,6 @@ inOrder ps = variables anInput ps ++ variables aRegister ps ++ variables aWire p
 unfoldable pub nameOf : Variable → Name
 nameOf v = v .named
 
-unfoldable pub placeOf : List Name → List ℕ → ℕ
-placeOf [] s = 0
-placeOf (n ∷ ns) s = pick (sameText (n .spelled) s) 0 (suc (placeOf ns s))
-
 unfoldable pub numberOf : List Part → List ℕ → ℕ
 numberOf ps s = upTo 255 (placeOf (map nameOf (inOrder ps)) s)
 
@@ -84,18 +81,6 @@ missing (n ∷ ns) ms = pick (isAmong ms n) [] (n ∷ []) ++ missing ns ms
 unfoldable pub repeated : List Name → List Name → List Name
 repeated seen [] = []
 repeated seen (n ∷ ns) = pick (isAmong seen n) (n ∷ []) [] ++ repeated (n ∷ seen) ns
-
-unfoldable pub nameIn : Token → List Name
-nameIn (terminal s) = []
-nameIn (name n) = n ∷ []
-nameIn (number b n) = []
-nameIn (known v) = []
-nameIn unknown = []
-nameIn broken = []
-
-unfoldable pub namesIn : List Token → List Name
-namesIn [] = []
-namesIn (t ∷ ts) = nameIn t ++ namesIn ts
 
 -- The names in use: all of the text but the module's own, which is its second token.
 unfoldable pub used : List Token → List Name

@@ -12,7 +12,8 @@ use lib.ListN.{length, getD, drop, length-drop, drop-of-length-le}
 use lib.Seq.{drop-cons}
 use Rattle.verilog_tokens.specs.declared.Class.{Class}
 use Rattle.verilog_tokens.specs.declared.Class.the-variants.{Space, Word, Comment, Decimal, Binary, Octal, Hexadecimal, Underscore}
-use Rattle.verilog_tokens.specs.Characters.{isNewline, isSpace, isLetter, isBelow, isX, isZ, isUnderscore, isDigit, isNamed, isText, inClass, span, runEnd}
+use Rattle.verilog_tokens.specs.Characters.{isNewline, isSpace, isLetter, isBelow, isX, isZ, isUnderscore, isDigit, isNamed, isText}
+use Rattle.verilog_tokens.specs.Characters.{inClass, span, runEnd}
 
 -- ---- isDigit, isNamed, isText
 

@@ -1,7 +1,8 @@
 // Characters and runs of them.
 use crate::Class;
 ghost use mathlib.Core.Path.{_≡_};
-ghost use Rattle.verilog_tokens.specs.Characters.{isNewline, isSpace, isLetter, isBelow, isX, isZ, isDigit, isNamed, isText, inClass, runEnd};
+ghost use Rattle.verilog_tokens.specs.Characters.{isNewline, isSpace, isLetter, isBelow, isX, isZ, isDigit, isNamed, isText, inClass};
+ghost use Rattle.verilog_tokens.specs.Characters.{runEnd};
 
 // Is it LF or CR?
 pub fn is_newline(b: u8) -> bool

@@ -51,12 +51,10 @@ fn counts_of(p: Plan) -> Counts {
     }
 }
 
-// How it ends where a run does not come to rest.
-fn outcome_of(rested: bool) -> Outcome {
-    if rested {
-        return Outcome::Done;
-    }
-    Outcome::Refused
+// How it ends where a run ends so.
+fn outcome_of(rest: Rest) -> Outcome {
+    let e = driving::ending_of(rest);
+    driving::outcome_of(e)
 }
 
 // All four a cycle further, up to the first that does not come to rest.
@@ -73,18 +71,19 @@ fn advanced(
     let cycle = comparison::cycle_of(verdict);
     let mut rests = s.rests;
     let mut on = true;
+    let mut last = rests[0];
     let mut k = 0;
     while k < 4 && on {
         let before = rests[k];
-        let after = machine::whole(p, sheet, nodes, rows, widths, cycle, before, row);
-        on = after.rested;
-        rests[k] = after;
+        last = machine::whole(p, sheet, nodes, rows, widths, cycle, before, row);
+        on = last.rested;
+        rests[k] = last;
         k += 1;
     }
     let feed = row.feed;
     Sides {
         on,
-        outcome: outcome_of(on),
+        outcome: outcome_of(last),
         verdict,
         feed,
         rests,
@@ -127,8 +126,8 @@ fn turn(
 ) -> Sides {
     let f = s.feed;
     let row = feed::next_row(p.index, f, buffer, widths, p.inputs);
-    if row.kind != feed::FOUND {
-        return over(s, feed::outcome_of(row.kind));
+    if row.error != 0 {
+        return over(s, halves::line_outcome(row.error));
     }
     let e = advanced(p, sheet, nodes, rows, widths, s, row);
     if !e.on {

@@ -1,6 +1,5 @@
 // The rows of an inputs file, a line a cycle, read as the run goes on.
-use crate::report::wrong_at;
-use options::Outcome;
+use crate::report::wrong_inputs;
 use stimulus::Waiting;
 
 // How far the file is read: its descriptor, the part of the buffer that waits, the line it begins with, and whether the file is at its
@@ -13,17 +12,11 @@ pub struct Feed {
     pub ended: bool,
 }
 
-pub const FOUND: u8 = 0;
-
-const BLANK: u8 = 1;
-
-const WRONG: u8 = 2;
-
-const END: u8 = 3;
-
-// A row of inputs, the clock's slot in front: found, or none where a line is blank or wrong or the file is at its end.
+// A row of inputs, the clock's slot in front, with the error of its line (`stimulus`): 0 for a row, 1 for a blank line, or for the
+// file's end, where there is no line to come.
 pub struct Row {
-    pub kind: u8,
+    pub more: bool,
+    pub error: u8,
     pub feed: Feed,
     pub value: [u32; 16],
     pub unknown: [bool; 16],
@@ -37,14 +30,6 @@ pub fn over(fd: i32) -> Feed {
         line: 0,
         ended: false,
     }
-}
-
-// How a run ends that ends with such a row.
-pub fn outcome_of(kind: u8) -> Outcome {
-    if kind == WRONG {
-        return Outcome::Mistaken;
-    }
-    Outcome::Done
 }
 
 // What waits moves to the front of the buffer. Gives its length.
@@ -100,37 +85,13 @@ fn filled(feed: Feed, buffer: &mut [u8]) -> Feed {
 }
 
 // A row that is none.
-fn no_row(feed: Feed, kind: u8) -> Row {
+fn no_row(feed: Feed, more: bool, error: u8) -> Row {
     Row {
-        kind,
+        more,
+        error,
         feed,
         value: [0u32; 16],
         unknown: [false; 16],
-    }
-}
-
-// What is wrong with a line.
-fn complain(index: usize, line: usize, column: usize, error: u8) {
-    match error {
-        2 => wrong_at(
-            index,
-            line,
-            column,
-            b"no number: decimal, 0x and hexadecimal, or x is allowed\n",
-        ),
-        3 => wrong_at(index, line, column, b"too wide for its input\n"),
-        4 => wrong_at(
-            index,
-            line,
-            column,
-            b"too few values: one for each input but the clock is allowed\n",
-        ),
-        _ => wrong_at(
-            index,
-            line,
-            column,
-            b"too many values: one for each input but the clock is allowed, - where there is none\n",
-        ),
     }
 }
 
@@ -138,16 +99,17 @@ fn complain(index: usize, line: usize, column: usize, error: u8) {
 fn row_of(index: usize, line: &[u8], widths: &[u8], inputs: u8, feed: Feed) -> Row {
     let p = stimulus::parse(line, widths, inputs);
     if p.error == 1 {
-        return no_row(feed, BLANK);
+        return no_row(feed, true, 1);
     }
     if p.error != 0 {
-        complain(index, feed.line, p.column, p.error);
-        return no_row(feed, WRONG);
+        wrong_inputs(index, feed.line, p.column, p.error);
+        return no_row(feed, false, p.error);
     }
     let value = p.value;
     let unknown = p.unknown;
     Row {
-        kind: FOUND,
+        more: false,
+        error: 0,
         feed,
         value,
         unknown,
@@ -158,7 +120,7 @@ fn row_of(index: usize, line: &[u8], widths: &[u8], inputs: u8, feed: Feed) -> R
 fn row_at(index: usize, f: Feed, end: usize, buffer: &[u8], widths: &[u8], inputs: u8) -> Row {
     let from = f.from;
     if from > end || end > buffer.len() {
-        return no_row(f, END);
+        return no_row(f, false, 1);
     }
     let mut g = f;
     g.from = stimulus::counted(end);
@@ -170,17 +132,17 @@ fn row_at(index: usize, f: Feed, end: usize, buffer: &[u8], widths: &[u8], input
 fn line_at(index: usize, f: Feed, buffer: &[u8], widths: &[u8], inputs: u8) -> Row {
     match stimulus::find_line(buffer, f.from, f.to, true) {
         Waiting::Whole(end) => row_at(index, f, end, buffer, widths, inputs),
-        Waiting::More => no_row(f, END),
-        Waiting::Nothing => no_row(f, END),
+        Waiting::More => no_row(f, false, 1),
+        Waiting::Nothing => no_row(f, false, 1),
     }
 }
 
 // The next row: blank lines are passed over. A proved loop has to end, and nothing says that a file does: so it counts its turns
 // down, from a number that no file uses up.
 pub fn next_row(index: usize, feed: Feed, buffer: &mut [u8], widths: &[u8], inputs: u8) -> Row {
-    let mut row = no_row(feed, BLANK);
+    let mut row = no_row(feed, true, 1);
     let mut turns = u64::MAX;
-    while turns > 0 && row.kind == BLANK {
+    while turns > 0 && row.more {
         let f = row.feed;
         let g = filled(f, buffer);
         row = line_at(index, g, buffer, widths, inputs);

@@ -4,8 +4,8 @@ mod comparing;
 mod display;
 mod feed;
 mod files;
-mod labels;
 mod machine;
+mod names;
 mod nets;
 mod report;
 mod running;
@@ -57,7 +57,7 @@ where the clock is the only input; # comments.
 // What a command does with a sheet that is read.
 fn perform(c: Command, sheet: &[u8], layout: Layout, widths: &[u8]) -> Outcome {
     let mut names = [0u8; 2560];
-    if !labels::fill(options::names_of(c), layout, &mut names) {
+    if !names::fill(options::names_of(c), layout, &mut names) {
         return Outcome::Mistaken;
     }
     match c {
@@ -91,7 +91,7 @@ fn with_text(c: Command, view: &[u8]) -> Outcome {
     let mut bytes = [0u8; 8193];
     let d = hextext::decode(view, &mut bytes);
     if d.error != 0 {
-        misread(index, d.line, d.column, d.error);
+        report::wrong_hex(index, d.line, d.column, d.error);
         return Outcome::Mistaken;
     }
     let length = d.length;
@@ -99,15 +99,6 @@ fn with_text(c: Command, view: &[u8]) -> Outcome {
         return Outcome::Mistaken;
     }
     with_bytes(c, &bytes[..length], view, true)
-}
-
-// What is wrong with hexadecimal text.
-fn misread(index: usize, line: usize, column: usize, error: u8) {
-    if error == 1 {
-        report::wrong_at(index, line, column, b"no hexadecimal digit\n");
-        return;
-    }
-    report::wrong_at(index, line, column, b"a digit without its second\n");
 }
 
 // A file's bytes: a sheet, or hexadecimal text.

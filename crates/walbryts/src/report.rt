@@ -1,5 +1,5 @@
 // Refusals and errors in words, on standard error: the file, the place, the number, what was found and what is allowed. The words of the
-// numbers come from the table in `reasons`.
+// numbers come from the table in `reasons`, those of lines and rules from `findings`.
 use crate::files::flush;
 use crate::say::say;
 use libc::STDERR_FILENO;
@@ -14,11 +14,34 @@ fn say_file(index: usize) {
     io::write_all(STDERR_FILENO, &path[..n]);
 }
 
-// Something wrong at a line and a column of a file.
-pub fn wrong_at(index: usize, line: usize, column: usize, reason: &[u8]) {
+// A line and a column of a file.
+fn say_spot(index: usize, line: usize, column: usize) {
     say_file(index);
     say(STDERR_FILENO, b":#:#: ", line, column);
-    io::write_all(STDERR_FILENO, reason);
+}
+
+// Something wrong with hexadecimal text.
+pub fn wrong_hex(index: usize, line: usize, column: usize, error: u8) {
+    say_spot(index, line, column);
+    let mut text = [0u8; 65536];
+    let p = findings::put_hex_error(error, &mut text, 0);
+    flush(STDERR_FILENO, &text, p);
+}
+
+// Something wrong with a line of inputs.
+pub fn wrong_inputs(index: usize, line: usize, column: usize, error: u8) {
+    say_spot(index, line, column);
+    let mut text = [0u8; 65536];
+    let p = findings::put_input_error(error, &mut text, 0);
+    flush(STDERR_FILENO, &text, p);
+}
+
+// Something wrong with a line of names.
+pub fn wrong_names(index: usize, line: usize, column: usize, error: u8) {
+    say_spot(index, line, column);
+    let mut text = [0u8; 65536];
+    let p = findings::put_name_error(error, &mut text, 0);
+    flush(STDERR_FILENO, &text, p);
 }
 
 // Something wrong with a file as a whole, or in a cycle.
@@ -105,65 +128,11 @@ pub fn refuse(index: usize, sheet: &[u8], view: &[u8], hex: bool, number: u8, pl
 
 // ---- what breaks a rule of extraction
 
-// A register and the threads or the wire that it concerns: 12 to 14.
-fn say_register(fd: i32, w: Witness) {
-    say(fd, b"register r# is written by ", w.register, 0);
-    let number = w.number;
-    match number {
-        12 => say(fd, b"threads # and #", w.thread, w.other),
-        13 => say(
-            fd,
-            b"= in thread # and by <= in thread #",
-            w.thread,
-            w.other,
-        ),
-        _ => say_reader(fd, w),
-    }
-}
-
-// Who reads the register.
-fn say_reader(fd: i32, w: Witness) {
-    if w.wired {
-        say(fd, b"= in thread # and read by wire w#", w.thread, w.wire);
-        return;
-    }
-    say(fd, b"= in thread # and read by thread #", w.thread, w.other);
-}
-
-// Who reads the clock: 18.
-fn say_clock(fd: i32, w: Witness) {
-    if w.wired {
-        say(fd, b"wire w# reads i0", w.wire, 0);
-        return;
-    }
-    say(fd, b"thread # reads i0 at place #", w.thread, w.place);
-}
-
-// A wait: 15, 20 and 21.
-fn say_wait(fd: i32, w: Witness) {
-    let number = w.number;
-    match number {
-        15 => say(fd, b"the wait at thread #, place #", w.thread, w.place),
-        20 => say(fd, b"the 33rd wait at thread #, place #", w.thread, w.place),
-        _ => say(
-            fd,
-            b"the walk from the wait at thread #, place # asks for one more",
-            w.thread,
-            w.place,
-        ),
-    }
-}
-
 // What a rule finds.
 fn say_witness(fd: i32, w: Witness) {
-    let number = w.number;
-    match number {
-        12..=14 => say_register(fd, w),
-        15 | 20 | 21 => say_wait(fd, w),
-        18 => say_clock(fd, w),
-        19 => say(fd, b"wire w# reads w#", w.wire, w.above),
-        _ => say(fd, b"thread #", w.thread, 0),
-    }
+    let mut text = [0u8; 65536];
+    let p = findings::put_witness(w, &mut text, 0);
+    flush(fd, &text, p);
 }
 
 // A sheet that is read and not extracted: the number, the witness and what is allowed.
@@ -183,6 +152,27 @@ pub fn refuse_extraction(index: usize, sheet: &[u8]) {
 }
 
 // ---- runs
+
+// Not at rest after so many choices.
+fn say_restless(most: usize) {
+    let mut text = [0u8; 65536];
+    let p = halves::put_restless(most, &mut text, 0);
+    flush(STDERR_FILENO, &text, p);
+}
+
+// A cycle that did not come to rest.
+pub fn restless(index: usize, cycle: usize, most: usize) {
+    wrong_with(index, b": cycle #: ", cycle);
+    say_restless(most);
+    io::write_all(STDERR_FILENO, b"\n");
+}
+
+// A sheet that did not come to rest from the start.
+pub fn unstarted(index: usize, most: usize) {
+    wrong_with(index, b": ", 0);
+    say_restless(most);
+    io::write_all(STDERR_FILENO, b" from the start\n");
+}
 
 // A cycle that could not be run.
 pub fn stopped(index: usize, cycle: usize, number: u8) {

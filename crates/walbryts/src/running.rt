@@ -10,6 +10,7 @@ use crate::machine::Plan;
 use crate::report;
 use crate::say::say;
 use crate::showing::extracted;
+use driving::Ending;
 use driving::Rest;
 use libc::STDERR_FILENO;
 use libc::STDOUT_FILENO;
@@ -90,13 +91,13 @@ fn turn(
 ) -> Course {
     let f = c.feed;
     let row = feed::next_row(p.index, f, buffer, widths, p.inputs);
-    if row.kind != feed::FOUND {
-        return stopped(c, feed::outcome_of(row.kind));
+    if row.error != 0 {
+        return stopped(c, halves::line_outcome(row.error));
     }
     let before = c.rest;
     let after = machine::whole(p, sheet, nodes, rows, widths, c.cycle, before, row);
     if !after.rested {
-        return stopped(c, Outcome::Refused);
+        return stopped(c, outcome_of(after));
     }
     let f = row.feed;
     let mut e = c;
@@ -176,6 +177,27 @@ fn tabulated(
     finish(p, widths, names, c, &mut text)
 }
 
+// Did it come to rest from the start? If not, says why.
+fn started(index: usize, rest: Rest) -> bool {
+    match driving::ending_of(rest) {
+        Ending::Rested => true,
+        Ending::Refused(number) => {
+            report::stopped(index, 0, number);
+            false
+        }
+        Ending::Restless(most) => {
+            report::unstarted(index, most);
+            false
+        }
+    }
+}
+
+// How the command ends where a run ends so.
+fn outcome_of(rest: Rest) -> Outcome {
+    let e = driving::ending_of(rest);
+    driving::outcome_of(e)
+}
+
 // The run, from its start state and the expressions on.
 fn run_on(
     o: RunOptions,
@@ -187,19 +209,14 @@ fn run_on(
 ) -> Outcome {
     let way = o.way;
     let rest = machine::begin(p, sheet, way);
-    if !rest.rested {
-        report::wrong_with(
-            o.sheet,
-            b": not at rest after 65,535 choices from the start\n",
-            0,
-        );
-        return Outcome::Refused;
+    if !started(o.sheet, rest) {
+        return outcome_of(rest);
     }
     let st = rest.state;
     display::begin_wave(p, widths, names, st);
     let mut nodes = [0u16; 16384];
     let mut rows = [0u16; 1056];
-    if machine::is_expressed(way) && !extracted(sheet, &mut nodes, &mut rows) {
+    if halves::is_expressed(way) && !extracted(sheet, &mut nodes, &mut rows) {
         report::refuse_extraction(o.sheet, sheet);
         return Outcome::Refused;
     }

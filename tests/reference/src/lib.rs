@@ -11,6 +11,7 @@ pub mod machine;
 pub mod simulator;
 pub mod cycles;
 pub mod dispatch;
+pub mod text;
 pub mod extraction;
 pub mod values;
 pub mod compiler;

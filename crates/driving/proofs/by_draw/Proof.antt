@@ -3,13 +3,13 @@ use borrow.Author.Needs.{needs}
 use mathlib.Core.Path.{_≡_, refl, sym, _∙_}
 use Prim.Native.Nat.{_-_}
 use native.Mathlib.Omega.{arith}
-use Rattle.driving.specs.Driving.{drawn}
+use Rattle.driving.specs.Driving.{drawnMost, drawn}
 use Rattle.driving.proofs.Driving.{drawn-none, drawn-rested, drawn-more}
 use Rattle.driving.proofs.by_draw.Statement.{statement}
 use Rattle.driving.proofs.by_draw.Tie as tie
 
 abbrev Inv-loop : tie.InvT-loop
-Inv-loop sheet items e₀ turns₀ e turns = drawn sheet items turns e ≡ drawn sheet items 4000000 e₀
+Inv-loop sheet items e₀ turns₀ e turns = drawn sheet items turns e ≡ drawn sheet items drawnMost e₀
 
 abbrev μ-loop : tie.MeasureT-loop
 μ-loop sheet items e₀ turns₀ e turns = turns

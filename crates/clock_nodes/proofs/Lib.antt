@@ -1,0 +1,5 @@
+pub mod Turns
+pub mod Worth
+pub mod Copied
+pub mod Lows
+pub mod Ranges

@@ -1,0 +1,34 @@
+-- `clock_steps::take_register` meets its contract. Assumes nothing.
+use Rattle.clock_steps.specs.Taking.{entryCell, takeRegister}
+use borrow.Author.Needs.{needs}
+use Rattle.clock_steps.proofs.take_register.Statement.{statement}
+use Rattle.clock_steps.proofs.take_register.Tie as tie
+
+returns : tie.Need-returns
+unfolding takeRegister entryCell
+returns c = rw (← c .before .before .before .before .has .ensures, c .before .before .before .if1 .taken, c .before .slot .ensures .0)
+
+returns-2 : tie.Need-returns-2
+unfolding takeRegister
+returns-2 c = rw (← c .before .has .ensures, c .if1 .left)
+
+pub take-register-spec : {M : Type 1} → statement M
+take-register-spec =
+    tie.close
+    (tie.spec
+    (λ c. search needs)
+    (λ c. search needs)
+    (λ c. search needs)
+    (λ c. search needs)
+    (λ c κs. search needs)
+    (λ c. search needs)
+    (λ c. search needs)
+    (λ c. search needs)
+    (λ c. search needs)
+    (λ c κs. search needs)
+    (λ c. search needs)
+    (λ c. search needs)
+    (λ c. search needs)
+    (λ c. search needs)
+    returns
+    returns-2)

@@ -1,0 +1,62 @@
+-- `plan_changes::put` meets its contract. Assumes nothing.
+use mathlib.Core.Path.{sym, _∙_}
+use borrow.Author.Tests.{lt-ltb, le-ltb}
+use Rattle.cells.specs.Cells.{cellAt}
+use Rattle.plan_changes.specs.Changes.{put}
+use borrow.Author.Needs.{needs}
+use Rattle.plan_changes.proofs.put.Statement.{statement}
+use Rattle.plan_changes.proofs.put.Tie as tie
+
+returns : tie.Need-returns
+unfolding put
+returns c = rw (le-ltb _ _ (c .if1 .taken))
+
+returns-2 : tie.Need-returns-2
+unfolding put cellAt
+returns-2 c =
+    let at-same = c .before in
+    let at-store = at-same .before in
+    let at-load = at-store .before in
+    let at-if1 = at-load .before .before in
+    rw (
+      lt-ltb _ _ (at-if1 .if1 .left),
+      sym (at-same .same .ensures) ∙ c .if2 .taken,
+      at-store .store .ensures,
+      at-load .load .ensures,
+    )
+
+returns-3 : tie.Need-returns-3
+unfolding put cellAt
+returns-3 c =
+    let at-if2 = c .before .before .before in
+    let at-same = at-if2 .before in
+    let at-store = at-same .before in
+    let at-load = at-store .before in
+    let at-if1 = at-load .before .before in
+    rw (
+      lt-ltb _ _ (at-if1 .if1 .left),
+      sym (at-same .same .ensures) ∙ at-if2 .if2 .left,
+      at-store .store .ensures,
+      at-load .load .ensures,
+      c .before .union .ensures,
+      c .before .before .readers .ensures,
+      c .wake .ensures,
+    )
+
+pub put-spec : {M : Type 1} → statement M
+put-spec =
+    tie.close
+    (tie.spec
+    returns
+    (λ c. search needs)
+    (λ c. search needs)
+    (λ c κs. search needs)
+    (λ c κs. search needs)
+    (λ c. search needs)
+    (λ c. search needs)
+    (λ c κs. search needs)
+    returns-2
+    (λ c κs. search needs)
+    (λ c κs. search needs)
+    (λ c κs. search needs)
+    returns-3)

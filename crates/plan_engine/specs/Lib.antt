@@ -1,0 +1,4 @@
+pub mod Live
+pub mod Acting
+pub mod Taking
+pub mod Running

@@ -1,0 +1,11 @@
+pub mod Filling
+pub mod Kept
+pub mod Room
+pub mod Laying
+pub mod Sections
+pub mod Watching
+pub mod Accepting
+pub mod Stages
+pub mod Holding
+pub mod Worked
+pub mod Samples

@@ -1,0 +1,9 @@
+pub mod Standing
+pub mod Words
+pub mod Waking
+pub mod Moving
+pub mod Changing
+pub mod Steps
+pub mod Commits
+pub mod Choices
+pub mod Runs

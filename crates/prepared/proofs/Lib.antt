@@ -1,0 +1,5 @@
+pub mod Held
+pub mod Unpacked
+pub mod Ways
+pub mod Calls
+pub mod Sheets

@@ -1,0 +1,18 @@
+-- `verilog_bytes::put_front` meets its contract. Assumes nothing.
+use mathlib.Core.Path.{ap, _∙_}
+use borrow.Author.Needs.{needs}
+use Rattle.verilog_bytes.specs.Turning.{behind, fronted}
+use Rattle.writing.specs.Buffer.{filled}
+use Rattle.verilog_bytes.proofs.put_front.Statement.{statement}
+use Rattle.verilog_bytes.proofs.put_front.Tie as tie
+
+returns : tie.Need-returns
+unfolding fronted behind
+returns c =
+    let at-start = c .before .before .before .before in
+    let a = at-start .args in
+    let p = c .before .before .put-byte .result in
+    ap (λ l. filled l p) (c .turn .ensures) ∙ ap (λ t. behind (a .from) (a .pos) t) (c .before .before .put-byte .ensures)
+
+pub put-front-spec : {M : Type 1} → statement M
+put-front-spec = tie.close (tie.spec (λ c κs. search needs) (λ c κs. search needs) returns)

@@ -1,0 +1,5 @@
+pub mod Rows
+pub mod Constants
+pub mod Exprs
+pub mod Following
+pub mod Claims

@@ -1,0 +1,11 @@
+pub mod Chosen
+pub mod AtFault
+pub mod Numbering
+pub mod Heading
+pub mod Ordering
+pub mod Kept
+pub mod Standing
+pub mod Claims
+pub mod Scanning
+pub mod Noting
+pub mod Samples

@@ -1,0 +1,24 @@
+-- `verilog_names::numbers::number_at` meets its contract. Assumes nothing.
+use borrow.Author.Needs.{needs}
+use Rattle.verilog_names.proofs.Numbering.{number-other, number-name}
+use Rattle.verilog_names.proofs.numbers.number_at.Statement.{statement}
+use Rattle.verilog_names.proofs.numbers.number_at.Tie as tie
+
+returns-2 : tie.Need-returns-2
+returns-2 c =
+    let at-if1 = c .before .before .before in
+    number-name _ _ _ _ _ _ _ _ (at-if1 .if1 .left) (c .before .before .variable-of .ensures) (c .before .up-to .ensures)
+    (c .entry .ensures)
+
+pub number-at-spec : {M : Type 1} → statement M
+number-at-spec =
+    tie.close
+    (tie.spec
+    (λ c. search needs)
+    (λ c. search needs)
+    (λ c. search needs)
+    (λ c. number-other _ _ _ _ _ (c .if1 .taken))
+    (λ c κs. search needs)
+    (λ c κs. search needs)
+    (λ c κs. search needs)
+    returns-2)

@@ -1,0 +1,8 @@
+pub mod Chosen
+pub mod Faults
+pub mod Numbers
+pub mod Head
+pub mod Order
+pub mod Tables
+pub mod Claims
+pub mod Entries

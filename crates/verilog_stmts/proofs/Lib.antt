@@ -1,0 +1,10 @@
+pub mod Picks
+pub mod EventPaths
+pub mod StmtPaths
+pub mod Passing
+pub mod Signs
+pub mod EventReading
+pub mod StmtReading
+pub mod Full
+pub mod CaseReading
+pub mod Following

@@ -1,0 +1,34 @@
+// The names of the variables: i0.., r0.., w0.., or those of a names file, which `labels` takes.
+use crate::files::read_whole;
+use crate::report::wrong_names;
+use crate::report::wrong_with;
+use sheet::Layout;
+
+// The names of a file's bytes. Are they right? If not, says why.
+fn taken(index: usize, bytes: &[u8], layout: Layout, names: &mut [u8; 2560]) -> bool {
+    let m = labels::take_lines(bytes, layout.inputs, layout.registers, layout.wires, names);
+    if m.error == 0 {
+        return true;
+    }
+    wrong_names(index, m.line, m.column, m.error);
+    false
+}
+
+// Fills the names, from the file that a word names where there is one. Is it right?
+pub fn fill(index: usize, layout: Layout, names: &mut [u8; 2560]) -> bool {
+    naming::fill_plain(layout.inputs, layout.registers, names);
+    if index == 0 {
+        return true;
+    }
+    let mut buffer = [0u8; 65536];
+    let got = read_whole(index, &mut buffer);
+    if !got.found {
+        return false;
+    }
+    let size = got.size;
+    if size >= 65536 {
+        wrong_with(index, b": a names file of 65,536 bytes or longer\n", 0);
+        return false;
+    }
+    taken(index, &buffer[..size], layout, names)
+}
