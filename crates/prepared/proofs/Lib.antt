@@ -3,3 +3,4 @@ pub mod Unpacked
 pub mod Ways
 pub mod Calls
 pub mod Sheets
+pub mod Claims
