@@ -10,7 +10,7 @@ use Rattle.values.specs.declared.Value.{Value}
 use Rattle.values.specs.declared.Value.the-variants.{Known, Unknown}
 use Rattle.values.specs.declared.Edge.the-variants.{Change, Posedge}
 use Rattle.values.specs.Values.{fits, same}
-use Rattle.values.specs.Edges.{becomes, fires}
+use Rattle.values.specs.Edges.{level, moves, fires}
 use Rattle.values.specs.Planes.{valueAt, numberOf, isUnknown}
 use Rattle.sheet.specs.Expression.{Expr, variable, constant, unary}
 use Rattle.sheet.specs.Statement.{Stmt, assign, later, sequence, wait, size}
@@ -56,7 +56,7 @@ pub five-again :
     × (valueOf (runIn fives (2 ∷ 0 ∷ 0 ∷ 1 ∷ 2 ∷ 0 ∷ []) (started 1) .state) 1 ≡ Known 5)
     × (placeOf (runIn fives (2 ∷ 0 ∷ 0 ∷ 1 ∷ 2 ∷ 0 ∷ []) (started 1) .state) 1 ≡ 0)
     × (isDue (runIn fives (2 ∷ 0 ∷ 0 ∷ 1 ∷ 2 ∷ 0 ∷ []) (started 1) .state) 0 ≡ false)
-unfolding same becomes fires valueAt numberOf isUnknown size eval reads translate threadCode withPlanes withSlots withPlaces withMarks withCounters valueOf withValue pendingOf withPending withoutPending placeOf withPlace isDue withDue variables codeOf instrAt current wireExpr wireVariable anyBelow isWait threadEnabled items enabled anyEnabled isSome anyPending changed termsFire waitFires fireBelow touched markBelow react runInstr runThread runWire storeOne storePending commit dueBelow started answer spend counted refusal performed chooseIn onward runIn
+unfolding same level moves fires valueAt numberOf isUnknown size eval reads translate threadCode withPlanes withSlots withPlaces withMarks withCounters valueOf withValue pendingOf withPending withoutPending placeOf withPlace isDue withDue variables codeOf instrAt current wireExpr wireVariable anyBelow isWait threadEnabled items enabled anyEnabled isSome anyPending changed termsFire waitFires fireBelow touched markBelow react runInstr runThread runWire storeOne storePending commit dueBelow started answer spend counted refusal performed chooseIn onward runIn
 five-again = (refl, refl, refl, refl, refl, refl)
 
 -- ---- "Two threads `a <= b`, `b <= a`: swapped in any order."
@@ -86,7 +86,7 @@ pub swapped-in-any-order :
     (x y : ℕ) →
     (map {B = Value × Value} (λ s. (valueOf s 1, valueOf s 2)) (reached swapping 5 (risen x y)) ≡ replicate 6 (Known y, Known x))
     × (reached swapping 6 (risen x y) ≡ [])
-unfolding branches reached fits same becomes fires valueAt numberOf isUnknown size eval reads translate threadCode withPlanes withSlots withPlaces withMarks withCounters valueOf withValue pendingOf withPending withoutPending placeOf withPlace isDue withDue variables codeOf instrAt current wireExpr wireVariable anyBelow allBelow isWait threadEnabled items enabled anyEnabled isSome anyPending quiet changed termsFire waitFires fireBelow touched markBelow react runInstr runThread runWire storeOne storePending commit storeInputs feed dueBelow started widthOf answer spend counted timed refusal performed chooseIn onward runIn inputOf inputsFit instantRefusal instantIn
+unfolding branches reached fits same level moves fires valueAt numberOf isUnknown size eval reads translate threadCode withPlanes withSlots withPlaces withMarks withCounters valueOf withValue pendingOf withPending withoutPending placeOf withPlace isDue withDue variables codeOf instrAt current wireExpr wireVariable anyBelow allBelow isWait threadEnabled items enabled anyEnabled isSome anyPending quiet changed termsFire waitFires fireBelow touched markBelow react runInstr runThread runWire storeOne storePending commit storeInputs feed dueBelow started widthOf answer spend counted timed refusal performed chooseIn onward runIn inputOf inputsFit instantRefusal instantIn
 swapped-in-any-order x y = (refl, refl)
 
 -- ---- "Two pending values for one register: the second stands."
@@ -101,10 +101,10 @@ pub second-stands :
     × (runIn twice (0 ∷ 0 ∷ 255 ∷ []) (started 0) .accepted ≡ 3)
     × (valueOf (runIn twice (0 ∷ 0 ∷ 255 ∷ []) (started 0) .state) 1 ≡ Known 5)
     × (pendingOf (runIn twice (0 ∷ 0 ∷ 255 ∷ []) (started 0) .state) 0 ≡ none)
-unfolding same becomes fires valueAt numberOf isUnknown size eval reads translate threadCode withPlanes withSlots withPlaces withMarks withCounters valueOf withValue pendingOf withPending withoutPending placeOf withPlace isDue withDue variables codeOf instrAt current wireExpr wireVariable anyBelow isWait threadEnabled items enabled anyEnabled isSome anyPending changed termsFire waitFires fireBelow touched markBelow react runInstr runThread runWire storeOne storePending commit dueBelow started answer spend counted refusal performed chooseIn onward runIn
+unfolding same level moves fires valueAt numberOf isUnknown size eval reads translate threadCode withPlanes withSlots withPlaces withMarks withCounters valueOf withValue pendingOf withPending withoutPending placeOf withPlace isDue withDue variables codeOf instrAt current wireExpr wireVariable anyBelow isWait threadEnabled items enabled anyEnabled isSome anyPending changed termsFire waitFires fireBelow touched markBelow react runInstr runThread runWire storeOne storePending commit dueBelow started answer spend counted refusal performed chooseIn onward runIn
 second-stands = (refl, refl, refl, refl, refl)
 
--- ---- "x to 1 fires posedge; 1 to 1 doesn't; 0 to x doesn't."
+-- ---- "x to 1 fires posedge; 1 to 1 doesn't; 0 to x doesn't." The last is document 02's, request [2]: it does.
 
 -- @(posedge clock);
 abbrev rising : Module Expr
@@ -117,11 +117,11 @@ woken c n x = placeOf (instantIn rising (withValue (started 0) 0 c) (clock n x) 
 pub posedge-fires :
     (woken Unknown 1 false ≡ 1)
     × (woken (Known 1) 1 false ≡ 0)
-    × (woken (Known 0) 0 true ≡ 0)
+    × (woken (Known 0) 0 true ≡ 1)
     × (woken (Known 0) 1 false ≡ 1)
     × (instantIn rising (withValue (started 0) 0 (Known 1)) (clock 1 false) .number ≡ 0)
     × (instantIn rising (withValue (started 0) 0 (Known 0)) (clock 0 true) .number ≡ 0)
-unfolding fits same becomes fires valueAt numberOf isUnknown size eval reads translate threadCode withPlanes withSlots withPlaces withMarks withCounters valueOf withValue pendingOf withPending withoutPending placeOf withPlace isDue withDue variables codeOf instrAt current wireExpr wireVariable anyBelow allBelow isWait threadEnabled items enabled anyEnabled isSome anyPending quiet changed termsFire waitFires fireBelow touched markBelow react runInstr runThread runWire storeOne storePending commit storeInputs feed dueBelow started widthOf answer spend counted timed refusal performed chooseIn onward runIn inputOf inputsFit instantRefusal instantIn
+unfolding fits same level moves fires valueAt numberOf isUnknown size eval reads translate threadCode withPlanes withSlots withPlaces withMarks withCounters valueOf withValue pendingOf withPending withoutPending placeOf withPlace isDue withDue variables codeOf instrAt current wireExpr wireVariable anyBelow allBelow isWait threadEnabled items enabled anyEnabled isSome anyPending quiet changed termsFire waitFires fireBelow touched markBelow react runInstr runThread runWire storeOne storePending commit storeInputs feed dueBelow started widthOf answer spend counted timed refusal performed chooseIn onward runIn inputOf inputsFit instantRefusal instantIn
 posedge-fires = (refl, refl, refl, refl, refl, refl)
 
 -- ---- 25: rows that aren't filled, flags that are too few or too many

@@ -9,13 +9,11 @@ use lib.ListN.{length}
 use lib.Dec.{ltb}
 use borrow.Author.Tests.{not-true, ltb-true, ltb-false}
 use Rattle.values.specs.declared.Value.{Value}
-use Rattle.values.specs.declared.Value.the-variants.{Known}
 use Rattle.values.specs.declared.Edge.{Edge}
 use Rattle.values.specs.declared.Edge.the-variants.{Change, Posedge, Negedge}
-use Rattle.values.specs.Values.{same}
-use Rattle.values.specs.Edges.{becomes, fires}
+use Rattle.values.specs.Edges.{fires}
 use Rattle.values.proofs.Values.{same→≡, ≡→same, ≢→same}
-use Rattle.values.proofs.Edges.{posedge-to-1, negedge-to-0}
+use Rattle.values.proofs.Edges.{moves-from, moves-to, moves-by}
 use Rattle.sheet.specs.Expression.{Expr}
 use Rattle.sheet.specs.Module.{Module}
 use Rattle.sheet.specs.declared.EdgeTerm.{EdgeTerm}
@@ -23,7 +21,7 @@ use Rattle.pseudocode.specs.Translation.{Instr, wait!, set!, later!, go, ifnot}
 use Rattle.state.specs.declared.State.{State}
 use Rattle.state.specs.State.{pendingOf}
 use Rattle.events.specs.Cycle.{current, isWait, items, isSome, enabled, anyEnabled, anyPending, quiet, termsFire, waitFires}
-use Rattle.events.specs.Tests.{Enabled, off-a-wait, due, Still, TermFires, any-change, posedge, negedge, Fires, first, later, Tests}
+use Rattle.events.specs.Tests.{Enabled, off-a-wait, due, Still, TermFires, any-change, leaves-0, comes-to-1, leaves-1, comes-to-0, Fires, first, later, Tests}
 use Rattle.events.proofs.Cycle.{absurd-bool, and-left, and-right, below-none}
 use Rattle.events.proofs.Choices.{enabled-thread, enabled-wire, none-enabled, enabled-none, none-pending, none-isSome, quiet-enabled, quiet-pending}
 
@@ -85,20 +83,18 @@ module _ (m : Module Expr) (st : State) where
 
 module _ (f g : ℕ → Value) where
   to-term : (e : Edge) (v : ℕ) → fires e (f v) (g v) ≡ true → TermFires f g (record { edge = e; variable = v })
-  unfolding fires becomes
+  unfolding fires
   to-term Change v h = any-change (λ e. absurd-bool (≡→same (f v) (g v) (sym e)) (not-true _ h))
-  to-term Posedge v h =
-      posedge (same→≡ (g v) (Known 1) (and-left _ _ h))
-      (λ e. absurd-bool (≡→same (f v) (Known 1) e) (not-true _ (and-right (same (g v) (Known 1)) _ h)))
-  to-term Negedge v h =
-      negedge (same→≡ (g v) (Known 0) (and-left _ _ h))
-      (λ e. absurd-bool (≡→same (f v) (Known 0) e) (not-true _ (and-right (same (g v) (Known 0)) _ h)))
+  to-term Posedge v h = moves-by 0 1 (f v) (g v) leaves-0 comes-to-1 h
+  to-term Negedge v h = moves-by 1 0 (f v) (g v) leaves-1 comes-to-0 h
 
   term-to : {t : EdgeTerm} → TermFires f g t → fires (t .edge) (f (t .variable)) (g (t .variable)) ≡ true
   unfolding fires
   term-to (any-change {v = v} h) = rw (≢→same (f v) (g v) (λ e. h (sym e))) refl
-  term-to (posedge {v = v} a b) = rw a (posedge-to-1 (f v) b)
-  term-to (negedge {v = v} a b) = rw a (negedge-to-0 (f v) b)
+  term-to (leaves-0 {v = v} a b) = moves-from 0 1 (f v) (g v) a b
+  term-to (comes-to-1 {v = v} a b) = moves-to 0 1 (f v) (g v) a b
+  term-to (leaves-1 {v = v} a b) = moves-from 1 0 (f v) (g v) a b
+  term-to (comes-to-0 {v = v} a b) = moves-to 1 0 (f v) (g v) a b
 
   to-terms : (ts : List EdgeTerm) → termsFire ts f g ≡ true → Fires f g (wait! ts)
   unfolding termsFire

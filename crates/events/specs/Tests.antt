@@ -8,8 +8,8 @@ use mathlib.Core.List.{List, _∷_}
 use mathlib.Core.Option.{none}
 use lib.ListN.{length}
 use Rattle.values.specs.declared.Value.{Value}
-use Rattle.values.specs.declared.Value.the-variants.{Known}
 use Rattle.values.specs.declared.Edge.the-variants.{Change, Posedge, Negedge}
+use Rattle.values.specs.Edges.{level}
 use Rattle.sheet.specs.Expression.{Expr}
 use Rattle.sheet.specs.Module.{Module}
 use Rattle.sheet.specs.declared.EdgeTerm.{EdgeTerm}
@@ -28,12 +28,14 @@ pub record Still (m : Module Expr) (st : State) : Type 0 where
   pub nothing-enabled : (c : ℕ) → c < items m → Enabled m st c → ⊥
   pub nothing-pending : (r : ℕ) → r < m .scope .registers → pendingOf st r ≡ none
 
--- A change of values, from f to g. "edge (0 any change, 1 posedge, 2 negedge)"; "Posedge: now 1, before not 1. Negedge: now 0,
--- before not 0."
+-- A change of values, from f to g. "edge (0 any change, 1 posedge, 2 negedge)"; a posedge leaves 0 or comes to 1, a negedge leaves 1 or
+-- comes to 0: "IEEE 1364 has 0 to x and x to 1 as posedge, 1 to x and x to 0 as negedge" (document 02, request [2]).
 pub data TermFires (f g : ℕ → Value) : EdgeTerm → Type 0 where
   any-change : {v : ℕ} → g v ≢ f v → TermFires f g (record { edge = Change; variable = v })
-  posedge : {v : ℕ} → g v ≡ Known 1 → f v ≢ Known 1 → TermFires f g (record { edge = Posedge; variable = v })
-  negedge : {v : ℕ} → g v ≡ Known 0 → f v ≢ Known 0 → TermFires f g (record { edge = Negedge; variable = v })
+  leaves-0 : {v : ℕ} → level (f v) ≡ 0 → level (g v) ≢ 0 → TermFires f g (record { edge = Posedge; variable = v })
+  comes-to-1 : {v : ℕ} → level (g v) ≡ 1 → level (f v) ≢ 1 → TermFires f g (record { edge = Posedge; variable = v })
+  leaves-1 : {v : ℕ} → level (f v) ≡ 1 → level (g v) ≢ 1 → TermFires f g (record { edge = Negedge; variable = v })
+  comes-to-0 : {v : ℕ} → level (g v) ≡ 0 → level (f v) ≢ 0 → TermFires f g (record { edge = Negedge; variable = v })
 
 -- A wait fires if one of its terms does; another instruction never.
 pub data Fires (f g : ℕ → Value) : Instr Expr → Type 0 where

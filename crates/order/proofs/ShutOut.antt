@@ -11,7 +11,7 @@ use Rattle.values.specs.declared.Value.{Value}
 use Rattle.values.specs.declared.Value.the-variants.{Known, Unknown}
 use Rattle.values.specs.Values.{same, fits, holds}
 use Rattle.values.proofs.Values.{same→≡, same→≢}
-use Rattle.values.specs.Edges.{becomes, fires}
+use Rattle.values.specs.Edges.{level, moves, fires}
 use Rattle.values.specs.Planes.{valueAt, numberOf, isUnknown}
 use Rattle.sheet.specs.Reading.{ok}
 use Rattle.sheet.specs.Expression.{Expr, variable, constant}
@@ -36,7 +36,7 @@ use Rattle.order.specs.Misread.{Reading, ShutOut, Misreadings, turnedBy,
 -- ---- what is computed with
 
 unfoldable simulating : Unit {0}
-unfolding same fits holds becomes fires valueAt numberOf isUnknown size eval reads translate threadCode withPlanes withSlots withPlaces withMarks withCounters valueOf withValue pendingOf withPending withoutPending placeOf withPlace isDue withDue variables codeOf instrAt current wireExpr wireVariable anyBelow allBelow isWait threadEnabled items enabled anyEnabled isSome anyPending quiet changed termsFire waitFires fireBelow touched markBelow react runInstr runThread runWire storeOne storePending commit storeInputs feed dueBelow started startOf start widthOf pendingFits stateFits judged answer spend counted timed refusal performed chooseIn resting runBy lowest plainChoice runPlain inputOf inputsFit instantRefusal instantIn instant rested instanced called final before instants
+unfolding same fits holds level moves fires valueAt numberOf isUnknown size eval reads translate threadCode withPlanes withSlots withPlaces withMarks withCounters valueOf withValue pendingOf withPending withoutPending placeOf withPlace isDue withDue variables codeOf instrAt current wireExpr wireVariable anyBelow allBelow isWait threadEnabled items enabled anyEnabled isSome anyPending quiet changed termsFire waitFires fireBelow touched markBelow react runInstr runThread runWire storeOne storePending commit storeInputs feed dueBelow started startOf start widthOf pendingFits stateFits judged answer spend counted timed refusal performed chooseIn resting runBy lowest plainChoice runPlain inputOf inputsFit instantRefusal instantIn instant rested instanced called final before instants
 simulating = tt
 
 -- ---- a list of calls on a sheet that extraction accepts, and a variable's value at its end

@@ -5,7 +5,7 @@ use mathlib.Core.Bool.{true}
 use mathlib.Core.List.{map}
 use lib.ListN.{replicate}
 use Rattle.values.specs.Values.{fits, same}
-use Rattle.values.specs.Edges.{becomes, fires}
+use Rattle.values.specs.Edges.{level, moves, fires}
 use Rattle.values.specs.Planes.{valueAt, numberOf, isUnknown}
 use Rattle.values.proofs.Samples as values
 use Rattle.sheet.specs.Expression.{Expr}
@@ -32,12 +32,12 @@ if-else e x y a b = (refl, refl, refl, refl)
 
 -- The thread that assigns 5 is past the assignment.
 went-on : placeOf (runIn events.fives again (started 1) .state) 0 ≡ 1
-unfolding same becomes fires valueAt numberOf isUnknown size eval reads translate threadCode withPlanes withSlots withPlaces withMarks withCounters valueOf withValue pendingOf withPending withoutPending placeOf withPlace isDue withDue variables codeOf instrAt current wireExpr wireVariable anyBelow isWait threadEnabled items enabled anyEnabled isSome anyPending changed termsFire waitFires fireBelow touched markBelow react runInstr runThread runWire storeOne storePending commit dueBelow started answer spend counted refusal performed chooseIn onward runIn
+unfolding same level moves fires valueAt numberOf isUnknown size eval reads translate threadCode withPlanes withSlots withPlaces withMarks withCounters valueOf withValue pendingOf withPending withoutPending placeOf withPlace isDue withDue variables codeOf instrAt current wireExpr wireVariable anyBelow isWait threadEnabled items enabled anyEnabled isSome anyPending changed termsFire waitFires fireBelow touched markBelow react runInstr runThread runWire storeOne storePending commit dueBelow started answer spend counted refusal performed chooseIn onward runIn
 went-on = refl
 
 -- After the commit nothing is enabled and nothing pending.
 at-rest : (x y : ℕ) → map (quiet events.swapping) (swaps x y) ≡ replicate 6 true
-unfolding branches reached fits same becomes fires valueAt numberOf isUnknown size eval reads translate threadCode withPlanes withSlots withPlaces withMarks withCounters valueOf withValue pendingOf withPending withoutPending placeOf withPlace isDue withDue variables codeOf instrAt current wireExpr wireVariable anyBelow allBelow isWait threadEnabled items enabled anyEnabled isSome anyPending quiet changed termsFire waitFires fireBelow touched markBelow react runInstr runThread runWire storeOne storePending commit storeInputs feed dueBelow started widthOf answer spend counted timed refusal performed chooseIn onward runIn inputOf inputsFit instantRefusal instantIn
+unfolding branches reached fits same level moves fires valueAt numberOf isUnknown size eval reads translate threadCode withPlanes withSlots withPlaces withMarks withCounters valueOf withValue pendingOf withPending withoutPending placeOf withPlace isDue withDue variables codeOf instrAt current wireExpr wireVariable anyBelow allBelow isWait threadEnabled items enabled anyEnabled isSome anyPending quiet changed termsFire waitFires fireBelow touched markBelow react runInstr runThread runWire storeOne storePending commit storeInputs feed dueBelow started widthOf answer spend counted timed refusal performed chooseIn onward runIn inputOf inputsFit instantRefusal instantIn
 at-rest x y = refl
 
 pub table : Table

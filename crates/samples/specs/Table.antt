@@ -41,10 +41,10 @@ pub record Table : Type 0 where
   -- "If on 2 holds; on x fails."
   pub if-2 : holds (Known 2) ≡ true
   pub if-x : holds Unknown ≡ false
-  -- "x to 1 fires posedge; 1 to 1 doesn't; 0 to x doesn't."
+  -- "x to 1 fires posedge; 1 to 1 doesn't; 0 to x doesn't." The last is document 02's, request [2]: it does.
   pub x-to-1 : fires Posedge Unknown (Known 1) ≡ true
   pub 1-to-1 : fires Posedge (Known 1) (Known 1) ≡ false
-  pub 0-to-x : fires Posedge (Known 0) Unknown ≡ false
+  pub 0-to-x : fires Posedge (Known 0) Unknown ≡ true
   -- "If-else of two assignments: size 4.", plain and non-blocking
   pub if-else :
       (e x y : Expr) (a b : ℕ) →

@@ -2,7 +2,7 @@
 use mathlib.Core.Path.{_≡_, refl}
 use mathlib.Core.List.{[], _∷_}
 use Rattle.values.specs.Values.{same}
-use Rattle.values.specs.Edges.{becomes, fires}
+use Rattle.values.specs.Edges.{level, moves, fires}
 use Rattle.values.specs.Planes.{valueAt, numberOf, isUnknown}
 use Rattle.sheet.specs.Expression.{Expr, variable, constant}
 use Rattle.sheet.specs.Statement.{later, sequence, size}
@@ -27,5 +27,5 @@ left-wait = withPlace (started 2) 0 1
 
 -- Two instructions, both wires, the commit, both wires again; then it is quiet.
 pub stores-again : choicesBy two-wires (plainChoice two-wires) 20 left-wait ≡ 0 ∷ 0 ∷ 1 ∷ 2 ∷ 255 ∷ 1 ∷ 2 ∷ []
-unfolding same becomes fires valueAt numberOf isUnknown size eval reads translate threadCode withPlanes withSlots withPlaces withMarks withCounters valueOf withValue pendingOf withPending withoutPending placeOf withPlace isDue withDue variables codeOf instrAt current wireExpr wireVariable anyBelow isWait threadEnabled items enabled anyEnabled isSome anyPending quiet changed termsFire waitFires fireBelow touched markBelow react runInstr runThread runWire storeOne storePending commit dueBelow started answer spend counted refusal performed chooseIn choicesBy lowest plainChoice
+unfolding same level moves fires valueAt numberOf isUnknown size eval reads translate threadCode withPlanes withSlots withPlaces withMarks withCounters valueOf withValue pendingOf withPending withoutPending placeOf withPlace isDue withDue variables codeOf instrAt current wireExpr wireVariable anyBelow isWait threadEnabled items enabled anyEnabled isSome anyPending quiet changed termsFire waitFires fireBelow touched markBelow react runInstr runThread runWire storeOne storePending commit dueBelow started answer spend counted refusal performed chooseIn choicesBy lowest plainChoice
 stores-again = refl

@@ -1,7 +1,9 @@
 -- Laws of edges: the whole chart of each edge, when none fires, and the numbers of the edges.
 -- Assumes nothing.
-use mathlib.Core.Path.{_≡_, refl}
-use mathlib.Core.Bool.{Bool, true, false, not, and-not-self}
+use mathlib.Core.Path.{_≡_, refl, sym, _∙_}
+use mathlib.Core.Bool.{Bool, true, false, not, _&&_, _||_, or-true}
+use lib.Dec.{eqb}
+use borrow.Author.Tests.{eq-eqb, ne-eqb, eqb-true, eqb-false}
 use mathlib.Core.Logic.{_≢_}
 use mathlib.Core.List.{List, [], _∷_, map}
 use Prim.Native.Nat.{ℕ, zero, suc, _≤_}
@@ -11,16 +13,16 @@ use Rattle.values.specs.declared.Value.the-variants.{Known, Unknown}
 use Rattle.values.specs.declared.Edge.{Edge}
 use Rattle.values.specs.declared.Edge.the-variants.{Change, Posedge, Negedge}
 use Rattle.values.specs.Values.{same}
-use Rattle.values.specs.Edges.{becomes, fires, edgeOf, edgeNumber}
-use Rattle.values.proofs.Values.{same-refl, same→≡, ≡→same, ≢→same}
+use Rattle.values.specs.Edges.{level, moves, fires, edgeOf, edgeNumber}
+use Rattle.values.proofs.Values.{same-refl, same→≡, ≡→same}
 
 -- ---- fires: no edge on equal values
 
 pub fires-refl : (e : Edge) (a : Value) → fires e a a ≡ false
-unfolding fires becomes
+unfolding fires moves
 fires-refl Change a = rw (same-refl a)
-fires-refl Posedge a = and-not-self (same a (Known 1))
-fires-refl Negedge a = and-not-self (same a (Known 0))
+fires-refl Posedge a = rw (eq-eqb (level a) (level a) refl)
+fires-refl Negedge a = rw (eq-eqb (level a) (level a) refl)
 
 pub fires-same : (e : Edge) (a b : Value) → same a b ≡ true → fires e a b ≡ false
 fires-same e a b h = rw (same→≡ a b h) (fires-refl e b)
@@ -42,23 +44,23 @@ pub change-chart :
     (false ∷ true ∷ true ∷ []) ∷
     (true ∷ false ∷ true ∷ []) ∷
     (true ∷ true ∷ false ∷ []) ∷ []
-unfolding fires becomes same
+unfolding fires moves level same
 change-chart = refl
 
 pub posedge-chart :
     chart Posedge ≡
-    (false ∷ true ∷ false ∷ []) ∷
+    (false ∷ true ∷ true ∷ []) ∷
     (false ∷ false ∷ false ∷ []) ∷
     (false ∷ true ∷ false ∷ []) ∷ []
-unfolding fires becomes same
+unfolding fires moves level same
 posedge-chart = refl
 
 pub negedge-chart :
     chart Negedge ≡
     (false ∷ false ∷ false ∷ []) ∷
-    (true ∷ false ∷ false ∷ []) ∷
+    (true ∷ false ∷ true ∷ []) ∷
     (true ∷ false ∷ false ∷ []) ∷ []
-unfolding fires becomes same
+unfolding fires moves level same
 negedge-chart = refl
 
 -- ---- fires: any change
@@ -69,47 +71,62 @@ fires-change a b = refl
 
 -- ---- fires: posedge
 
-pub posedge-to-1 : (a : Value) → a ≢ Known 1 → fires Posedge a (Known 1) ≡ true
-unfolding fires becomes
-posedge-to-1 a h = rw (same-refl (Known 1), ≢→same a (Known 1) h)
-
 pub posedge-0-1 : fires Posedge (Known 0) (Known 1) ≡ true
-unfolding fires becomes same
+unfolding fires moves level same
 posedge-0-1 = refl
 
 pub posedge-x-1 : fires Posedge Unknown (Known 1) ≡ true
-unfolding fires becomes same
+unfolding fires moves level same
 posedge-x-1 = refl
 
-pub posedge-to-0 : (a : Value) → fires Posedge a (Known 0) ≡ false
-unfolding fires becomes same
-posedge-to-0 a = refl
-
-pub posedge-0-x : fires Posedge (Known 0) Unknown ≡ false
-unfolding fires becomes same
+pub posedge-0-x : fires Posedge (Known 0) Unknown ≡ true
+unfolding fires moves level
 posedge-0-x = refl
+
+-- Never to 0.
+to-0 : (t : Bool) → (not t && (t || false)) ≡ false
+to-0 true = refl
+to-0 false = refl
+
+pub posedge-to-0 : (a : Value) → fires Posedge a (Known 0) ≡ false
+unfolding fires moves level
+posedge-to-0 a = to-0 (eqb (level a) 0)
 
 -- ---- fires: negedge
 
-pub negedge-to-0 : (a : Value) → a ≢ Known 0 → fires Negedge a (Known 0) ≡ true
-unfolding fires becomes
-negedge-to-0 a h = rw (same-refl (Known 0), ≢→same a (Known 0) h)
-
 pub negedge-1-0 : fires Negedge (Known 1) (Known 0) ≡ true
-unfolding fires becomes same
+unfolding fires moves level same
 negedge-1-0 = refl
 
 pub negedge-x-0 : fires Negedge Unknown (Known 0) ≡ true
-unfolding fires becomes same
+unfolding fires moves level same
 negedge-x-0 = refl
 
-pub negedge-to-1 : (a : Value) → fires Negedge a (Known 1) ≡ false
-unfolding fires becomes same
-negedge-to-1 a = refl
+-- ---- moves: exactly where the one level is left or the other comes
 
-pub negedge-1-x : fires Negedge (Known 1) Unknown ≡ false
-unfolding fires becomes same
-negedge-1-x = refl
+module _ (from to : ℕ) (old new : Value) where
+  pub moves-from : level old ≡ from → level new ≢ from → moves from to old new ≡ true
+  unfolding moves
+  moves-from e h = rw (e, ne-eqb from (level new) (λ q. h (sym q)), eq-eqb from from refl)
+
+  pub moves-to : level new ≡ to → level old ≢ to → moves from to old new ≡ true
+  unfolding moves
+  moves-to e h = rw (e, ne-eqb (level old) to h, eq-eqb to to refl, or-true (eqb (level old) from))
+
+  pub moves-by : {P : Type 0} → (level old ≡ from → level new ≢ from → P) → (level new ≡ to → level old ≢ to → P)
+      → moves from to old new ≡ true → P
+  unfolding moves
+  moves-by {P} leaves comes h = by (eqb (level old) (level new)) refl (eqb (level old) from) refl h
+    where
+      by : (s : Bool) → eqb (level old) (level new) ≡ s → (t : Bool) → eqb (level old) from ≡ t
+          → (not s && (t || eqb (level new) to)) ≡ true → P
+      by true d t e q = let z : _≡_ {A = ℕ} 0 1 = cc q in absurd (omega arith)
+      by false d true e q =
+          let a = eqb-true (level old) from e in
+          leaves a (λ z. eqb-false (level old) (level new) d (a ∙ sym z))
+      by false d false e q =
+          let b = eqb-true (level new) to q in
+          comes b (λ z. eqb-false (level old) (level new) d (z ∙ sym b))
 
 -- ---- edgeOf, edgeNumber: each undoes the other
 

@@ -5,7 +5,7 @@ ghost use Prim.Native.Nat.{_^_, _%_};
 ghost use Rattle.values.specs.Values.{fits, holds, same};
 ghost use Rattle.values.specs.Operators.{unaryWidth, unaryKnown, unary, flag};
 ghost use Rattle.values.specs.Operators.{binaryWidth, binaryKnown, binary, choice};
-ghost use Rattle.values.specs.Edges.{becomes, fires, edgeOf, edgeNumber};
+ghost use Rattle.values.specs.Edges.{level, moves, fires, edgeOf, edgeNumber};
 ghost use Rattle.values.specs.Planes.{valueAt, numberOf, isUnknown};
 
 // A number, or x as a whole.
@@ -151,11 +151,26 @@ pub fn choice(condition: Value, a: Value, b: Value) -> Value
     }
 }
 
-// Is the value n now, and was not before?
-fn becomes(n: u32, old: Value, new: Value) -> bool
-    ensures { λ r. ⌜ r ≡ becomes n old new ⌝ }
+// A value by its lowest bit: 0, 1, or 2 for unknown.
+fn level(v: Value) -> u32
+    ensures { λ r. ⌜ r ≡ level v ⌝ }
 {
-    same(new, Value::Known(n)) && !same(old, Value::Known(n))
+    match v {
+        Value::Known(n) => n % 2,
+        Value::Unknown => 2,
+    }
+}
+
+// Does the value go from one level on, or to the other?
+fn moves(from: u32, to: u32, old: Value, new: Value) -> bool
+    ensures { λ r. ⌜ r ≡ moves from to old new ⌝ }
+{
+    let a = level(old);
+    let b = level(new);
+    if a == b {
+        return false;
+    }
+    a == from || b == to
 }
 
 // Does a variable that held `old` and now holds `new` have the edge?
@@ -164,8 +179,8 @@ pub fn fires(edge: Edge, old: Value, new: Value) -> bool
 {
     match edge {
         Edge::Change => !same(old, new),
-        Edge::Posedge => becomes(1, old, new),
-        Edge::Negedge => becomes(0, old, new),
+        Edge::Posedge => moves(0, 1, old, new),
+        Edge::Negedge => moves(1, 0, old, new),
     }
 }
 

@@ -3,7 +3,7 @@
 use mathlib.Core.Path.{_≡_, refl}
 use mathlib.Core.List.{[], _∷_}
 use Rattle.values.specs.Values.{same}
-use Rattle.values.specs.Edges.{becomes, fires}
+use Rattle.values.specs.Edges.{level, moves, fires}
 use Rattle.values.specs.Planes.{valueAt, numberOf, isUnknown}
 use Rattle.sheet.specs.Statement.{size}
 use Rattle.evaluation.specs.Evaluation.{eval, reads}
@@ -18,7 +18,7 @@ use Rattle.work.proofs.Turns.{stored, end}
 
 -- What the samples compute with.
 unfoldable computing : Unit {0}
-unfolding same becomes fires valueAt numberOf isUnknown size eval reads translate threadCode withPlanes withSlots withPlaces withMarks withCounters valueOf withValue pendingOf withPending withoutPending placeOf withPlace isDue withDue variables codeOf instrAt current wireExpr wireVariable anyBelow isWait threadEnabled items enabled anyEnabled isSome anyPending quiet changed termsFire waitFires fireBelow touched markBelow react runInstr runThread runWire storeOne storePending commit dueBelow started answer spend counted refusal performed chooseIn resting runBy choicesBy lowest plainChoice upToCommit wiresOf readersBelow readers
+unfolding same level moves fires valueAt numberOf isUnknown size eval reads translate threadCode withPlanes withSlots withPlaces withMarks withCounters valueOf withValue pendingOf withPending withoutPending placeOf withPlace isDue withDue variables codeOf instrAt current wireExpr wireVariable anyBelow isWait threadEnabled items enabled anyEnabled isSome anyPending quiet changed termsFire waitFires fireBelow touched markBelow react runInstr runThread runWire storeOne storePending commit dueBelow started answer spend counted refusal performed chooseIn resting runBy choicesBy lowest plainChoice upToCommit wiresOf readersBelow readers
 computing = tt
 
 -- Two instructions and both wires have run; the commit is next.

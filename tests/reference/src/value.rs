@@ -102,7 +102,7 @@ fn evaluate_sized(e: &Expr, scope: &impl Scope) -> (Value, u8) {
 pub fn fires(edge: Edge, before: Value, now: Value) -> bool {
     match edge {
         Edge::Any => now != before,
-        Edge::Posedge => now == Known(1) && before != Known(1),
-        Edge::Negedge => now == Known(0) && before != Known(0),
+        Edge::Posedge => now != before && (before == Known(0) || now == Known(1)),
+        Edge::Negedge => now != before && (before == Known(1) || now == Known(0)),
     }
 }

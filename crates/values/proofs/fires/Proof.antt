@@ -16,5 +16,5 @@ fires-spec =
     (λ c. search needs)
     (λ c κs. search needs)
     (λ c. rw (c .before .enum-told .given .1, c .same .ensures))
-    (λ c. rw (c .before .enum-told2 .given .1, c .becomes .ensures))
-    (λ c. rw (c .before .enum-told3 .given .1, c .becomes2 .ensures)))
+    (λ c. rw (c .before .enum-told2 .given .1, c .moves .ensures))
+    (λ c. rw (c .before .enum-told3 .given .1, c .moves2 .ensures)))

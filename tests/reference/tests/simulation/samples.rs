@@ -72,7 +72,7 @@ fn the_second_pending_value_stands() {
     assert_eq!(found, [[Some(1), Some(2), Some(1)]]);
 }
 
-/// x to 1 fires posedge; 1 to 1 and 0 to x don't; after x, 1 does again.
+/// x to 1 and 0 to x fire posedge; 1 to 1, x to 0 and 1 to x don't; after x, 1 does again.
 #[test]
 fn a_clock_that_is_unknown_for_a_while() {
     let ticks = 1;
@@ -82,7 +82,7 @@ fn a_clock_that_is_unknown_for_a_while() {
     let mut state = state(&[None, Some(0)]);
     let (x, low, high) = (Slot::X, Slot::known(0), Slot::known(1));
     let clock =
-        [(high, 1), (high, 1), (low, 1), (x, 1), (low, 1), (high, 2), (x, 2), (high, 3)];
+        [(high, 1), (high, 1), (low, 1), (x, 2), (low, 2), (high, 3), (x, 3), (high, 4)];
     for (value, expected) in clock {
         simulator.instant(&mut state, &[value]).expect("quiet");
         simulator.run_plain(&mut state, 10);

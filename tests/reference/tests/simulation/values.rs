@@ -79,13 +79,13 @@ fn conditions() {
     assert_eq!([X, Known(0), Known(1), Known(2)].map(Value::holds), [false, false, true, true]);
 }
 
-/// Document 01: x to 1 fires posedge; 1 to 1 doesn't; 0 to x doesn't. And all others.
+/// Document 01: x to 1 fires posedge; 1 to 1 doesn't. Document 02, request [2]: 0 to x does. And all others.
 #[test]
 fn edges() {
     let values = [Known(0), Known(1), X];
     let chart = |edge| values.map(|before| values.map(|now| fires(edge, before, now)));
     let (yes, no) = (true, false);
     assert_eq!(chart(Edge::Any), [[no, yes, yes], [yes, no, yes], [yes, yes, no]]);
-    assert_eq!(chart(Edge::Posedge), [[no, yes, no], [no, no, no], [no, yes, no]]);
-    assert_eq!(chart(Edge::Negedge), [[no, no, no], [yes, no, no], [yes, no, no]]);
+    assert_eq!(chart(Edge::Posedge), [[no, yes, yes], [no, no, no], [no, yes, no]]);
+    assert_eq!(chart(Edge::Negedge), [[no, no, no], [yes, no, yes], [yes, no, no]]);
 }
