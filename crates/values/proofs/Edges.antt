@@ -3,10 +3,11 @@
 use mathlib.Core.Path.{_≡_, refl, sym, _∙_}
 use mathlib.Core.Bool.{Bool, true, false, not, _&&_, _||_, or-true}
 use lib.Dec.{eqb}
+use lib.ListN.{getD}
 use borrow.Author.Tests.{eq-eqb, ne-eqb, eqb-true, eqb-false}
 use mathlib.Core.Logic.{_≢_}
 use mathlib.Core.List.{List, [], _∷_, map}
-use Prim.Native.Nat.{ℕ, zero, suc, _≤_}
+use Prim.Native.Nat.{ℕ, zero, suc, _≤_, _<_}
 use native.Mathlib.Omega.{arith}
 use Rattle.values.specs.declared.Value.{Value}
 use Rattle.values.specs.declared.Value.the-variants.{Known, Unknown}
@@ -14,6 +15,7 @@ use Rattle.values.specs.declared.Edge.{Edge}
 use Rattle.values.specs.declared.Edge.the-variants.{Change, Posedge, Negedge}
 use Rattle.values.specs.Values.{same}
 use Rattle.values.specs.Edges.{level, moves, fires, edgeOf, edgeNumber}
+use Rattle.values.specs.Charts.{posedges, negedges, Charts}
 use Rattle.values.proofs.Values.{same-refl, same→≡, ≡→same}
 
 -- ---- fires: no edge on equal values
@@ -127,6 +129,28 @@ module _ (from to : ℕ) (old new : Value) where
       by false d false e q =
           let b = eqb-true (level new) to q in
           comes b (λ z. eqb-false (level old) (level new) d (z ∙ sym b))
+
+-- ---- each chart is the rule at all nine pairs
+
+three : (P : ℕ → Type 0) → P 0 → P 1 → P 2 → (a : ℕ) → a < 3 → P a
+three P x y z zero h = x
+three P x y z (suc zero) h = y
+three P x y z (suc (suc zero)) h = z
+three P x y z (suc (suc (suc n))) h = absurd (omega arith)
+
+pub posedges-chart : Charts posedges 0 1
+posedges-chart a b h k =
+    three (λ a. getD (getD posedges a []) b false ≡ (not (eqb a b) && (eqb a 0 || eqb b 1)))
+    (three (λ b. getD (getD posedges 0 []) b false ≡ (not (eqb 0 b) && (eqb 0 0 || eqb b 1))) refl refl refl b k)
+    (three (λ b. getD (getD posedges 1 []) b false ≡ (not (eqb 1 b) && (eqb 1 0 || eqb b 1))) refl refl refl b k)
+    (three (λ b. getD (getD posedges 2 []) b false ≡ (not (eqb 2 b) && (eqb 2 0 || eqb b 1))) refl refl refl b k) a h
+
+pub negedges-chart : Charts negedges 1 0
+negedges-chart a b h k =
+    three (λ a. getD (getD negedges a []) b false ≡ (not (eqb a b) && (eqb a 1 || eqb b 0)))
+    (three (λ b. getD (getD negedges 0 []) b false ≡ (not (eqb 0 b) && (eqb 0 1 || eqb b 0))) refl refl refl b k)
+    (three (λ b. getD (getD negedges 1 []) b false ≡ (not (eqb 1 b) && (eqb 1 1 || eqb b 0))) refl refl refl b k)
+    (three (λ b. getD (getD negedges 2 []) b false ≡ (not (eqb 2 b) && (eqb 2 1 || eqb b 0))) refl refl refl b k) a h
 
 -- ---- edgeOf, edgeNumber: each undoes the other
 

@@ -1,11 +1,11 @@
 // Values, operators, conditions and edges (document 01, "Values and pseudo-code", "The simulation
 // cycle"). Each function equals its definition in specs/, for every argument.
 ghost use mathlib.Core.Path.{_≡_};
-ghost use Prim.Native.Nat.{_^_, _%_};
+ghost use Prim.Native.Nat.{_^_, _%_, _<_};
 ghost use Rattle.values.specs.Values.{fits, holds, same};
 ghost use Rattle.values.specs.Operators.{unaryWidth, unaryKnown, unary, flag};
 ghost use Rattle.values.specs.Operators.{binaryWidth, binaryKnown, binary, choice};
-ghost use Rattle.values.specs.Edges.{level, moves, fires, edgeOf, edgeNumber};
+ghost use Rattle.values.specs.Edges.{level, fires, edgeOf, edgeNumber};
 ghost use Rattle.values.specs.Planes.{valueAt, numberOf, isUnknown};
 
 // A number, or x as a whole.
@@ -14,7 +14,7 @@ pub enum Value {
     Unknown,
 }
 
-// What a wait waits for in a variable: any change, a rise to 1 or a fall to 0.
+// What a wait waits for in a variable: any change, a posedge or a negedge.
 pub enum Edge {
     Change,
     Posedge,
@@ -151,26 +151,28 @@ pub fn choice(condition: Value, a: Value, b: Value) -> Value
     }
 }
 
-// A value by its lowest bit: 0, 1, or 2 for unknown.
-fn level(v: Value) -> u32
+// The edge rule as a chart: a row for the old value, 0, 1 and unknown; in it a column for each new one.
+const POSEDGE: [[bool; 3]; 3] = [
+    [false, true, true],
+    [false, false, false],
+    [false, true, false],
+];
+
+const NEGEDGE: [[bool; 3]; 3] = [
+    [false, false, false],
+    [true, false, true],
+    [true, false, false],
+];
+
+// The row or column of a value in a chart, by its lowest bit: 0, 1, or 2 for unknown.
+fn level(v: Value) -> usize
     ensures { λ r. ⌜ r ≡ level v ⌝ }
+    ensures { λ r. ⌜ r < 3 ⌝ }
 {
     match v {
-        Value::Known(n) => n % 2,
+        Value::Known(n) => (n % 2) as usize,
         Value::Unknown => 2,
     }
-}
-
-// Does the value go from one level on, or to the other?
-fn moves(from: u32, to: u32, old: Value, new: Value) -> bool
-    ensures { λ r. ⌜ r ≡ moves from to old new ⌝ }
-{
-    let a = level(old);
-    let b = level(new);
-    if a == b {
-        return false;
-    }
-    a == from || b == to
 }
 
 // Does a variable that held `old` and now holds `new` have the edge?
@@ -179,8 +181,8 @@ pub fn fires(edge: Edge, old: Value, new: Value) -> bool
 {
     match edge {
         Edge::Change => !same(old, new),
-        Edge::Posedge => moves(0, 1, old, new),
-        Edge::Negedge => moves(1, 0, old, new),
+        Edge::Posedge => POSEDGE[level(old)][level(new)],
+        Edge::Negedge => NEGEDGE[level(old)][level(new)],
     }
 }
 
