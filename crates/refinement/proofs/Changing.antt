@@ -4,7 +4,7 @@ use mathlib.Core.Path.{_≡_, refl, sym, ap, _∙_}
 use mathlib.Core.Logic.{_≢_}
 use mathlib.Core.Bool.{Bool, true, false, not, _&&_, _||_, and-true, and-false, or-true, or-false, or-assoc}
 use mathlib.Core.List.{List}
-use Prim.Native.Nat.{ℕ, zero, suc, _<_}
+use Prim.Native.Nat.{ℕ, zero, suc, _+_, _<_}
 use native.Mathlib.Omega.{arith}
 use lib.ListN.{length, getD}
 use lib.Dec.{ltb, eqb}
@@ -20,7 +20,7 @@ use Rattle.pseudocode.specs.Instruction.{noTerm}
 use Rattle.masks.specs.Masks.{bits, either}
 use Rattle.masks.proofs.Masks.{length-bits, length-either, getD-either, flags-same}
 use Rattle.state.specs.declared.State.{State}
-use Rattle.state.specs.State.{Shaped, valueOf, withValue, withPlanes, placeOf, isDue, withDue, withMarks}
+use Rattle.state.specs.State.{Shaped, valueOf, withValue, withPlanes, withPlace, placeOf, isDue, withDue, withMarks}
 use Rattle.state.proofs.Accessors.{value-withValue-same, value-withValue-other, due-withValue}
 use Rattle.events.specs.Cycle.{variables, codeOf, instrAt, current, wireExpr, anyBelow, changed, waitFires}
 use Rattle.events.specs.Cycle.{fireBelow, touched, react}
@@ -97,13 +97,18 @@ module _ {s : List ℕ} {m : Module Expr} {q : Plan} (w : PlanOf s m q) where
       by (go n) e = refl
       by (ifnot x n) e = refl
 
+-- A thread that stays, on a state that is written another way.
+stays : (fires : State → Bool) (moved : State → State) (t u : State) → t ≡ u → fires u ≡ false → pick (fires t) (moved t) t ≡ u
+stays fires moved t u e h = rw (e, h)
+
 fireBelow-quiet :
     (m : Module Expr) (f g : ℕ → Value) (u : State) (n : ℕ) →
     ((i : ℕ) → i < n → waitFires (current m u i) f g ≡ false) → fireBelow m f g n u ≡ u
 unfolding fireBelow
 fireBelow-quiet m f g u zero h = refl
 fireBelow-quiet m f g u (suc n) h =
-    rw (fireBelow-quiet m f g u n (λ i l. h i (omega arith)), h n (omega arith))
+    stays (λ t. waitFires (current m t n) f g) (λ t. withPlace t n (placeOf t n + 1)) (fireBelow m f g n u) u
+    (fireBelow-quiet m f g u n (λ i l. h i (omega arith))) (h n (omega arith))
 
 -- ---- Midway: in the midst of a change
 

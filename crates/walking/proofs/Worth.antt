@@ -10,6 +10,7 @@ use lib.Seq.{getD-at}
 use Rattle.values.specs.declared.Value.{Value}
 use Rattle.values.specs.declared.Value.the-variants.{Known, Unknown}
 use Rattle.values.specs.Values.{pick, holds}
+use Rattle.values.specs.Operators.{choice}
 use Rattle.sheet.specs.Reading.{ok}
 use Rattle.sheet.specs.Expression.{Expr, variable, constant, unknown, unary, binary, conditional}
 use Rattle.sheet.proofs.Reading.{ok-injective, bind-ok}
@@ -151,6 +152,11 @@ module _ (ws : List ℕ) (f : ℕ → Value) where
       Is (y .nodes) (y .node) w a
   emit-is t n h d e = let s = emit-ok t n h in rw (s .nodes, s .node) (new-is t n d e)
 
+  conditional-is : (t : List Node) (i j k : ℕ) {y : Emitted} {u w : ℕ} {a b c : Value} →
+      Is t i u c → Is t j w a → Is t k w b → emit t (aConditional i j k) ≡ ok y → Is (y .nodes) (y .node) w (choice c a b)
+  unfolding nodeWidth nodeValue
+  conditional-is t i j k p q r h = emit-is t (aConditional i j k) h (q .width) (rw (p .value, q .value, r .value))
+
   -- ---- expressions
 
   -- The held nodes stand for the values g of the variables.
@@ -193,5 +199,4 @@ module _ (ws : List ℕ) (f : ℕ → Value) where
         let p = is-grows (grows-trans gy gz) (express-is d c t (ty .0 .0) (ty .0 .1) s (x .1)) in
         let q = is-grows {n = y .0 .node} gz (express-is d a (x .0 .nodes) w (ty .1) (stand-grows held g gx s) (y .1)) in
         let r = express-is d b (y .0 .nodes) w (ty .2) (stand-grows held g (grows-trans gx gy) s) (z .1) in
-        emit-is (z .0 .nodes) (aConditional (x .0 .node) (y .0 .node) (z .0 .node)) (z .2) (q .width)
-        (rw (p .value, q .value, r .value) refl)
+        conditional-is (z .0 .nodes) (x .0 .node) (y .0 .node) (z .0 .node) p q r (z .2)
