@@ -1,0 +1,4 @@
+pub mod Items
+pub mod Going
+pub mod Courses
+pub mod Claims
