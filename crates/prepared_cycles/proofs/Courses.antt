@@ -104,7 +104,7 @@ module _ (s : List ℕ) {m : Module Expr} {q : Plan} (w : PlanOf m q) (inputs-fi
         fed-shaped : Shaped (fed st a)
         fed-shaped = shaped-feed m (inputOf a) (timed st) (shaped-timed st (z .shaped))
 
-        fed-fits : Fits m (fed st a)
+        pub fed-fits : Fits m (fed st a)
         fed-fits =
             let h = accepted-instant m st a x in
             fits-feed m (w .sound) st (z .shaped) (z .fit) a (h .0) (h .1)

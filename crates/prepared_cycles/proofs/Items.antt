@@ -1,15 +1,16 @@
 -- Laws of rows: a row as a loop fills it, and the place of an instant's row among those that are lent. Assumes nothing.
-use mathlib.Core.Path.{_≡_, refl, ap, _∙_}
+use mathlib.Core.Path.{_≡_, refl, sym, ap, _∙_}
 use mathlib.Core.Bool.{Bool, true, false}
-use mathlib.Core.List.{List, _∷_}
+use mathlib.Core.List.{List, [], _∷_}
 use Prim.Native.Nat.{ℕ, _+_, _*_, _/_, _%_, _≤_, _<_}
+use native.Mathlib.Numerals.{add-one}
 use native.Mathlib.Omega.{arith}
 use lib.Dec.{eqb}
 use lib.ListN.{length, getD, set}
 use lib.Seq.{sets}
 use borrow.Author.Tests.{eqb-true}
 use Rattle.state.specs.Saved.{listOf}
-use Rattle.state.proofs.Rows.{and-both, listOf-whole}
+use Rattle.state.proofs.Rows.{and-both, sets-append, length-listOf, listOf-whole}
 use Rattle.events.specs.Rows.{wholeRows}
 use Rattle.prepared_cycles.specs.Cycles.{rowFrom}
 
@@ -31,3 +32,11 @@ pub row-filled : {A : Type 0} (xs : List A) (other first : A) (r : ℕ) (ys zs :
     → ys ≡ sets zs 0 (listOf 16 (λ v. getD xs (16 * r + v) other)) → set ys 0 first ≡ first ∷ rowFrom xs other r 1 15
 row-filled xs other first r ys zs l e =
     ap (λ us. set us 0 first) (e ∙ listOf-whole (λ v. getD xs (16 * r + v) other) zs 16 l) ∙ row-list xs other first r
+
+-- ---- a row of a trace
+
+-- A turn of the loop that writes a list from a place on.
+pub listOf-on : {A : Type 0} (f : ℕ → A) (l : List A) (at k : ℕ)
+    → set (sets l at (listOf k f)) (at + k) (f k) ≡ sets l at (listOf (k + 1) f)
+unfolding listOf
+listOf-on f l at k = sym (rw add-one (sets-append l at (listOf k f) (f k ∷ []) ∙ rw (length-listOf f k) refl))
