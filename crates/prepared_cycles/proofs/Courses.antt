@@ -22,7 +22,8 @@ use Rattle.events.specs.Cycle.{quiet}
 use Rattle.events.specs.Cycle as cycle
 use Rattle.events.specs.Calls.{judged, spend, timed, widthOf, inputOf, inputsFit, instantRefusal, instantIn, instant, plainChoice, runBy}
 use Rattle.events.specs.Calls as calls
-use Rattle.events.proofs.Choices.{accepted-instant, instantIn-accepted, instantIn-refused, time-feed, count-feed, shaped-timed, shaped-feed}
+use Rattle.events.proofs.Choices.{accepted-instant, instantIn-accepted, instantIn-refused, time-feed, count-feed}
+use Rattle.events.proofs.Choices.{shaped-timed, shaped-feed}
 use Rattle.events.proofs.Fits.{Fits, state-fits, fits-feed, fits-inputs}
 use Rattle.events.proofs.Runs.{shaped-runBy, fits-runBy, count-runBy, time-runBy}
 use Rattle.refinement.proofs.Kept.{Kept, fits-kept}

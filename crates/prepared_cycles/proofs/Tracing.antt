@@ -55,7 +55,8 @@ module _ (n a b c : ℕ) where
 -- ---- a row
 
 pub row-written : (p : ℕ) (cs ps : List ℕ) (w : Lent) (ns : List ℕ) (xs : List Bool) (qs : List ℕ)
-    → ns ≡ sets (w .numbers) (80 * p) (numbersIn cs 80) → xs ≡ sets (w .flags) (80 * p) (flagsIn cs 80) → qs ≡ sets (w .places) (8 * p) (placesIn ps)
+    → ns ≡ sets (w .numbers) (80 * p) (numbersIn cs 80) → xs ≡ sets (w .flags) (80 * p) (flagsIn cs 80)
+    → qs ≡ sets (w .places) (8 * p) (placesIn ps)
     → lent ns xs qs ≡ writtenAt p cs ps w
 unfolding writtenAt
 row-written p cs ps w ns xs qs e f g = λ i. lent (e i) (f i) (g i)

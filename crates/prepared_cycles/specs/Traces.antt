@@ -1,6 +1,7 @@
--- Traces: many clock cycles in one call, as in specs/Cycles, with what each instant and the run after it leave written into lent arrays: the
--- numbers and the unknown flags of the variables (inputs, registers and wires, 80 slots) and the places of the threads (8). Row p is
--- instant number p's; only the rows of instants that were accepted and run are written. Defined by the single calls, and on a plan.
+-- Traces: many clock cycles in one call, as in specs/Cycles, with what each instant and the run after it leave written into lent
+-- arrays: the numbers and the unknown flags of the variables (inputs, registers and wires, 80 slots) and the places of the threads (8).
+-- Row p is instant number p's; only the rows of instants that were accepted and run are written. Defined by the single calls, and on a
+-- plan.
 use Prim.Native.Nat.{ℕ, zero, suc, _+_, _*_, _/_}
 use mathlib.Core.Bool.{Bool, false, _&&_}
 use mathlib.Core.List.{List}

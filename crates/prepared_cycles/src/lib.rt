@@ -1,5 +1,6 @@
 // Many clock cycles in one call on a prepared plan. The state is laid out once, each instant and the plain run after it go on in the same
-// cells, and it is packed at the end. A trace writes what each of them leaves into lent arrays. Each function equals its definition in specs/, for plans, states and rows of any contents.
+// cells, and it is packed at the end; a trace writes what each of them leaves into lent arrays. Each function equals its definition in
+// specs/, for plans, states and rows of any contents.
 mod phases;
 mod rows;
 mod traces;

@@ -18,7 +18,8 @@ use Rattle.prepared_cycles.proofs.trace_phases.Statement.{statement}
 use Rattle.prepared_cycles.proofs.trace_phases.Tie as tie
 
 abbrev Inv-loop : tie.InvT-loop
-Inv-loop plan value unknown numbers₀ flags₀ places₀ cells₀ pending₀ stood₀ standing₀ n p₀ numbers flags places cells pending stood standing p =
+Inv-loop plan value unknown numbers₀ flags₀ places₀ cells₀ pending₀ stood₀ standing₀ n p₀
+    numbers flags places cells pending stood standing p =
     (p ≤ n)
     × Kept n value unknown (lent numbers₀ flags₀ places₀) (lent numbers flags places)
     × (phasesAt (planOf plan) (rowInputs (planOf plan .inputs) value unknown) (n - p) p (momentOf cells pending stood standing)
@@ -29,7 +30,8 @@ Inv-loop plan value unknown numbers₀ flags₀ places₀ cells₀ pending₀ st
     (lent numbers₀ flags₀ places₀))
 
 abbrev μ-loop : tie.MeasureT-loop
-μ-loop plan value unknown numbers₀ flags₀ places₀ cells₀ pending₀ stood₀ standing₀ n p₀ numbers flags places cells pending stood standing p =
+μ-loop plan value unknown numbers₀ flags₀ places₀ cells₀ pending₀ stood₀ standing₀ n p₀
+    numbers flags places cells pending stood standing p =
     n - p
 
 loop-holds : tie.Need-loop-holds Inv-loop μ-loop

@@ -36,8 +36,8 @@ returns-2 c =
     let at-if = at-feed .before .before .before .before .before .before .before in
     let p = at-if .before .before .before .args in
     let e = at-if .before .refusal .ensures (p .cells .now) (p .pending .now) (p .places .now) (p .standing .count) in
-    phase-on (planOf (p .plan .now)) (p .t6) (momentOf (p .cells .now) (p .pending .now) (p .places .now) (p .standing)) _ e (at-if .if1 .left)
-    _ (at-feed .feed .ensures) _ refl _ (at-run .run-plain .ensures)
+    phase-on (planOf (p .plan .now)) (p .t6) (momentOf (p .cells .now) (p .pending .now) (p .places .now) (p .standing)) _ e
+    (at-if .if1 .left) _ (at-feed .feed .ensures) _ refl _ (at-run .run-plain .ensures)
 
 pub phase-spec : {M : Type 1} → statement M
 phase-spec =

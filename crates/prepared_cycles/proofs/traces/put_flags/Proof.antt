@@ -28,7 +28,8 @@ loop-again c =
     let p = l .before .before .args in (
       omega arith,
       simp length-set (l .loop .inv .1),
-      rw (c .unknown-in .ensures, l .loop .inv .2) (listOf-on (λ j. unknownIn (getD (p .cells .now) j 0)) (p .flags .now) (p .at) (l .loop .v)),
+      rw (c .unknown-in .ensures, l .loop .inv .2)
+          (listOf-on (λ j. unknownIn (getD (p .cells .now) j 0)) (p .flags .now) (p .at) (l .loop .v)),
     )
 
 returns : tie.Need-returns Inv-loop μ-loop

@@ -28,7 +28,8 @@ loop-again c =
     let p = l .before .before .args in (
       omega arith,
       simp length-set (l .loop .inv .1),
-      rw (c .number-in .ensures, l .loop .inv .2) (listOf-on (λ j. numberIn (getD (p .cells .now) j 0)) (p .numbers .now) (p .at) (l .loop .v)),
+      rw (c .number-in .ensures, l .loop .inv .2)
+          (listOf-on (λ j. numberIn (getD (p .cells .now) j 0)) (p .numbers .now) (p .at) (l .loop .v)),
     )
 
 returns : tie.Need-returns Inv-loop μ-loop
