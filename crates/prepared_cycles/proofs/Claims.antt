@@ -2,7 +2,7 @@
 use mathlib.Core.Path.{_≡_, refl, ap, _∙_}
 use mathlib.Core.Bool.{Bool, true, false}
 use mathlib.Core.List.{List}
-use Prim.Native.Nat.{ℕ, _*_, _/_, _^_}
+use Prim.Native.Nat.{ℕ, _*_, _/_}
 use native.Mathlib.Omega.{arith}
 use lib.ListN.{length}
 use Rattle.values.specs.Values.{pick}
@@ -17,7 +17,7 @@ use Rattle.events.specs.Calls.{judged, stateFits, inputsFit}
 use Rattle.events.specs.Rows.{wholeRows}
 use Rattle.events.proofs.Fits.{fits-state}
 use Rattle.refinement.proofs.Kept.{fits-kept}
-use Rattle.plan.specs.Plan.{Plan, planOf}
+use Rattle.plan.specs.Plan.{Plan}
 use Rattle.plan_fitting.specs.Fitting.{planFits, planInputsFit}
 use Rattle.plan_fitting.proofs.Fitting.{plan-fits, plan-inputs-fit}
 use Rattle.plan_refinement.specs.Refinement.{PlanOf}

@@ -28,9 +28,8 @@ use Rattle.events.proofs.Fits.{Fits, state-fits, fits-feed, fits-inputs}
 use Rattle.events.proofs.Runs.{shaped-runBy, fits-runBy, count-runBy, time-runBy}
 use Rattle.refinement.proofs.Kept.{Kept, fits-kept}
 use Rattle.plan.specs.Plan.{Plan}
-use Rattle.plan_engine.specs.Live.{Live}
 use Rattle.plan_engine.specs.Acting.{feed}
-use Rattle.plan_engine.specs.Running.{runPlain, busy}
+use Rattle.plan_engine.specs.Running.{runPlain}
 use Rattle.plan_engine.proofs.Running.{plain-room}
 use Rattle.plan_state.specs.Packing.{packed}
 use Rattle.plan_fitting.specs.Fitting.{planInputsFit}
@@ -39,7 +38,7 @@ use Rattle.plan_refinement.proofs.Choices.{busy-shows, feed-timed-shows}
 use Rattle.plan_refinement.proofs.Runs.{runPlain-shows}
 use Rattle.prepared.proofs.Unpacked.{packed-shows}
 use Rattle.prepared_cycles.specs.Cycles.{cycled, phases}
-use Rattle.prepared_cycles.specs.Phases.{Moment, moment, phase, refusalAt, runAfter, phaseAt, course, phasesAt, ended}
+use Rattle.prepared_cycles.specs.Phases.{Moment, moment, phase, refusalAt, runAfter, phaseAt, phasesAt, ended}
 
 -- A state that fits, and how it lies.
 pub record Stood (m : Module Expr) (st : State) (o : Moment) : Type 0 where

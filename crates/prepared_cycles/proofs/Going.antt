@@ -23,7 +23,7 @@ use Rattle.plan_state.specs.Packing.{slotsOf, unpacked, packed}
 use Rattle.plan_fitting.specs.Fitting.{planFits, planInputsFit}
 use Rattle.prepared_cycles.specs.declared.Cycled.{Cycled}
 use Rattle.prepared_cycles.specs.Cycles.{cycled, rowInputs}
-use Rattle.prepared_cycles.specs.Phases.{Moment, moment, Phase, phase, refusalAt, runAfter, phaseAt}
+use Rattle.prepared_cycles.specs.Phases.{Moment, moment, Phase, phase, refusalAt, phaseAt}
 use Rattle.prepared_cycles.specs.Phases.{Course, course, phasesAt, ended, laidOut, cyclesAt}
 
 -- ---- the number of an instant

@@ -3,21 +3,19 @@ use mathlib.Core.Path.{_≡_, refl, ap, _∙_}
 use mathlib.Core.List.{List}
 use Prim.Native.Nat.{ℕ, zero, suc, _+_, _*_}
 use native.Mathlib.Decide.{ℕ-discrete}
-use lib.ListN.{length, getD}
+use lib.ListN.{getD}
 use lib.Seq.{sets}
 use borrow.Author.Tests.{ne-eqb}
 use Rattle.sheet.specs.Reading.{ok}
 use Rattle.sheet.specs.Expression.{Expr}
 use Rattle.sheet.specs.Module.{Module, read}
 use Rattle.state.specs.declared.State.{State}
-use Rattle.state.specs.State.{Shaped}
 use Rattle.state.proofs.Rows.{listOf-is}
 use Rattle.events.specs.declared.Inputs.{Inputs}
 use Rattle.events.specs.Verdict.{numberOfVerdict}
 use Rattle.events.specs.Calls.{inputsFit, instantRefusal}
 use Rattle.events.proofs.Choices.{instantIn-accepted, instantIn-refused}
 use Rattle.plan.specs.Plan.{Plan}
-use Rattle.plan_state.specs.Packing.{numbersIn, flagsIn}
 use Rattle.plan_state.proofs.Planes.{planes-numbers, planes-flags}
 use Rattle.plan_fitting.specs.Fitting.{planInputsFit}
 use Rattle.plan_refinement.specs.Refinement.{PlanOf}

@@ -176,7 +176,8 @@ fn trace_phases(
 }
 
 // The cycles of `run_cycles`, and for each instant that is accepted and run a row of 80 numbers, 80 unknown flags and 8 places in the
-// arrays that are lent; where these are too short for all instants nothing is run.
+// arrays that are lent, two rows to a cycle; where the arrays are too short for all instants nothing is run. An instant whose run was
+// spent has its row too; the next one is refused with 32.
 pub fn trace(
     plan: &PlanTable,
     st: State,

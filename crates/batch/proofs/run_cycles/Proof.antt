@@ -1,6 +1,6 @@
 -- `batch::run_cycles` meets its contract: a sheet that is refused, or the cycles on its plan. Assumes nothing.
 use borrow.Author.Needs.{needs}
-use mathlib.Core.Path.{_≡_, refl, sym, ap, _∙_}
+use mathlib.Core.Path.{sym, ap, _∙_}
 use mathlib.Core.Bool.{false}
 use Prim.Native.Nat.{ℕ}
 use lib.ListN.{length-replicate}

@@ -3,8 +3,7 @@
 use borrow.Author.Needs.{needs}
 use native.Mathlib.Omega.{arith}
 use mathlib.Core.Path.{_≡_, refl, sym, ap, _∙_}
-use Prim.Native.Nat.{ℕ, _-_, _≤_, _<_}
-use lib.ListN.{length}
+use Prim.Native.Nat.{_-_, _≤_}
 use Rattle.events.specs.declared.Inputs.{Inputs}
 use Rattle.plan.specs.Plan.{planOf}
 use Rattle.prepared_cycles.specs.Cycles.{rowInputs}

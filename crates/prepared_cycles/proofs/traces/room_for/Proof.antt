@@ -1,5 +1,4 @@
 -- `prepared_cycles::traces::room_for` meets its contract. Assumes nothing.
-use native.Mathlib.Omega.{arith}
 use Rattle.prepared_cycles.proofs.Tracing.{no-numbers, no-flags, room-places}
 use Rattle.prepared_cycles.proofs.traces.room_for.Statement.{statement}
 use Rattle.prepared_cycles.proofs.traces.room_for.Tie as tie
