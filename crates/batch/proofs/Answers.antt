@@ -1,136 +1,102 @@
--- What `run_cycles` answers on a sheet that is refused, on a state that doesn't fit, on rows that aren't whole, and else.
--- Assumes nothing.
-use mathlib.Core.Path.{_≡_, sym, ap, _∙_}
+-- What `run_cycles` answers on a sheet that is refused, and on one that is accepted. Assumes nothing.
+use mathlib.Core.Path.{_≡_, refl, sym, ap, _∙_}
 use mathlib.Core.Bool.{Bool, true, false}
 use mathlib.Core.List.{List}
-use Prim.Native.Nat.{ℕ, _*_, _/_, _-_, _≤_}
-use native.Mathlib.Omega.{arith}
-use lib.ListN.{length, take, drop, replicate}
-use Rattle.sheet.specs.Reading.{ok, no}
-use Rattle.sheet.specs.Expression.{Expr, located}
-use Rattle.sheet.specs.Module.{Module, readSheet, read}
-use Rattle.sheet.specs.Answers.{sheetAnswer}
-use Rattle.sheet.specs.declared.SheetRead.{SheetRead}
-use Rattle.sheet.specs.declared.Layout.{Layout}
-use Rattle.sheet.proofs.Trees.{trees}
+use Prim.Native.Nat.{ℕ, zero, suc, _+_, _*_, _/_}
+use lib.Dec.{eqb}
+use lib.ListN.{length}
+use Rattle.values.specs.Values.{pick}
+use Rattle.sheet.specs.Reading.{Res, ok, no}
+use Rattle.sheet.specs.Expression.{Expr}
+use Rattle.sheet.specs.Module.{Module, read}
 use Rattle.state.specs.declared.State.{State}
-use Rattle.state.specs.State.{Shaped}
-use Rattle.events.specs.Calls.{judged, stateFits}
+use Rattle.state.specs.State.{Shaped, Bounded}
+use Rattle.events.specs.declared.Inputs.{Inputs}
+use Rattle.events.specs.declared.Chosen.{Chosen}
+use Rattle.events.specs.declared.Rested.{Rested}
+use Rattle.events.specs.Verdict.{numberOfVerdict}
+use Rattle.events.specs.Calls.{judged, stateFits, instant, runPlain}
 use Rattle.events.specs.Rows.{wholeRows}
-use Rattle.events.proofs.Fits.{fits-state}
-use Rattle.fitting.specs.Fitting.{stateFitsAt}
-use Rattle.fitting.proofs.Fitting.{Sizes}
-use Rattle.fitting.proofs.Fitting as fitting
-use Rattle.tables.specs.Readers.{atMost, watchedBelow}
-use Rattle.engine.specs.declared.Shape.{Shape}
-use Rattle.engine.specs.Live.{Plan, Live, planOf}
-use Rattle.refinement.specs.Refinement.{PlanOf}
-use Rattle.refinement.proofs.Kept.{fits-kept}
-use Rattle.simulator.specs.Filled.{shapeOf, widthsEnd, compiled, readersOf, filled, unpacked}
-use Rattle.simulator.proofs.Reading.{ReadAs, accepted, refused, read-as}
-use Rattle.simulator.proofs.Plan.{widths-inside, plan-of, sizes-of}
-use Rattle.simulator.proofs.Unpacked.{unpacked-live}
-use Rattle.batch.specs.Cycles.{cycled, rowInputs, runCycles, phases}
-use Rattle.batch.specs.Phases.{phasesAt, ended}
-use Rattle.batch.proofs.Course.{phases-live}
+use Rattle.plan.specs.Plan.{planOf}
+use Rattle.prepared.specs.Prepared.{readOf, preparedPlan}
+use Rattle.prepared.proofs.Answered.{Answered, accepted, refused, answered}
+use Rattle.prepared_cycles.specs.declared.Cycled as prepared_cycles
+use Rattle.prepared_cycles.specs.Cycles as prepared
+use Rattle.prepared_cycles.specs.Phases.{cyclesAt}
+use Rattle.prepared_cycles.specs.Claims.{OnTheSheet}
+use Rattle.prepared_cycles.proofs.Claims.{on-the-sheet}
+use Rattle.batch.specs.declared.Cycled.{Cycled}
+use Rattle.batch.specs.Cycles.{rowInputs, cycled, phases, runCycles, told}
+
+-- ---- the definition of the call on a plan is this one
+
+module _ (s : List ℕ) (inputs : ℕ → Inputs) where
+  same-phases : (n p : ℕ) (st : State) → told (prepared.phases s inputs n p st) ≡ phases s inputs n p st
+  unfolding prepared.phases phases
+  same-phases zero p st = refl
+  same-phases (suc n) p st = by (eqb (i .number) 0) (eqb k 0) (same-phases n (p + 1) (r .state))
+    where
+      i : Chosen
+      i = instant s st (inputs p)
+
+      r : Rested
+      r = runPlain s (i .state) 65535
+
+      k : ℕ
+      k = numberOfVerdict (r .verdict)
+
+      by : (a b : Bool) → told (prepared.phases s inputs n (p + 1) (r .state)) ≡ phases s inputs n (p + 1) (r .state)
+          → told
+          (pick a (pick b (prepared.phases s inputs n (p + 1) (r .state)) (prepared.cycled p k true (r .state)))
+          (prepared.cycled p (i .number) false st))
+          ≡ pick a (pick b (phases s inputs n (p + 1) (r .state)) (cycled p k true (r .state))) (cycled p (i .number) false st)
+      by true true h = h
+      by true false h = refl
+      by false b h = refl
 
 module _ (s : List ℕ) (st : State) (ns : List ℕ) (xs : List Bool) where
-  pub cycles-refused : (n p : ℕ) → read s ≡ no n p → cycled 0 n false st ≡ runCycles s st ns xs
+  same-cycles : told (prepared.runCycles s st ns xs) ≡ runCycles s st ns xs
+  unfolding prepared.runCycles runCycles judged
+  same-cycles = by (read s)
+    where
+      rounds : ℕ
+      rounds = 2 * (length ns / 16)
+
+      whole : (m : Module Expr) (t u : Bool)
+          → told
+          (pick t (pick u (prepared.phases s (rowInputs (m .scope .inputs) ns xs) rounds 0 st) (prepared.cycled 0 25 false st))
+          (prepared.cycled 0 31 false st))
+          ≡ pick t (pick u (phases s (rowInputs (m .scope .inputs) ns xs) rounds 0 st) (cycled 0 25 false st)) (cycled 0 31 false st)
+      whole m false u = refl
+      whole m true false = refl
+      whole m true true = same-phases s (rowInputs (m .scope .inputs) ns xs) rounds 0 st
+
+      by : (x : Res (Module Expr))
+          → told
+          (judged x st (λ n. prepared.cycled 0 n false st)
+          (λ m.
+          pick (wholeRows ns xs) (prepared.phases s (rowInputs (m .scope .inputs) ns xs) rounds 0 st) (prepared.cycled 0 25 false st)))
+          ≡ judged x st (λ n. cycled 0 n false st)
+          (λ m. pick (wholeRows ns xs) (phases s (rowInputs (m .scope .inputs) ns xs) rounds 0 st) (cycled 0 25 false st))
+      by (ok m) = whole m (stateFits m st) (wholeRows ns xs)
+      by (no n p) = refl
+
+  -- ---- a sheet that is refused, and one that is accepted
+
+  pub read-refused : (readOf s .number ≡ 0 → ⊥) → cycled 0 (readOf s .number) false st ≡ runCycles s st ns xs
   unfolding runCycles judged
-  cycles-refused n p e = rw e
-
-  module _ (m : Module Expr) (e : read s ≡ ok m) where
-    pub cycles-misfit : stateFits m st ≡ false → cycled 0 31 false st ≡ runCycles s st ns xs
-    unfolding runCycles judged
-    cycles-misfit f = rw (e, f)
-
-    pub cycles-ragged : stateFits m st ≡ true → wholeRows ns xs ≡ false → cycled 0 25 false st ≡ runCycles s st ns xs
-    unfolding runCycles judged
-    cycles-ragged f h = rw (e, f, h)
-
-    abbrev rounds : ℕ
-    rounds = 2 * (length ns / 16)
-
-    runs :
-        stateFits m st ≡ true → wholeRows ns xs ≡ true →
-        runCycles s st ns xs ≡ phases s (rowInputs (m .scope .inputs) ns xs) rounds 0 st
-    unfolding runCycles judged
-    runs f h = rw (e, f, h)
-
-    pub cycles-fit :
-        {q : Plan} → PlanOf s m q → Shaped st → stateFits m st ≡ true → wholeRows ns xs ≡ true →
-        ended (phasesAt q (rowInputs (q .shape .inputs) ns xs) rounds 0 (st .time) (st .count) (unpacked q st))
-        ≡ runCycles s st ns xs
-    cycles-fit {q = q} w g f h =
-        let k = fits-state m st g f in
-        ap (λ (n : ℕ). ended (phasesAt q (rowInputs n ns xs) rounds 0 (st .time) (st .count) (unpacked q st))) (w .inputs)
-        ∙ ap (λ (l : Live). ended (phasesAt q (rowInputs (m .scope .inputs) ns xs) rounds 0 (st .time) (st .count) l))
-        (unpacked-live w (fits-kept g k))
-        ∙ phases-live w e (rowInputs (m .scope .inputs) ns xs) rounds 0 st g k
-        ∙ sym (runs f h)
-
--- ---- a sheet as it was read
-
-pub record Accepted (s : List ℕ) (l : Layout) : Type 0 where
-  pub contents : Module Expr
-  pub same : read s ≡ ok contents
-  pub plan : PlanOf s contents (filled s l)
-  pub sizes : Sizes contents (compiled s l .sizes)
-  pub inside : widthsEnd l ≤ length s
-
-module _ (s : List ℕ) (r : SheetRead) (e : r ≡ sheetAnswer (readSheet (located s) s)) where
-  pub read-accepted : r .number ≡ 0 → Accepted s (r .layout)
-  read-accepted z = by (read-as s r e)
+  read-refused d = by (answered s)
     where
-      by : ReadAs s r → Accepted s (r .layout)
-      by (accepted x h m o l) =
-          rw l
-          (record {
-            contents = trees s x .contents;
-            same = m;
-            plan = plan-of s x (trees s x .contents) h m;
-            sizes = sizes-of s x (trees s x .contents) h m;
-            inside = widths-inside s x h .inside;
-          })
-      by (refused n p h o b l) = absurd (omega (arith, o, z))
+      by : Answered s → cycled 0 (readOf s .number) false st ≡ runCycles s st ns xs
+      by (accepted m e z) = absurd (d z)
+      by (refused n p e z b) = rw (e, z) refl
 
-  pub read-refused :
-      (st : State) (ns : List ℕ) (xs : List Bool) → (r .number ≡ 0 → ⊥) → cycled 0 (r .number) false st ≡ runCycles s st ns xs
-  read-refused st ns xs d = by (read-as s r e)
+  pub read-accepted : readOf s .number ≡ 0 → (ws vs : List ℕ) → length ws ≡ 25212 → vs ≡ preparedPlan s ws → Shaped st → Bounded st
+      → (c : prepared_cycles.Cycled) → c ≡ cyclesAt (planOf vs) st ns xs → told c ≡ runCycles s st ns xs
+  unfolding OnTheSheet
+  read-accepted z ws vs l p h b c g = by (answered s)
     where
-      by : ReadAs s r → cycled 0 (r .number) false st ≡ runCycles s st ns xs
-      by (accepted x h m o l) = absurd (d o)
-      by (refused n p h o b l) = rw o (cycles-refused s st ns xs n p h)
-
--- ---- a sheet that was accepted, with its widths, tables and sizes as the code has them
-
-module _ {s : List ℕ} {l : Layout} (k : Accepted s l) (st : State) (ns : List ℕ) (xs : List Bool)
-    (widths sizes : List ℕ) (same-widths : widths ≡ take (widthsEnd l - 4) (drop 4 s)) (same-sizes : sizes ≡ compiled s l .sizes)
-  where
-    abbrev fits : Bool
-    fits = stateFitsAt widths sizes (l .inputs) (l .registers) (l .wires) (l .threads) st
-
-    fits-same : fits ≡ stateFits (k .contents) st
-    unfolding shapeOf
-    fits-same =
-        let w = k .plan in
-        let z : Sizes (k .contents) sizes = rw same-sizes (k .sizes) in
-        rw (same-widths, w .widths, w .inputs, w .registers, w .wires, w .threads) (fitting.fits-state (k .contents) sizes st z)
-
-    pub misfit-answer : fits ≡ false → cycled 0 31 false st ≡ runCycles s st ns xs
-    misfit-answer f = cycles-misfit s st ns xs (k .contents) (k .same) (sym fits-same ∙ f)
-
-    pub ragged-answer : fits ≡ true → wholeRows ns xs ≡ false → cycled 0 25 false st ≡ runCycles s st ns xs
-    ragged-answer f h = cycles-ragged s st ns xs (k .contents) (k .same) (sym fits-same ∙ f) h
-
-    pub fit-answer :
-        (code readers : List ℕ) (watched : List Bool) (shape : Shape) → code ≡ compiled s l .code → readers ≡ readersOf s l →
-        watched ≡ watchedBelow s code sizes (atMost 8 (l .threads)) (replicate 80 false) → shape ≡ shapeOf l →
-        fits ≡ true → Shaped st → wholeRows ns xs ≡ true →
-        ended
-        (phasesAt (planOf s widths code readers watched (l .starts) shape) (rowInputs (shape .inputs) ns xs) (2 * (length ns / 16)) 0
-        (st .time) (st .count) (unpacked (planOf s widths code readers watched (l .starts) shape) st))
-        ≡ runCycles s st ns xs
-    fit-answer code readers watched shape c r v h f g b =
-        rw (v, h, c, r, same-widths, same-sizes)
-        (cycles-fit s st ns xs (k .contents) (k .same) (k .plan) g (sym fits-same ∙ f) b)
+      by : Answered s → told c ≡ runCycles s st ns xs
+      by (accepted m e o) =
+          ap told (g ∙ ap (λ (us : List ℕ). cyclesAt (planOf us) st ns xs) p ∙ on-the-sheet s ws m e l st h b .cycles ns xs) ∙ same-cycles
+      by (refused n q e o d) = absurd (d (sym o ∙ z))

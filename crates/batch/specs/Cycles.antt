@@ -1,9 +1,9 @@
 -- Many clock cycles in one call: rows of inputs, for each row an instant with the clock low and one with the clock high, a plain
 -- run after each. It is defined by the single calls, each on the state that the last one left, up to the first that is stopped.
-use Prim.Native.Nat.{ℕ, zero, suc, _+_, _*_, _/_, _%_}
+use Prim.Native.Nat.{ℕ, zero, suc, _+_, _*_, _/_}
 use mathlib.Core.Bool.{Bool, true, false}
-use mathlib.Core.List.{List, [], _∷_}
-use lib.ListN.{length, getD}
+use mathlib.Core.List.{List}
+use lib.ListN.{length}
 use lib.Dec.{eqb}
 use Rattle.values.specs.Values.{pick}
 use Rattle.sheet.specs.Module.{read}
@@ -13,22 +13,8 @@ use Rattle.events.specs.Verdict.{numberOfVerdict}
 use Rattle.events.specs.Calls.{judged, instant, runPlain}
 use Rattle.events.specs.Rows.{wholeRows}
 use Rattle.batch.specs.declared.Cycled.{Cycled}
-
--- ---- rows: the inputs of instant number p, two to a row of 16
-
--- The items of row r from the v-th on, n of them.
-unfoldable pub rowFrom : {A : Type 0} → List A → A → ℕ → ℕ → ℕ → List A
-rowFrom xs other r v zero = []
-rowFrom xs other r v (suc n) = getD xs (16 * r + v) other ∷ rowFrom xs other r (v + 1) n
-
--- The clock is low in a row's first instant and high in its second; what stands in its place in the row isn't looked at.
-unfoldable pub rowInputs : ℕ → List ℕ → List Bool → ℕ → Inputs
-rowInputs inputs ns xs p =
-    record {
-      count = inputs;
-      value = p % 2 ∷ rowFrom ns 0 (p / 2) 1 15;
-      unknown = false ∷ rowFrom xs false (p / 2) 1 15;
-    }
+use Rattle.prepared_cycles.specs.declared.Cycled as prepared_cycles
+unfoldable pub use Rattle.prepared_cycles.specs.Cycles.{rowFrom, rowInputs}
 
 -- ---- an instant and the plain run after it
 
@@ -56,3 +42,8 @@ runCycles s st ns xs =
     (λ n. cycled 0 n false st)
     (λ m.
     pick (wholeRows ns xs) (phases s (rowInputs (m .scope .inputs) ns xs) (2 * (length ns / 16)) 0 st) (cycled 0 25 false st))
+
+-- ---- what the call on a prepared plan gives, as this one does
+
+abbrev pub told : prepared_cycles.Cycled → Cycled
+told r = cycled (r .phases) (r .number) (r .running) (r .state)

@@ -1,3 +1,2 @@
 pub mod Cycles
 pub mod Refused
-pub mod Phases

@@ -3,4 +3,5 @@ pub mod Unpacked
 pub mod Ways
 pub mod Calls
 pub mod Sheets
+pub mod Answered
 pub mod Claims

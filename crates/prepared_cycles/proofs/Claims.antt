@@ -1,0 +1,97 @@
+-- The claim of many cycles on a plan. Assumes nothing.
+use mathlib.Core.Path.{_≡_, refl, ap, _∙_}
+use mathlib.Core.Bool.{Bool, true, false}
+use mathlib.Core.List.{List}
+use Prim.Native.Nat.{ℕ, _*_, _/_}
+use native.Mathlib.Omega.{arith}
+use lib.ListN.{length}
+use Rattle.values.specs.Values.{pick}
+use Rattle.sheet.specs.Reading.{ok}
+use Rattle.sheet.specs.Expression.{Expr}
+use Rattle.sheet.specs.Module.{Module, read}
+use Rattle.state.specs.declared.State.{State}
+use Rattle.state.specs.State.{Shaped, Bounded}
+use Rattle.soundness.proofs.Soundness.{sound}
+use Rattle.events.specs.declared.Inputs.{Inputs}
+use Rattle.events.specs.Calls.{judged, stateFits, inputsFit}
+use Rattle.events.specs.Rows.{wholeRows}
+use Rattle.events.proofs.Fits.{fits-state}
+use Rattle.refinement.proofs.Kept.{fits-kept}
+use Rattle.plan.specs.Plan.{Plan}
+use Rattle.plan_fitting.specs.Fitting.{planFits, planInputsFit}
+use Rattle.plan_fitting.proofs.Fitting.{plan-fits, plan-inputs-fit}
+use Rattle.plan_refinement.specs.Refinement.{PlanOf}
+use Rattle.prepared.specs.Prepared.{preparedPlan}
+use Rattle.prepared.proofs.Held.{plan-of}
+use Rattle.prepared.proofs.Unpacked.{unpacked-shows}
+use Rattle.prepared.proofs.Sheets.{prepared-holds}
+use Rattle.prepared_cycles.specs.declared.Cycled.{Cycled}
+use Rattle.prepared_cycles.specs.Cycles.{cycled, rowInputs, phases, runCycles}
+use Rattle.prepared_cycles.specs.Phases.{phasesAt, ended, laidOut, cyclesAt}
+use Rattle.prepared_cycles.specs.Traces.{Lent, hasRoom, rounds, traceFrom, traceCycles, tracedCycles, traceFromAt, traceAt, tracedAt}
+use Rattle.prepared_cycles.specs.Claims.{OnTheSheet}
+use Rattle.prepared_cycles.proofs.Courses.{Stood, phases-stood}
+use Rattle.prepared_cycles.proofs.Traced.{trace-stood}
+
+module _ (s : List ℕ) {m : Module Expr} {q : Plan} (k : PlanOf m q) (inputs-fit : (a : Inputs) → planInputsFit q a ≡ inputsFit m a)
+    (e : read s ≡ ok m) (st : State) (same : planFits q st ≡ stateFits m st) (h : Shaped st) (b : Bounded st)
+  where
+    -- A state that fits, laid out.
+    pub stood : stateFits m st ≡ true → Stood m st (laidOut q st)
+    unfolding laidOut
+    stood f =
+        let g = fits-state m st h f in
+        record {
+          shaped = h;
+          fit = g;
+          shows = unpacked-shows k (fits-kept h g) b;
+          time = refl;
+          count = refl;
+          most = omega (arith, b .count);
+        }
+
+    cycles-of : (ns : List ℕ) (xs : List Bool) → cyclesAt q st ns xs ≡ runCycles s st ns xs
+    unfolding cyclesAt runCycles judged
+    cycles-of ns xs = rw (e, same) (by (stateFits m st) refl (wholeRows ns xs))
+      where
+        rounds : ℕ
+        rounds = 2 * (length ns / 16)
+
+        by : (t : Bool) → stateFits m st ≡ t → (u : Bool)
+            → pick t (pick u (ended (phasesAt q (rowInputs (q .inputs) ns xs) rounds 0 (laidOut q st))) (cycled 0 25 false st))
+            (cycled 0 31 false st)
+            ≡ pick t (pick u (phases s (rowInputs (m .scope .inputs) ns xs) rounds 0 st) (cycled 0 25 false st)) (cycled 0 31 false st)
+        by false f u = refl
+        by true f false = refl
+        by true f true =
+            ap (λ (n : ℕ). ended (phasesAt q (rowInputs n ns xs) rounds 0 (laidOut q st))) (k .inputs)
+            ∙ phases-stood s k inputs-fit e (rowInputs (m .scope .inputs) ns xs) rounds 0 st (laidOut q st) (stood f)
+
+    trace-of : (ns : List ℕ) (xs : List Bool) (w : Lent) → traceAt q st ns xs w ≡ traceCycles s st ns xs w
+    unfolding traceAt traceCycles
+    trace-of ns xs w = ap (λ (r : Cycled). pick (hasRoom (rounds ns) w) r (cycled 0 23 false st)) (cycles-of ns xs)
+
+    traced-of : (ns : List ℕ) (xs : List Bool) (w : Lent) → tracedAt q st ns xs w ≡ tracedCycles s st ns xs w
+    unfolding tracedAt tracedCycles judged
+    traced-of ns xs w = rw (e, same) (by (hasRoom (rounds ns) w) (stateFits m st) refl (wholeRows ns xs))
+      where
+        by : (r t : Bool) → stateFits m st ≡ t → (u : Bool)
+            → pick r (pick t (pick u (traceFromAt q (rowInputs (q .inputs) ns xs) (rounds ns) 0 (laidOut q st) w) w) w) w
+            ≡ pick r (pick t (pick u (traceFrom s (rowInputs (m .scope .inputs) ns xs) (rounds ns) 0 st w) w) w) w
+        by false t f u = refl
+        by true false f u = refl
+        by true true f false = refl
+        by true true f true =
+            ap (λ (n : ℕ). traceFromAt q (rowInputs n ns xs) (rounds ns) 0 (laidOut q st) w) (k .inputs)
+            ∙ trace-stood s k inputs-fit e (rowInputs (m .scope .inputs) ns xs) (rounds ns) 0 st (laidOut q st) w (stood f)
+
+pub on-the-sheet : OnTheSheet
+unfolding OnTheSheet
+on-the-sheet s ws m e l st h b =
+    let y = prepared-holds s m e ws l in
+    let k = plan-of (preparedPlan s ws) (sound s e) y in
+    record {
+      cycles = cycles-of s k (plan-inputs-fit (sound s e) y) e st (plan-fits (sound s e) y st) h b;
+      trace = trace-of s k (plan-inputs-fit (sound s e) y) e st (plan-fits (sound s e) y st) h b;
+      traced = traced-of s k (plan-inputs-fit (sound s e) y) e st (plan-fits (sound s e) y st) h b;
+    }

@@ -1,0 +1,42 @@
+-- Laws of rows: a row as a loop fills it, and the place of an instant's row among those that are lent. Assumes nothing.
+use mathlib.Core.Path.{_≡_, refl, sym, ap, _∙_}
+use mathlib.Core.Bool.{Bool, true}
+use mathlib.Core.List.{List, [], _∷_}
+use Prim.Native.Nat.{ℕ, _+_, _*_, _/_, _%_, _≤_, _<_}
+use native.Mathlib.Numerals.{add-one}
+use native.Mathlib.Omega.{arith}
+use lib.Dec.{eqb}
+use lib.ListN.{length, getD, set}
+use lib.Seq.{sets}
+use borrow.Author.Tests.{eqb-true}
+use Rattle.state.specs.Saved.{listOf}
+use Rattle.state.proofs.Rows.{and-both, sets-append, length-listOf, listOf-whole}
+use Rattle.events.specs.Rows.{wholeRows}
+use Rattle.prepared_cycles.specs.Cycles.{rowFrom}
+
+-- A whole row, with another item in the place of its first.
+pub row-list : {A : Type 0} (xs : List A) (other first : A) (r : ℕ)
+    → set (listOf 16 (λ v. getD xs (16 * r + v) other)) 0 first ≡ first ∷ rowFrom xs other r 1 15
+unfolding listOf rowFrom
+row-list xs other first r = refl
+
+pub row-inside : (n p : ℕ) → p < 2 * (n / 16) → 16 * (p / 2) + 16 ≤ n
+row-inside n p h = omega arith
+
+pub whole-lengths : (ns : List ℕ) (xs : List Bool) → wholeRows ns xs ≡ true → length xs ≡ length ns
+unfolding wholeRows
+whole-lengths ns xs h = eqb-true (length xs) (length ns) (and-both (eqb (length ns % 16) 0) (eqb (length xs) (length ns)) h .1)
+
+-- The same of a row that a loop has filled.
+pub row-filled : {A : Type 0} (xs : List A) (other first : A) (r : ℕ) (ys zs : List A) → length zs ≡ 16
+    → ys ≡ sets zs 0 (listOf 16 (λ v. getD xs (16 * r + v) other)) → set ys 0 first ≡ first ∷ rowFrom xs other r 1 15
+row-filled xs other first r ys zs l e =
+    ap (λ us. set us 0 first) (e ∙ listOf-whole (λ v. getD xs (16 * r + v) other) zs 16 l) ∙ row-list xs other first r
+
+-- ---- a row of a trace
+
+-- A turn of the loop that writes a list from a place on.
+pub listOf-on : {A : Type 0} (f : ℕ → A) (l : List A) (at k : ℕ)
+    → set (sets l at (listOf k f)) (at + k) (f k) ≡ sets l at (listOf (k + 1) f)
+unfolding listOf
+listOf-on f l at k = sym (rw add-one (sets-append l at (listOf k f) (f k ∷ []) ∙ rw (length-listOf f k) refl))

@@ -1,0 +1,29 @@
+-- What is claimed of many cycles on a plan: on what `prepare` filled from an accepted sheet, whatever the plan held before, they are the
+-- repeated single calls of document 01 on that sheet. proofs/Claims shows it.
+use mathlib.Core.Path.{_≡_}
+use mathlib.Core.Bool.{Bool}
+use mathlib.Core.List.{List}
+use Prim.Native.Nat.{ℕ}
+use lib.ListN.{length}
+use Rattle.sheet.specs.Reading.{ok}
+use Rattle.sheet.specs.Expression.{Expr}
+use Rattle.sheet.specs.Module.{Module, read}
+use Rattle.state.specs.declared.State.{State}
+use Rattle.state.specs.State.{Shaped, Bounded}
+use Rattle.plan.specs.Plan.{Plan, planOf}
+use Rattle.prepared.specs.Prepared.{preparedPlan}
+use Rattle.prepared_cycles.specs.Cycles.{runCycles}
+use Rattle.prepared_cycles.specs.Phases.{cyclesAt}
+use Rattle.prepared_cycles.specs.Traces.{Lent, traceCycles, tracedCycles, traceAt, tracedAt}
+
+pub record Same (s : List ℕ) (q : Plan) (st : State) : Type 0 where
+  pub cycles : (ns : List ℕ) (xs : List Bool) → cyclesAt q st ns xs ≡ runCycles s st ns xs
+  -- What a trace answers, and what it leaves in what is lent.
+  pub trace : (ns : List ℕ) (xs : List Bool) (w : Lent) → traceAt q st ns xs w ≡ traceCycles s st ns xs w
+  pub traced : (ns : List ℕ) (xs : List Bool) (w : Lent) → tracedAt q st ns xs w ≡ tracedCycles s st ns xs w
+
+-- Every state that code has is of such lengths and numbers.
+unfoldable pub OnTheSheet : Type 0
+OnTheSheet =
+    (s ws : List ℕ) (m : Module Expr) → read s ≡ ok m → length ws ≡ 25212 → (st : State) → Shaped st → Bounded st →
+    Same s (planOf (preparedPlan s ws)) st

@@ -1,0 +1,4 @@
+pub mod Cycles
+pub mod Phases
+pub mod Traces
+pub mod Claims

@@ -1,0 +1,100 @@
+-- Phases on a plan, and on a state as it lies in cells, places and masks: an instant and the plain run after it, and one phase after the
+-- other up to the first that is stopped. Defined for plans of any contents; proofs/Courses says that on a plan that holds a module and
+-- from a state that fits these are the single calls.
+use Prim.Native.Nat.{ℕ, zero, suc, _+_, _-_, _*_, _/_}
+use mathlib.Core.Bool.{Bool, false, not}
+use mathlib.Core.List.{List}
+use lib.Dec.{eqb}
+use lib.ListN.{length}
+use Rattle.values.specs.Values.{pick}
+use Rattle.state.specs.declared.State.{State}
+use Rattle.events.specs.declared.Inputs.{Inputs}
+use Rattle.events.specs.Calls.{spend, inputOf}
+use Rattle.events.specs.Rows.{wholeRows}
+use Rattle.plan.specs.Plan.{Plan}
+use Rattle.plan_engine.specs.Live.{Live, live}
+use Rattle.plan_engine.specs.Acting.{feed}
+use Rattle.plan_engine.specs.Running.{Run, runPlain, busy}
+use Rattle.plan_state.specs.Packing.{unpacked, packed}
+use Rattle.plan_fitting.specs.Fitting.{planFits, planInputsFit}
+use Rattle.prepared_cycles.specs.declared.Cycled.{Cycled}
+use Rattle.prepared_cycles.specs.declared.Standing.{Standing}
+use Rattle.prepared_cycles.specs.Cycles.{cycled, rowInputs}
+
+-- ---- a moment: what a choice works on, with the time and the count
+
+pub record Moment : Type 0 where
+  pub left : Live
+  pub time : ℕ
+  pub count : ℕ
+
+abbrev pub moment : Live → ℕ → ℕ → Moment
+moment l time count = record { left = l; time = time; count = count }
+
+-- As the code keeps it.
+abbrev pub momentOf : List ℕ → List ℕ → List ℕ → Standing → Moment
+momentOf cs ns ps s = moment (live cs ns ps (s .marks)) (s .time) (s .count)
+
+-- A state laid out.
+unfoldable pub laidOut : Plan → State → Moment
+laidOut q st = moment (unpacked q st) (st .time) (st .count)
+
+-- ---- a phase
+
+-- The number that stopped it, 0 where none did, and whether a run was; what it leaves.
+pub record Phase : Type 0 where
+  pub number : ℕ
+  pub running : Bool
+  pub after : Moment
+
+abbrev pub phase : ℕ → Bool → Moment → Phase
+phase n running o = record { number = n; running = running; after = o }
+
+module _ (q : Plan) where
+  -- The number of an instant, 0 where it is accepted: "25, 32, 36".
+  unfoldable pub refusalAt : Inputs → Moment → ℕ
+  refusalAt a o = pick (planInputsFit q a) (pick (busy (o .left)) 32 (spend (o .time))) 25
+
+  -- The plain run after an instant.
+  abbrev pub runAfter : Inputs → Moment → Run
+  runAfter a o = runPlain q 65535 (4294967295 - o .count) (feed q (inputOf a) (o .left))
+
+  unfoldable pub phaseAt : Inputs → Moment → Phase
+  phaseAt a o =
+      let n = refusalAt a o in
+      let r = runAfter a o in
+      pick (eqb n 0) (phase (r .number) (not (eqb (r .number) 0)) (moment (r .left) (o .time + 1) (o .count + r .accepted)))
+      (phase n false o)
+
+-- ---- phases, from instant number p on, n of them
+
+-- How many were accepted and run; the number that stopped them, and whether a run was; what they leave.
+pub record Course : Type 0 where
+  pub phases : ℕ
+  pub number : ℕ
+  pub running : Bool
+  pub after : Moment
+
+abbrev pub course : ℕ → ℕ → Bool → Moment → Course
+course p n running o = record { phases = p; number = n; running = running; after = o }
+
+module _ (q : Plan) (inputs : ℕ → Inputs) where
+  unfoldable pub phasesAt : ℕ → ℕ → Moment → Course
+  phasesAt zero p o = course p 0 false o
+  phasesAt (suc n) p o =
+      let f = phaseAt q (inputs p) o in
+      pick (eqb (f .number) 0) (phasesAt n (p + 1) (f .after)) (course p (f .number) (f .running) (f .after))
+
+-- ---- run_cycles
+
+-- Where they end: the state packed again.
+unfoldable pub ended : Course → Cycled
+ended c = cycled (c .phases) (c .number) (c .running) (packed (c .after .left) (c .after .time) (c .after .count))
+
+-- "31, 25", and then instant by instant.
+unfoldable pub cyclesAt : Plan → State → List ℕ → List Bool → Cycled
+cyclesAt q st ns xs =
+    pick (planFits q st)
+    (pick (wholeRows ns xs) (ended (phasesAt q (rowInputs (q .inputs) ns xs) (2 * (length ns / 16)) 0 (laidOut q st)))
+    (cycled 0 25 false st))
+    (cycled 0 31 false st)

@@ -1,0 +1,72 @@
+// A phase on a prepared plan: an instant, and the plain run after it. The state lies in cells, pending cells and places that are lent
+// through all phases, and no state is packed in between.
+use crate::Phased;
+use crate::Standing;
+use events::Inputs;
+use plan::Cells;
+use plan::PlanTable;
+use plan_changes::Marks;
+ghost use mathlib.Core.Path.{_≡_};
+ghost use mathlib.Core.List.{List};
+ghost use Prim.Native.Nat.{ℕ};
+ghost use Rattle.plan.specs.Plan.{planOf};
+ghost use Rattle.plan_engine.specs.Live.{live};
+ghost use Rattle.prepared_cycles.specs.Phases.{moment, momentOf, phase, refusalAt, phaseAt};
+
+// The number of an instant, 0 where it is accepted.
+fn refusal(plan: &PlanTable, marks: Marks, time: u32, a: Inputs) -> u8
+    ensures { λ r. ⌜
+        ((cs ns ps : List ℕ) (count : ℕ) →
+        r ≡ refusalAt (planOf (now (plan .entry))) a (moment (live cs ns ps marks) time count))
+        ⌝ }
+{
+    if !plan_fitting::inputs_fit(plan, a) {
+        return 25;
+    }
+    if plan_engine::busy(marks) {
+        return 32;
+    }
+    if time == 4294967295 { 36 } else { 0 }
+}
+
+// An instant, and the plain run after it.
+pub fn phase(
+    plan: &PlanTable,
+    cells: &mut Cells,
+    pending: &mut [u64; 32],
+    places: &mut [u8; 8],
+    standing: Standing,
+    a: Inputs,
+) -> Phased
+    ensures { λ r. ⌜
+        phase (r .number) (r .running)
+        (momentOf (now (cells .exit)) (now (pending .exit)) (now (places .exit)) (r .standing))
+        ≡ phaseAt (planOf (now (plan .entry))) a
+        (momentOf (now (cells .entry)) (now (pending .entry)) (now (places .entry)) standing)
+        ⌝ }
+{
+    let marks = standing.marks;
+    let number = refusal(plan, marks, standing.time, a);
+    if number != 0 {
+        return Phased {
+            number,
+            running: false,
+            standing,
+        };
+    }
+    let fed = plan_engine::feed(plan, cells, pending, places, marks, &a.value, &a.unknown);
+    let room = 4294967295 - standing.count as u64;
+    let run = plan_engine::run_plain(plan, cells, pending, places, fed, 65535, room);
+    let left = run.marks;
+    let time = standing.time + 1;
+    let count = standing.count + run.accepted as u32;
+    Phased {
+        number: run.number,
+        running: run.number != 0,
+        standing: Standing {
+            marks: left,
+            time,
+            count,
+        },
+    }
+}
