@@ -1,3 +1,5 @@
 pub mod Turns
 pub mod Settling
 pub mod Numbers
+pub mod Rows
+pub mod RowNumbers

@@ -22,23 +22,8 @@ use Rattle.plan_nodes.specs.Flat.{Flat, a-variable, a-constant, an-unknown, a-u
 use Rattle.plan_nodes.proofs.Nodes.{work-within}
 use Rattle.plan_nodes.proofs.Flat.{Done, flat-eval}
 use Rattle.nextstate.specs.Book as book
+use Rattle.clock_steps.specs.Claims.{Wired}
 use Rattle.clock_steps.specs.Settling.{putCell, rootOf, workWire, settleWire, settleTo, settle}
-
--- ---- what a plan holds of a module's wires
-
-pub record Wire (m : Module Expr) (q : Plan) (k : ℕ) : Type 0 where
-  pub nodes : ℕ
-  pub flat : Flat (q .node) (variables m) (q .wire k .first) (wireExpr m k) (q .wire k .root) nodes
-  pub above : 80 ≤ q .wire k .first
-  pub room : q .wire k .first + nodes ≤ 4176
-
-pub record Wired (m : Module Expr) (q : Plan) : Type 0 where
-  pub inputs : q .inputs ≡ m .scope .inputs
-  pub registers : q .registers ≡ m .scope .registers
-  pub wires : q .wires ≡ length (m .wires)
-  pub few : variables m ≤ 80
-  pub inside : (k : ℕ) → k < length (m .wires) → wireVariable m k < variables m
-  pub wire : (k : ℕ) → k < length (m .wires) → Wire m q k
 
 -- ---- the root of a flattened expression is its last node, or a variable
 
