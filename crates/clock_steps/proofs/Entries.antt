@@ -92,9 +92,12 @@ module _ (m : Module Expr) (ns us rs written : List ℕ) (l : Lent m ns us rs wr
 
     place-node : entry m T i p 32 < 4096
     place-node =
-        omega
-        (arith, marked-below (landings m i (listOf 4096 (nodeAt ns)) []) (entry m T i p 32) place-lands,
-        landings-length m i (listOf 4096 (nodeAt ns)) [], length-listOf (nodeAt ns) 4096)
+        omega (
+          arith,
+          marked-below (landings m i (listOf 4096 (nodeAt ns)) []) (entry m T i p 32) place-lands,
+          landings-length m i (listOf 4096 (nodeAt ns)) [],
+          length-listOf (nodeAt ns) 4096,
+        )
 
     module _ (count : ℕ) (k : Counted rs count) where
       counted : (c : ℕ) → entryAt rs (rowOf m T i p) c < 4096 → entryAt rs (rowOf m T i p) c < count

@@ -3,3 +3,7 @@ pub mod Settling
 pub mod Numbers
 pub mod Rows
 pub mod RowNumbers
+pub mod Entries
+pub mod Taking
+pub mod Rising
+pub mod Claims

@@ -141,15 +141,19 @@ module _ (m : Module Expr) where
 
   module _ (T : Tables) (few : waitsBelow m (length (m .threads)) ≤ 32) (i p : ℕ) (l : i < length (m .threads))
       (h : isWait (instrAt (codeOf m i) p) ≡ true) where
-    pub row-inside : rowOf m T i p < waitsBelow m (suc i)
+    pub row-from : waitsBelow m i ≤ rowOf m T i p
     unfolding rowOf
-    row-inside = omega (arith, below-next i, wait-counted (codeOf m i) p h)
+    row-from = omega arith
+
+    pub row-inside : rowOf m T i p < waitsBelow m i + waitsBefore (codeOf m i) (length (codeOf m i))
+    unfolding rowOf
+    row-inside = omega (arith, wait-counted (codeOf m i) p h)
 
     pub row-small : rowOf m T i p < 32
     row-small =
         let e : suc i + (length (m .threads) - suc i) ≡ length (m .threads) = omega arith in
         let u = rw e at (below-up (suc i) (length (m .threads) - suc i)) in
-        omega (arith, row-inside)
+        omega (arith, row-inside, below-next i)
 
 -- ---- on the plan of a module
 

@@ -44,7 +44,7 @@ fn slot(n: usize) -> usize
 }
 
 // Puts a cell's contents into a variable's cell; past the last variable nothing.
-fn put_cell(cells: &mut Cells, v: usize, c: u64)
+pub fn put_cell(cells: &mut Cells, v: usize, c: u64)
     ensures { λ _. ⌜ now (cells .exit) ≡ putCell v c (now (cells .entry)) ⌝ }
 {
     if 80 <= v {
@@ -188,7 +188,7 @@ fn take(
 // ---- a cycle
 
 // At most so many.
-fn at_most(most: usize, n: usize) -> usize
+pub fn at_most(most: usize, n: usize) -> usize
     ensures { λ r. ⌜ r ≡ atMost most n ⌝ }
     ensures { λ r. ⌜ r ≤ most ⌝ }
 {
