@@ -1,0 +1,280 @@
+// A clock cycle, and many of them, on a plan and on tables that were filled once from lent ones: registers, places and inputs are judged,
+// laid out in cells, and registers, places and wires taken out again. Each function equals its definition in specs/ for plans and tables
+// of any contents.
+use clock_nodes::RowTable;
+use clock_steps::RowNumbers;
+use clock_steps::at_most;
+use clock_steps::put_cell;
+use clock_steps::rise;
+use clock_steps::settle;
+use events::Inputs;
+use nextstate::Clocked;
+use nextstate::Registers;
+use plan::Cells;
+use plan::PlanTable;
+ghost use mathlib.Core.Path.{_≡_};
+ghost use Prim.Native.Nat.{_+_, _≤_};
+ghost use Rattle.plan.specs.Plan.{planOf};
+ghost use Rattle.nextstate.specs.CycleRun.{refused};
+ghost use Rattle.clock_steps.specs.Taking.{atMost, stand};
+ghost use Rattle.clock_run.specs.Running.{valuesFit, waitsAt, placesWait, upperOf, registersFitOn, inputsFitOn, putRegisters};
+ghost use Rattle.clock_run.specs.Running.{putItems, handOn, numbersTo, flagsTo, wireNumbersTo, wireFlagsTo, answerOn, cycleOn};
+
+// A byte as a place.
+fn wide(b: u8) -> usize
+    ensures { λ r. ⌜ r ≡ b ⌝ }
+{
+    b as usize
+}
+
+// ---- 31 and 25
+
+// Do `n` values from a place on fit the widths of the variables from `from` on?
+fn values_fit<'a>(
+    plan: &PlanTable,
+    from: usize,
+    n: usize,
+    value: &'a [u32],
+    unknown: &'a [bool],
+    at: usize,
+) -> bool
+    requires { ⌜ from + n ≤ 1024 ⌝ }
+    requires { ⌜ at + n ≤ 18446744073709551615 ⌝ }
+    ensures { λ r. ⌜ r ≡ valuesFit (planOf (now (plan .entry))) from (now (value .entry)) (now (unknown .entry)) at n ⌝ }
+{
+    let mut v: usize = 0;
+    while v < n {
+        if !values::fits(
+            plan::width(plan, from + v),
+            values::value_at(value, unknown, at + v),
+        ) {
+            return false;
+        }
+        v += 1;
+    }
+    true
+}
+
+// Is a number a place of thread `i`, and a wait?
+fn waits_at(plan: &PlanTable, i: usize, p: u8) -> bool
+    ensures { λ r. ⌜ r ≡ waitsAt (planOf (now (plan .entry))) i p ⌝ }
+{
+    if plan::size(plan, i) <= wide(p) {
+        return false;
+    }
+    plan::waits(plan, i, p)
+}
+
+// Does each thread wait?
+fn places_wait(plan: &PlanTable, places: &[u8; 8]) -> bool
+    ensures { λ r. ⌜ r ≡ placesWait (planOf (now (plan .entry))) (now (places .entry)) ⌝ }
+{
+    let n = at_most(8, plan::threads(plan));
+    let mut i: usize = 0;
+    while i < n {
+        if !waits_at(plan, i, places[i]) {
+            return false;
+        }
+        i += 1;
+    }
+    true
+}
+
+// How many inputs a cycle takes: all but the clock.
+fn upper(plan: &PlanTable) -> usize
+    ensures { λ r. ⌜ r ≡ upperOf (planOf (now (plan .entry))) ⌝ }
+    ensures { λ r. ⌜ r ≤ 15 ⌝ }
+{
+    let n = plan::inputs(plan);
+    if n == 0 {
+        return 0;
+    }
+    at_most(15, n - 1)
+}
+
+// 31: do the registers fit their widths, and does each thread wait?
+fn registers_fit(plan: &PlanTable, before: Registers) -> bool
+    ensures { λ r. ⌜ r ≡ registersFitOn (planOf (now (plan .entry))) before ⌝ }
+{
+    let first = plan::inputs(plan);
+    let n = plan::registers(plan);
+    if !values_fit(plan, first, n, &before.value, &before.unknown, 0) {
+        return false;
+    }
+    places_wait(plan, &before.places)
+}
+
+// 25: are the inputs as many as the plan's, and do they fit their widths?
+fn inputs_fit(plan: &PlanTable, given: Inputs) -> bool
+    ensures { λ r. ⌜ r ≡ inputsFitOn (planOf (now (plan .entry))) given ⌝ }
+{
+    if wide(given.count) + 1 != plan::inputs(plan) {
+        return false;
+    }
+    values_fit(plan, 1, upper(plan), &given.value, &given.unknown, 0)
+}
+
+// ---- values into cells
+
+// The registers' cells, with what lies under an x.
+fn put_registers<'a>(
+    first: usize,
+    n: usize,
+    value: &'a [u32; 32],
+    unknown: &'a [bool; 32],
+    cells: &mut Cells,
+)
+    requires { ⌜ first ≤ 256 ⌝ }
+    requires { ⌜ n ≤ 32 ⌝ }
+    ensures { λ _. ⌜ now (cells .exit) ≡ putRegisters (now (value .entry)) (now (unknown .entry)) first n (now (cells .entry)) ⌝ }
+{
+    let mut r: usize = 0;
+    while r < n {
+        let a = plan_state::marked(value[r], unknown[r]);
+        put_cell(cells, first + r, a);
+        r += 1;
+    }
+}
+
+// The inputs' cells, from input 1 on.
+fn put_items<'a>(n: usize, value: &'a [u32], unknown: &'a [bool], at: usize, cells: &mut Cells)
+    requires { ⌜ n ≤ 15 ⌝ }
+    requires { ⌜ at + n ≤ 18446744073709551615 ⌝ }
+    ensures { λ _. ⌜ now (cells .exit) ≡ putItems (now (value .entry)) (now (unknown .entry)) at n (now (cells .entry)) ⌝ }
+{
+    let mut v: usize = 0;
+    while v < n {
+        let a = cells::store(values::value_at(value, unknown, at + v));
+        put_cell(cells, 1 + v, a);
+        v += 1;
+    }
+}
+
+// The cells before a cycle: the registers, and 1 for the clock.
+fn hand(plan: &PlanTable, before: Registers, cells: &mut Cells)
+    ensures { λ _. ⌜ now (cells .exit) ≡ handOn (planOf (now (plan .entry))) before (now (cells .entry)) ⌝ }
+{
+    let first = plan::inputs(plan);
+    let n = at_most(32, plan::registers(plan));
+    put_registers(first, n, &before.value, &before.unknown, cells);
+    put_cell(cells, 0, 1);
+}
+
+// ---- and out again
+
+// The registers' numbers and flags, with what lies under an x.
+fn take_registers(
+    first: usize,
+    n: usize,
+    cells: &Cells,
+    value: &mut [u32; 32],
+    unknown: &mut [bool; 32],
+)
+    requires { ⌜ first ≤ 256 ⌝ }
+    requires { ⌜ n ≤ 32 ⌝ }
+    ensures { λ _. ⌜ now (value .exit) ≡ numbersTo (now (cells .entry)) first n (now (value .entry)) ⌝ }
+    ensures { λ _. ⌜ now (unknown .exit) ≡ flagsTo (now (cells .entry)) first n (now (unknown .entry)) ⌝ }
+{
+    let mut r: usize = 0;
+    while r < n {
+        value[r] = plan_state::number_in(cells[first + r]);
+        unknown[r] = plan_state::unknown_in(cells[first + r]);
+        r += 1;
+    }
+}
+
+// The wires' numbers and flags: under an x lies 0.
+fn take_wires(
+    first: usize,
+    n: usize,
+    cells: &Cells,
+    value: &mut [u32; 32],
+    unknown: &mut [bool; 32],
+)
+    requires { ⌜ first ≤ 512 ⌝ }
+    requires { ⌜ n ≤ 32 ⌝ }
+    ensures { λ _. ⌜ now (value .exit) ≡ wireNumbersTo (now (cells .entry)) first n (now (value .entry)) ⌝ }
+    ensures { λ _. ⌜ now (unknown .exit) ≡ wireFlagsTo (now (cells .entry)) first n (now (unknown .entry)) ⌝ }
+{
+    let mut k: usize = 0;
+    while k < n {
+        value[k] = values::number_of(cells::load(cells[first + k]));
+        unknown[k] = values::is_unknown(cells::load(cells[first + k]));
+        k += 1;
+    }
+}
+
+// What a cycle gives, from settled wires.
+fn answer(plan: &PlanTable, before: Registers, cells: &Cells, places: [u8; 8]) -> Clocked
+    ensures { λ r. ⌜ r ≡ answerOn (planOf (now (plan .entry))) before (stand (now (cells .entry)) places) ⌝ }
+{
+    let first = plan::inputs(plan);
+    let more = plan::registers(plan);
+    let wires = at_most(32, plan::wires(plan));
+    let mut value = before.value;
+    let mut unknown = before.unknown;
+    take_registers(first, at_most(32, more), cells, &mut value, &mut unknown);
+    let mut wire = [0u32; 32];
+    let mut unsure = [true; 32];
+    take_wires(first + more, wires, cells, &mut wire, &mut unsure);
+    Clocked {
+        number: 0,
+        value,
+        unknown,
+        places,
+        wire,
+        unsure,
+    }
+}
+
+// A refusal hands back the registers and places that it got, and wires all x.
+fn refused(number: u8, before: Registers) -> Clocked
+    ensures { λ r. ⌜ r ≡ refused number before ⌝ }
+{
+    let value = before.value;
+    let unknown = before.unknown;
+    let places = before.places;
+    let wire = [0u32; 32];
+    let unsure = [true; 32];
+    Clocked {
+        number,
+        value,
+        unknown,
+        places,
+        wire,
+        unsure,
+    }
+}
+
+// ---- a cycle
+
+// A clock cycle from registers, places and inputs 1 up, by tables that are filled.
+pub fn cycle(
+    plan: &PlanTable,
+    lent: &PlanTable,
+    table: &RowTable,
+    numbers: &RowNumbers,
+    before: Registers,
+    given: Inputs,
+) -> Clocked
+    ensures { λ r. ⌜
+        r
+        ≡ cycleOn (planOf (now (plan .entry))) (planOf (now (lent .entry)) .node) (now (table .entry)) (now (numbers .entry)) before
+        given
+        ⌝ }
+{
+    if !registers_fit(plan, before) {
+        return refused(31, before);
+    }
+    if !inputs_fit(plan, given) {
+        return refused(25, before);
+    }
+    let mut cells = [4294967296u64; 4176];
+    let mut places = before.places;
+    hand(plan, before, &mut cells);
+    put_items(upper(plan), &given.value, &given.unknown, 0, &mut cells);
+    settle(plan, &mut cells);
+    rise(plan, lent, table, numbers, &mut cells, &mut places);
+    settle(plan, &mut cells);
+    answer(plan, before, &cells, places)
+}
