@@ -1,18 +1,27 @@
 -- What each branch and each turn of a loop owes, on plain values. Assumes nothing.
-use mathlib.Core.Path.{_≡_, refl, ap, _∙_}
-use mathlib.Core.Bool.{Bool, false}
+use mathlib.Core.Path.{_≡_, refl, sym, ap, _∙_}
+use mathlib.Core.Bool.{Bool, true, false}
 use mathlib.Core.List.{List}
-use Prim.Native.Nat.{ℕ, _+_, _-_}
+use Prim.Native.Nat.{ℕ, suc, _+_, _-_, _/_, _≤_, _<_}
 use native.Mathlib.Numerals.{add-one}
-use lib.ListN.{getD, set}
+use native.Mathlib.Omega.{arith}
+use borrow.Author.Tests.{eq-eqb, ne-eqb}
+use lib.ListN.{length, getD, set, replicate}
 use Rattle.values.specs.declared.Value.{Value}
 use Rattle.values.specs.Planes.{valueAt, numberOf, isUnknown}
 use Rattle.cells.specs.Cells.{cellOf, valueOf, cellAt}
-use Rattle.plan.specs.Plan.{Plan}
+use Rattle.events.specs.declared.Inputs.{Inputs}
+use Rattle.plan.specs.Plan.{Node, Plan}
 use Rattle.plan_state.specs.Planes.{marked, numberIn, unknownIn}
-use Rattle.clock_steps.specs.Settling.{putCell}
-use Rattle.clock_steps.specs.Taking.{atMost}
-use Rattle.clock_run.specs.Running.{upperOf, putRegisters, putItems, numbersTo, flagsTo, wireNumbersTo, wireFlagsTo}
+use Rattle.nextstate.specs.declared.Registers.{Registers}
+use Rattle.nextstate.specs.declared.Clocked.{Clocked}
+use Rattle.nextstate.specs.CycleRun.{refused}
+use Rattle.clock_steps.specs.Settling.{putCell, settle}
+use Rattle.clock_steps.specs.Taking.{Stand, stand, atMost, rise}
+use Rattle.clock_run.specs.Running.{valuesFit, upperOf, registersFitOn, inputsFitOn, putRegisters, putItems, handOn, numbersTo, flagsTo}
+use Rattle.clock_run.specs.Running.{wireNumbersTo, wireFlagsTo, answerOn, turnOn, settledOn, clockedOn, cycleOn}
+use Rattle.clock_run.specs.declared.Rounds.{Rounds}
+use Rattle.clock_run.specs.Rounds.{lastOn, endedAt, rowAt, rowFits, rowOn, roundsFrom, roundsOn, cyclesOn}
 
 -- ---- upperOf
 
@@ -87,3 +96,92 @@ module _ (cs : List ℕ) (first : ℕ) where
       a ≡ isUnknown b → set ys k a ≡ wireFlagsTo cs first (k + 1) xs
   unfolding wireFlagsTo cellAt
   unsure-more k xs p b e = rw (add-one k, ← p, ← b, ← e)
+
+-- ---- registersFitOn
+
+pub values-judged :
+    (q : Plan) (g : Registers) {i n : ℕ} {x t : Bool} → i ≡ q .inputs → n ≡ q .registers → x ≡ valuesFit q i (g .value) (g .unknown) 0 n → x ≡ t →
+    valuesFit q (q .inputs) (g .value) (g .unknown) 0 (q .registers) ≡ t
+values-judged q g {n = n} a b e h =
+    sym
+    (e
+    ∙ ap (λ (k : ℕ). valuesFit q k (g .value) (g .unknown) 0 n) a
+    ∙ ap (valuesFit q (q .inputs) (g .value) (g .unknown) 0) b)
+    ∙ h
+
+-- ---- cycleOn
+
+module _ (q : Plan) (f : ℕ → Node) (ts numbers : List ℕ) where
+  pub turn-is : {c3 c4 p : List ℕ} (cs ps : List ℕ) → c3 ≡ settle q cs → stand c4 p ≡ rise q f ts numbers (stand c3 ps) →
+      stand c4 p ≡ turnOn q f ts numbers (stand cs ps)
+  unfolding turnOn
+  turn-is cs ps e h = h ∙ ap (λ (x : List ℕ). rise q f ts numbers (stand x ps)) e
+
+  settled-is : {c5 : List ℕ} (c4 p : List ℕ) → c5 ≡ settle q c4 → stand c5 p ≡ settledOn q f ts numbers (stand c4 p)
+  unfolding settledOn
+  settled-is c4 p e = ap (λ (x : List ℕ). stand x p) e
+
+  pub cycled :
+      (g : Registers) (a : Inputs) {n : ℕ} {c1 c2 c3 c4 c5 p : List ℕ} {r : Clocked} → registersFitOn q g ≡ true → inputsFitOn q a ≡ true →
+      n ≡ upperOf q → c1 ≡ handOn q g (replicate 4176 4294967296) → c2 ≡ putItems (a .value) (a .unknown) 0 n c1 → c3 ≡ settle q c2 →
+      stand c4 p ≡ rise q f ts numbers (stand c3 (g .places)) → c5 ≡ settle q c4 → r ≡ answerOn q g (stand c5 p) →
+      r ≡ cycleOn q f ts numbers g a
+  unfolding cycleOn clockedOn
+  cycled g a {n} {c1} {c2} {c4 = c4} {p = p} t u e h1 h2 h3 h4 h5 h6 =
+      let x = h2 ∙ ap (λ (m : ℕ). putItems (a .value) (a .unknown) 0 m c1) e ∙ ap (putItems (a .value) (a .unknown) 0 (upperOf q)) h1 in
+      let y = turn-is c2 (g .places) h3 h4 ∙ ap (λ (cs : List ℕ). turnOn q f ts numbers (stand cs (g .places))) x in
+      rw (t, u) (h6 ∙ ap (answerOn q g) (settled-is c4 p h5 ∙ ap (settledOn q f ts numbers) y))
+
+-- ---- lastOn
+
+pub last-none : (q : Plan) (g : Registers) (r : ℕ) (b : Stand) {c : Clocked} → r ≡ 0 → c ≡ refused 0 g → c ≡ lastOn q g r b
+unfolding lastOn
+last-none q g r b e h = rw (eq-eqb r 0 e) h
+
+pub last-some :
+    (q : Plan) (g : Registers) (r : ℕ) (cs ps : List ℕ) {ds : List ℕ} {c : Clocked} → (r ≡ 0 → ⊥) → ds ≡ settle q cs →
+    c ≡ answerOn q g (stand ds ps) → c ≡ lastOn q g r (stand cs ps)
+unfolding lastOn
+last-some q g r cs ps d e h = rw (ne-eqb r 0 d) (h ∙ ap (λ (x : List ℕ). answerOn q g (stand x ps)) e)
+
+-- ---- roundsFrom: the rows that are left end where all of them do
+
+module _ (q : Plan) (f : ℕ → Node) (ts numbers : List ℕ) (g : Registers) (ns : List ℕ) (xs : List Bool) where
+  abbrev pub first : Stand
+  first = stand (handOn q g (replicate 4176 4294967296)) (g .places)
+
+  abbrev pub Rest : ℕ → ℕ → Stand → Type 0
+  Rest n r b = roundsFrom q f ts numbers g ns xs (n - r) r b ≡ roundsFrom q f ts numbers g ns xs n 0 first
+
+  pub rest-first : (n : ℕ) {cs : List ℕ} → cs ≡ handOn q g (replicate 4176 4294967296) → Rest n 0 (stand cs (g .places))
+  rest-first n e =
+      let k : n - 0 ≡ n = omega arith in
+      rw (k, e)
+
+  module _ (n r : ℕ) (b : Stand) (rest : Rest n r b) where
+    pub rest-end : (c : Clocked) (x : Rounds) → n ≤ r → c ≡ lastOn q g r b → x ≡ endedAt r 0 c → n ≡ length ns / 16 →
+        x ≡ roundsOn q f ts numbers g ns xs
+    unfolding roundsOn roundsFrom
+    rest-end c x h e k l =
+        let z : n - r ≡ 0 = omega arith in
+        k ∙ ap (endedAt r 0) e ∙ (rw z at rest) ∙ ap (λ (j : ℕ). roundsFrom q f ts numbers g ns xs j 0 first) l
+
+    module _ (h : r < n) (s : n - r ≡ suc (n - (r + 1))) {u : ℕ} (up : u ≡ upperOf q) where
+      pub rest-off : (c : Clocked) (x : Rounds) → valuesFit q 1 ns xs (rowAt r) u ≡ false → c ≡ lastOn q g r b → x ≡ endedAt r 25 c →
+          n ≡ length ns / 16 → x ≡ roundsOn q f ts numbers g ns xs
+      unfolding roundsOn roundsFrom rowFits
+      rest-off c x t e k l =
+          k
+          ∙ ap (endedAt r 25) e
+          ∙ (rw (s, rw up at t) at rest)
+          ∙ ap (λ (j : ℕ). roundsFrom q f ts numbers g ns xs j 0 first) l
+
+      pub rest-on : {ds es os : List ℕ} → valuesFit q 1 ns xs (rowAt r) u ≡ true → ds ≡ putItems ns xs (rowAt r) u (b .cells) →
+          stand es os ≡ turnOn q f ts numbers (stand ds (b .places)) → Rest n (r + 1) (stand es os)
+      unfolding roundsFrom rowFits rowOn
+      rest-on t d v =
+          let a =
+          v
+          ∙ ap (λ (x : List ℕ). turnOn q f ts numbers (stand x (b .places)))
+          (d ∙ ap (λ (j : ℕ). putItems ns xs (rowAt r) j (b .cells)) up) in
+          ap (roundsFrom q f ts numbers g ns xs (n - (r + 1)) (r + 1)) a ∙ (rw (s, rw up at t) at rest)

@@ -19,6 +19,8 @@ ghost use Rattle.nextstate.specs.CycleRun.{refused};
 ghost use Rattle.clock_steps.specs.Taking.{atMost, stand};
 ghost use Rattle.clock_run.specs.Running.{valuesFit, waitsAt, placesWait, upperOf, registersFitOn, inputsFitOn, putRegisters};
 ghost use Rattle.clock_run.specs.Running.{putItems, handOn, numbersTo, flagsTo, wireNumbersTo, wireFlagsTo, answerOn, cycleOn};
+ghost use Rattle.clock_run.specs.Running.{turnOn};
+ghost use Rattle.clock_run.specs.Rounds.{lastOn, endedAt, roundsOn, cyclesOn};
 
 // A byte as a place.
 fn wide(b: u8) -> usize
@@ -277,4 +279,122 @@ pub fn cycle(
     rise(plan, lent, table, numbers, &mut cells, &mut places);
     settle(plan, &mut cells);
     answer(plan, before, &cells, places)
+}
+
+// ---- many cycles
+
+// What many cycles give: how many were accepted, the number that refused the next, 0 where none was, and what the last one gave.
+pub struct Rounds {
+    pub cycles: usize,
+    pub number: u8,
+    pub last: Clocked,
+}
+
+// Where the cycles end.
+fn ended(cycles: usize, number: u8, last: Clocked) -> Rounds
+    ensures { λ r. ⌜ r ≡ endedAt cycles number last ⌝ }
+{
+    Rounds {
+        cycles,
+        number,
+        last,
+    }
+}
+
+// What the last of `r` cycles gave; before the first the registers as handed, and wires x.
+fn last_of(
+    plan: &PlanTable,
+    before: Registers,
+    r: usize,
+    cells: &mut Cells,
+    places: [u8; 8],
+) -> Clocked
+    ensures { λ c. ⌜ c ≡ lastOn (planOf (now (plan .entry))) before r (stand (now (cells .entry)) places) ⌝ }
+{
+    if r == 0 {
+        return refused(0, before);
+    }
+    settle(plan, cells);
+    answer(plan, before, cells, places)
+}
+
+// The wires settled, then the rise.
+fn turn(
+    plan: &PlanTable,
+    lent: &PlanTable,
+    table: &RowTable,
+    numbers: &RowNumbers,
+    cells: &mut Cells,
+    places: &mut [u8; 8],
+)
+    ensures { λ _. ⌜
+        stand (now (cells .exit)) (now (places .exit))
+        ≡ turnOn (planOf (now (plan .entry))) (planOf (now (lent .entry)) .node) (now (table .entry)) (now (numbers .entry))
+        (stand (now (cells .entry)) (now (places .entry)))
+        ⌝ }
+{
+    settle(plan, cells);
+    rise(plan, lent, table, numbers, cells, places);
+}
+
+// A cycle for each row of 16, the clock's in front, up to the first that is refused.
+fn run_rows<'a>(
+    plan: &PlanTable,
+    lent: &PlanTable,
+    table: &RowTable,
+    numbers: &RowNumbers,
+    before: Registers,
+    value: &'a [u32],
+    unknown: &'a [bool],
+) -> Rounds
+    ensures { λ r. ⌜
+        r
+        ≡ roundsOn (planOf (now (plan .entry))) (planOf (now (lent .entry)) .node) (now (table .entry)) (now (numbers .entry)) before
+        (now (value .entry)) (now (unknown .entry))
+        ⌝ }
+{
+    let rows = value.len() / 16;
+    let n = upper(plan);
+    let mut cells = [4294967296u64; 4176];
+    let mut places = before.places;
+    hand(plan, before, &mut cells);
+    let mut r: usize = 0;
+    while r < rows {
+        let at = 16 * r + 1;
+        if !values_fit(plan, 1, n, value, unknown, at) {
+            let last = last_of(plan, before, r, &mut cells, places);
+            return ended(r, 25, last);
+        }
+        put_items(n, value, unknown, at, &mut cells);
+        turn(plan, lent, table, numbers, &mut cells, &mut places);
+        r += 1;
+    }
+    let last = last_of(plan, before, r, &mut cells, places);
+    ended(r, 0, last)
+}
+
+// Many cycles by tables that are filled: whole rows of 16 inputs, each with its flag; a cycle for each row, from what the last one left, up
+// to the first that is refused.
+pub fn cycles<'a>(
+    plan: &PlanTable,
+    lent: &PlanTable,
+    table: &RowTable,
+    numbers: &RowNumbers,
+    before: Registers,
+    value: &'a [u32],
+    unknown: &'a [bool],
+) -> Rounds
+    ensures { λ r. ⌜
+        r
+        ≡ cyclesOn (planOf (now (plan .entry))) (planOf (now (lent .entry)) .node) (now (table .entry)) (now (numbers .entry)) before
+        (now (value .entry)) (now (unknown .entry))
+        ⌝ }
+{
+    if !registers_fit(plan, before) {
+        return ended(0, 31, refused(31, before));
+    }
+    if !fitting::rows_whole(value, unknown) {
+        return ended(0, 25, refused(25, before));
+    }
+    run_rows(plan, lent, table, numbers, before, value, unknown)
 }

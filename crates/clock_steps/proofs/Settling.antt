@@ -1,6 +1,6 @@
 -- The wires settled on a plane of cells are those that the cycle book settles, where each wire's expression lies flattened in the plan.
 -- Assumes nothing.
-use mathlib.Core.Path.{_≡_, sym, ap, subst, _∙_}
+use mathlib.Core.Path.{_≡_, refl, sym, ap, subst, _∙_}
 use mathlib.Core.List.{List}
 use Prim.Native.Nat.{ℕ, zero, suc, _+_, _-_, _<_, _≤_}
 use native.Mathlib.Decide.{ℕ-discrete}
@@ -119,6 +119,14 @@ module _ (m : Module Expr) (q : Plan) (w : Wired m q) where
             ∙ at-same ds cs v (done .kept v (omega (arith, w .few, w .wire k h .above)))
             ∙ s .value v o)
 
+    -- The cells before the wires stay.
+    wire-kept : (v : ℕ) → v < m .scope .inputs + m .scope .registers → getD (settleWire q k cs) v 0 ≡ getD cs v 0
+    unfolding putCell wireVariable
+    wire-kept v o =
+        let z = small in
+        rw (wire-is, lt-ltb (wireVariable m k) 80 small)
+        (getD-set-other ds (wireVariable m k) v _ 0 (λ e. omega arith) ∙ done .kept v (omega (arith, w .wire k h .above)))
+
   -- ---- all wires
 
   settled-to : (k : ℕ) → k ≤ length (m .wires) → (f : ℕ → Value) (cs : List ℕ) → Settled f cs →
@@ -134,3 +142,18 @@ module _ (m : Module Expr) (q : Plan) (w : Wired m q) where
   settled f cs s =
       let r = settled-to (length (m .wires)) (omega arith) f cs s in
       subst (λ (n : ℕ). Settled (book.settleBelow m (length (m .wires)) f) (settleTo q n cs)) (sym (w .wires)) r
+
+  kept-to : (k : ℕ) → k ≤ length (m .wires) → (f : ℕ → Value) (cs : List ℕ) → Settled f cs → (v : ℕ) →
+      v < m .scope .inputs + m .scope .registers → getD (settleTo q k cs) v 0 ≡ getD cs v 0
+  unfolding settleTo
+  kept-to zero h f cs s v o = refl
+  kept-to (suc k) h f cs s v o =
+      wire-kept k (omega arith) (book.settleBelow m k f) (settleTo q k cs) (settled-to k (omega arith) f cs s) v o
+      ∙ kept-to k (omega arith) f cs s v o
+
+  -- The cells of inputs and registers stay.
+  pub settled-kept : (f : ℕ → Value) (cs : List ℕ) → Settled f cs → (v : ℕ) → v < m .scope .inputs + m .scope .registers →
+      getD (settle q cs) v 0 ≡ getD cs v 0
+  unfolding settle
+  settled-kept f cs s v o =
+      ap (λ (n : ℕ). getD (settleTo q n cs) v 0) (w .wires) ∙ kept-to (length (m .wires)) (omega arith) f cs s v o
