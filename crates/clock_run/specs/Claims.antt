@@ -1,0 +1,44 @@
+-- What is claimed of a cycle on tables that are filled: on the plan of a module, with tables filled from lent ones that fit, it is document
+-- 01's cycle run. proofs/Claims shows it.
+use mathlib.Core.Path.{_≡_}
+use mathlib.Core.Bool.{true, false}
+use mathlib.Core.List.{List, []}
+use Prim.Native.Nat.{ℕ, _+_, _^_, _≤_, _<_}
+use lib.ListN.{length, getD}
+use Rattle.sheet.specs.Expression.{Expr}
+use Rattle.sheet.specs.Module.{Module}
+use Rattle.masks.specs.Masks.{bits}
+use Rattle.state.specs.Saved.{listOf}
+use Rattle.soundness.specs.Soundness.{Sound}
+use Rattle.events.specs.declared.Inputs.{Inputs}
+use Rattle.plan.specs.Plan as plan
+use Rattle.plan_fill.specs.Holding.{Holds}
+use Rattle.nextstate.specs.declared.Registers.{Registers}
+use Rattle.nextstate.specs.Rules.{writes, waitsBelow}
+use Rattle.nextstate.specs.Nodes.{nodeAt}
+use Rattle.nextstate.specs.CycleRun.{widthsFrom, tablesFit, tablesIn, clockedIn}
+use Rattle.clock_nodes.specs.Copying.{copyAll, lowAll}
+use Rattle.clock_steps.specs.Numbers.{numberRows, fillRows}
+use Rattle.clock_steps.specs.Claims.{Counted, Room}
+use Rattle.clock_run.specs.Running.{cycleOn}
+
+-- Registers as every caller has them: 32 numbers of 32 bits with their flags, and eight places.
+pub record Whole (g : Registers) : Type 0 where
+  pub numbers : length (g .value) ≡ 32
+  pub flags : length (g .unknown) ≡ 32
+  pub eight : length (g .places) ≡ 8
+  pub small : (r : ℕ) → getD (g .value) r 0 < 2 ^ 32
+
+-- Lent tables that passed number 24's test, with their nodes' widths and the registers that each thread writes; rule 20 held.
+pub record Ready (m : Module Expr) (ns us rs written : List ℕ) : Type 0 where
+  pub fit : tablesFit m (tablesIn ns rs) ≡ true
+  pub sizes : us ≡ widthsFrom m (listOf 4096 (nodeAt ns)) []
+  pub few : waitsBelow m (length (m .threads)) ≤ 32
+  pub writers : (i r : ℕ) → i < length (m .threads) → getD (bits (getD written i 0)) r false ≡ writes m i (m .scope .inputs + r)
+
+unfoldable pub CycleIsTheRun : Type 0
+CycleIsTheRun =
+    (m : Module Expr) → Sound m → (q : plan.Plan) → Holds m q → (ns us rs written : List ℕ) → Ready m ns us rs written →
+    (count : ℕ) → Counted rs count → (ws ls ts ms : List ℕ) → Room ws ls ts ms → (g : Registers) → Whole g → (a : Inputs) →
+    cycleOn q (plan.nodeAt (copyAll ns us count ws)) (fillRows ns (lowAll ns count ls) rs q written ts) (numberRows q ms) g a
+    ≡ clockedIn m (tablesIn ns rs) g a
