@@ -30,12 +30,12 @@ use Rattle.clock_run.proofs.Lists.{setTo, pickTo, to-length, to-at, to-
 -- ---- the lists that the loops leave
 
 module _ (cs : List ℕ) (first : ℕ) where
-  numbers-are : (n : ℕ) (ns : List ℕ) → numbersTo cs first n ns ≡ setTo (λ r. numberIn (getD cs (first + r) 0)) n ns
+  pub numbers-are : (n : ℕ) (ns : List ℕ) → numbersTo cs first n ns ≡ setTo (λ r. numberIn (getD cs (first + r) 0)) n ns
   unfolding numbersTo setTo
   numbers-are zero ns = refl
   numbers-are (suc n) ns = rw (numbers-are n ns)
 
-  flags-are : (n : ℕ) (xs : List Bool) → flagsTo cs first n xs ≡ setTo (λ r. unknownIn (getD cs (first + r) 0)) n xs
+  pub flags-are : (n : ℕ) (xs : List Bool) → flagsTo cs first n xs ≡ setTo (λ r. unknownIn (getD cs (first + r) 0)) n xs
   unfolding flagsTo setTo
   flags-are zero xs = refl
   flags-are (suc n) xs = rw (flags-are n xs)

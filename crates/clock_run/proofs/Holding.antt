@@ -8,6 +8,7 @@ use native.Mathlib.Omega.{arith}
 use borrow.Author.Tests.{lt-ltb, le-ltb}
 use lib.Dec.{eqb}
 use lib.ListN.{length, getD, List·getD-eq-default}
+use Rattle.values.specs.declared.Value.{Value}
 use Rattle.values.specs.Values.{fits}
 use Rattle.values.specs.Planes.{valueAt}
 use Rattle.sheet.specs.Expression.{Expr}
@@ -96,6 +97,11 @@ module _ (m : Module Expr) (z : Sound m) (q : Plan) (h : Holds m q) where
           let l : length (codeOf m i) ≤ p = omega arith in
           rw (coded .size i o, le-ltb p (length (codeOf m i)) l) (sym (ap isWait (List·getD-eq-default (codeOf m i) (go 0) l)))
 
+  pub width-same : (v : ℕ) → v < m .scope .inputs - 1 → (b : Value) → fits (q .width (1 + v)) b ≡ fits (widthOf m (v + 1)) b
+  width-same v o b =
+      let f : 1 + v ≡ v + 1 = omega arith in
+      rw (f, width-is (v + 1) (omega (arith, z .variables)))
+
   module _ (ns : List ℕ) (xs : List Bool) where
     register-same : (r : ℕ) → r < m .scope .registers →
         fits (q .width (q .inputs + r)) (valueAt ns xs (0 + r)) ≡ fits (widthOf m (m .scope .inputs + r)) (valueAt ns xs r)
@@ -106,8 +112,7 @@ module _ (m : Module Expr) (z : Sound m) (q : Plan) (h : Holds m q) where
     input-same : (v : ℕ) → v < m .scope .inputs - 1 → fits (q .width (1 + v)) (valueAt ns xs (0 + v)) ≡ fits (widthOf m (v + 1)) (valueAt ns xs v)
     input-same v o =
         let e : 0 + v ≡ v = omega arith in
-        let f : 1 + v ≡ v + 1 = omega arith in
-        rw (f, width-is (v + 1) (omega (arith, z .variables)), e)
+        width-same v o (valueAt ns xs (0 + v)) ∙ ap (λ (u : ℕ). fits (widthOf m (v + 1)) (valueAt ns xs u)) e
 
   pub registers-fit-same : (g : Registers) → registersFitOn q g ≡ registersFit m g
   unfolding registersFitOn registersFit valuesFit placesWait

@@ -4,4 +4,6 @@ pub mod Answering
 pub mod Holding
 pub mod Handing
 pub mod Cycling
+pub mod Fits
+pub mod Repeating
 pub mod Claims

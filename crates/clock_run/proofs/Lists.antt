@@ -5,10 +5,11 @@ use mathlib.Core.Logic.{_≢_}
 use mathlib.Core.Bool.{Bool, true, false}
 use mathlib.Core.List.{List}
 use Prim.Native.Nat.{ℕ, zero, suc, _+_, _≤_, _<_}
+use native.Mathlib.Decide.{decLt}
 use native.Mathlib.Omega.{arith}
 use borrow.Author.Tests.{lt-ltb}
 use lib.ListN.{length, getD, set, length-set}
-use lib.Seq.{getD-set-same, getD-set-other, set-getD}
+use lib.Seq.{getD-set-same, getD-set-other, set-getD, ext-getD}
 use Rattle.values.specs.Values.{pick}
 use Rattle.events.proofs.Cycle.{Below, at-end, before, below-suc}
 use Rattle.clock_steps.specs.Settling.{putCell}
@@ -103,3 +104,16 @@ module _ {A : Type 0} (c : ℕ → A) (other : A) (xs : List A) where
       by true e p = rw (e, ← p)
       by false e p =
           ap (set ys n) (e ∙ sym (to-above n n (omega arith))) ∙ set-getD ys n other ∙ p
+
+-- What is put over is put.
+pub to-twice : {A : Type 0} (f : ℕ → A) (other : A) (c : ℕ → A) (n : ℕ) (xs : List A) → n ≤ length xs → setTo f n (setTo c n xs) ≡ setTo f n xs
+to-twice f other c n xs l =
+    ext-getD other (setTo f n (setTo c n xs)) (setTo f n xs)
+    (to-length f other (setTo c n xs) n ∙ to-length c other xs n ∙ sym (to-length f other xs n)) (λ j o. by j (decLt j n))
+  where
+    by : (j : ℕ) → Dec (j < n) → getD (setTo f n (setTo c n xs)) j other ≡ getD (setTo f n xs) j other
+    by j (yes h) = to-at f other (setTo c n xs) n j h (omega (arith, to-length c other xs n)) ∙ sym (to-at f other xs n j h l)
+    by j (no d) =
+        to-above f other (setTo c n xs) n j (omega arith)
+        ∙ to-above c other xs n j (omega arith)
+        ∙ sym (to-above f other xs n j (omega arith))

@@ -5,6 +5,7 @@ use Prim.Native.Nat.{ℕ, zero, suc, _+_, _*_, _/_}
 use lib.Dec.{eqb}
 use lib.ListN.{length, replicate}
 use Rattle.values.specs.Values.{pick}
+use Rattle.events.specs.declared.Inputs.{Inputs}
 use Rattle.events.specs.Rows.{wholeRows}
 use Rattle.plan.specs.Plan.{Node, Plan}
 use Rattle.nextstate.specs.declared.Registers.{Registers}
@@ -47,3 +48,16 @@ module _ (q : Plan) (f : ℕ → Node) (ts numbers : List ℕ) (g : Registers) (
   unfoldable pub cyclesOn : Rounds
   cyclesOn =
       pick (registersFitOn q g) (pick (wholeRows ns xs) roundsOn (endedAt 0 25 (refused 25 g))) (endedAt 0 31 (refused 31 g))
+
+-- ---- cycle run after cycle run, each handed the registers and places that the last one gave back
+
+abbrev pub registersOf : Clocked → Registers
+registersOf c = record { value = c .value; unknown = c .unknown; places = c .places }
+
+module _ (call : Registers → Inputs → Clocked) (inputs : ℕ → Inputs) where
+  -- From row r on, n of them, where the cycle before gave c, up to the first that is refused.
+  unfoldable pub repeatFrom : ℕ → ℕ → Clocked → Rounds
+  repeatFrom zero r c = endedAt r 0 c
+  repeatFrom (suc n) r c =
+      let d = call (registersOf c) (inputs r) in
+      pick (eqb (d .number) 0) (repeatFrom n (r + 1) d) (endedAt r (d .number) c)
