@@ -41,9 +41,10 @@ use Rattle.clock_steps.specs.Taking.{Stand, stand, atMost}
 use Rattle.clock_steps.specs.Numbers.{numberRows, fillRows}
 use Rattle.clock_steps.specs.Claims.{Counted, Room, Stands}
 use Rattle.clock_steps.proofs.RowNumbers.{most-same}
-use Rattle.clock_run.specs.Running.{valuesFit, upperOf, putItems, handOn, numbersTo, flagsTo, answerOn, turnOn}
+use Rattle.clock_run.specs.Running.{valuesFit, upperOf, putItems, handOn, numbersTo, flagsTo, answerOn, turnOn, settledOn}
 use Rattle.clock_run.specs.declared.Rounds.{Rounds}
 use Rattle.clock_run.specs.Rounds.{endedAt, lastOn, rowAt, rowFits, rowOn, roundsFrom, registersOf, repeatFrom}
+use Rattle.clock_run.specs.Traces.{putRow, traced, settledRow, traceFrom, repeatTrace}
 use Rattle.clock_run.specs.Claims.{Whole, Ready, RowInputs}
 use Rattle.clock_run.proofs.Lists.{setTo, to-length, to-at, to-above, to-twice}
 use Rattle.clock_run.proofs.Answering.{numbers-are, flags-are}
@@ -94,20 +95,19 @@ module _ (m : Module Expr) (z : Sound m) (ruled : Ruled m) (q : plan.Plan) (h : 
     abbrev N : ℕ
     N = length (m .threads)
 
-    -- After r cycles, of which the last gave c: what the cells and places hold.
-    record Held (r : ℕ) (c : Clocked) (s : Stand) : Type 0 where
+    -- What the cells and places hold after a cycle that gave c.
+    record Held (c : Clocked) (s : Stand) : Type 0 where
       long : length (s .cells) ≡ 4176
       clock : getD (s .cells) 0 0 ≡ 1
       mine : (j : ℕ) → j < R → getD (s .cells) (I + j) 0 ≡ marked (getD (c .value) j 0) (getD (c .unknown) j false)
       places : s .places ≡ c .places
       whole : Whole (registersOf c)
       right : registersFit m (registersOf c) ≡ true
-      last : lastOn q g r s ≡ c
       numbers-kept : (f : ℕ → ℕ) → setTo f R (c .value) ≡ setTo f R (g .value)
       flags-kept : (f : ℕ → Bool) → setTo f R (c .unknown) ≡ setTo f R (g .unknown)
 
-    held-first : registersFit m g ≡ true → Held 0 (refused 0 g) (stand (handOn q g (base m z q h g)) (g .places))
-    unfolding refused lastOn
+    held-first : registersFit m g ≡ true → Held (refused 0 g) (stand (handOn q g (base m z q h g)) (g .places))
+    unfolding refused
     held-first e =
         rw (hand-are m z q h g)
         (record {
@@ -117,7 +117,6 @@ module _ (m : Module Expr) (z : Sound m) (ruled : Ruled m) (q : plan.Plan) (h : 
           places = refl;
           whole = record { numbers = wg .numbers; flags = wg .flags; eight = wg .eight; small = wg .small };
           right = e;
-          last = refl;
           numbers-kept = λ f. refl;
           flags-kept = λ f. refl;
         })
@@ -133,7 +132,7 @@ module _ (m : Module Expr) (z : Sound m) (ruled : Ruled m) (q : plan.Plan) (h : 
         ∙ sym (ap (λ (t : Bool). t && allBelow (I - 1) (λ v. fits (widthOf m (v + 1)) (inputOf (inputs r) v)))
         (eq-eqb (inputs r .count + 1) I (given-rows .count r)))
 
-    module _ (r : ℕ) (o : r < length vs / 16) (c : Clocked) (s : Stand) (x : Held r c s) (fit : upperInputsFit m (inputs r) ≡ true) where
+    module _ (r : ℕ) (o : r < length vs / 16) (c : Clocked) (s : Stand) (x : Held c s) (fit : upperInputsFit m (inputs r) ≡ true) where
       abbrev a : Inputs
       a = inputs r
 
@@ -360,7 +359,7 @@ module _ (m : Module Expr) (z : Sound m) (ruled : Ruled m) (q : plan.Plan) (h : 
       unfolding lastOn answerOn
       last-next = rw (ne-eqb (r + 1) 0 (λ d. omega arith), numbers-both, flags-both)
 
-      held-answer : Held (r + 1) e t
+      held-answer : Held e t
       held-answer =
           record {
             long = turn .risen .stands .long;
@@ -369,7 +368,6 @@ module _ (m : Module Expr) (z : Sound m) (ruled : Ruled m) (q : plan.Plan) (h : 
             places = sym places-next;
             whole = whole-next;
             right = right-next;
-            last = last-next;
             numbers-kept =
                 λ f. ap (setTo f R) value-list
                 ∙ to-twice f 0 F R (c .value) (omega (arith, x .whole .numbers, z .registers-most))
@@ -380,8 +378,33 @@ module _ (m : Module Expr) (z : Sound m) (ruled : Ruled m) (q : plan.Plan) (h : 
                 ∙ x .flags-kept f;
           }
 
-      held-next : Held (r + 1) (clockedIn m T old a) t
+      held-next : Held (clockedIn m T old a) t
       held-next = rw answer-is at held-answer
+
+      last-answer : lastOn q g (r + 1) t ≡ clockedIn m T old a
+      last-answer = last-next ∙ answer-is
+
+      -- The same with the wires settled.
+      held-settled : Held (clockedIn m T old a) (stand ds (t .places))
+      held-settled =
+          let x = held-next in
+          record {
+            long = turn .end .long;
+            clock = turn .high 0 (omega (arith, z .inputs-some)) ∙ x .clock;
+            mine = λ j u. turn .high (I + j) (omega arith) ∙ x .mine j u;
+            places = x .places;
+            whole = x .whole;
+            right = x .right;
+            numbers-kept = x .numbers-kept;
+            flags-kept = x .flags-kept;
+          }
+
+      answer-both : answerOn q g (stand ds (t .places)) ≡ clockedIn m T old a
+      unfolding answerOn
+      answer-both = both ∙ answer-is
+        where
+          both : answerOn q g (stand ds (t .places)) ≡ e
+          both = rw (numbers-both, flags-both)
 
       number-next : clockedIn m T old a .number ≡ 0
       unfolding answerOn
@@ -397,19 +420,19 @@ module _ (m : Module Expr) (z : Sound m) (ruled : Ruled m) (q : plan.Plan) (h : 
     unfolding clockedIn
     off-is o a e f = rw (y .fit, e, f)
 
-    rounds-same : (n r : ℕ) (c : Clocked) (s : Stand) → r + n ≡ length vs / 16 → Held r c s →
-        roundsFrom q P tab numbers g vs xs n r s ≡ repeatFrom (clockedIn m T) inputs n r c
+    rounds-same : (n r : ℕ) (c : Clocked) (s : Stand) → r + n ≡ length vs / 16 → Held c s →
+        lastOn q g r s ≡ c → roundsFrom q P tab numbers g vs xs n r s ≡ repeatFrom (clockedIn m T) inputs n r c
     unfolding roundsFrom repeatFrom rowFits refused
-    rounds-same zero r c s l x = ap (endedAt r 0) (x .last)
-    rounds-same (suc n) r c s l x =
+    rounds-same zero r c s l x p = ap (endedAt r 0) p
+    rounds-same (suc n) r c s l x p =
         by (upperInputsFit m (inputs r)) refl
-        (λ d f y. rounds-same n (r + 1) d f (omega arith) y)
+        (λ d f y p. rounds-same n (r + 1) d f (omega arith) y p)
       where
         o : r < length vs / 16
         o = omega arith
 
         on : upperInputsFit m (inputs r) ≡ true →
-            ((d : Clocked) (f : Stand) → Held (r + 1) d f →
+            ((d : Clocked) (f : Stand) → Held d f → lastOn q g (r + 1) f ≡ d →
             roundsFrom q P tab numbers g vs xs n (r + 1) f ≡ repeatFrom (clockedIn m T) inputs n (r + 1) d) →
             pick (valuesFit q 1 vs xs (rowAt r) (upperOf q)) (roundsFrom q P tab numbers g vs xs n (r + 1) (rowOn q P tab numbers g vs xs r s))
             (endedAt r 25 (lastOn q g r s))
@@ -419,7 +442,7 @@ module _ (m : Module Expr) (z : Sound m) (ruled : Ruled m) (q : plan.Plan) (h : 
         on w ih =
             let d = clockedIn m T (registersOf c) (inputs r) in
             rw (row-same r o ∙ w, row-is r o c s x w)
-            (ih d _ (held-next r o c s x w)
+            (ih d _ (held-next r o c s x w) (last-answer r o c s x w)
             ∙ sym
             (ap (λ (k : ℕ). pick (eqb k 0) (repeatFrom (clockedIn m T) inputs n (r + 1) d) (endedAt r k c)) (number-next r o c s x w)))
 
@@ -429,10 +452,10 @@ module _ (m : Module Expr) (z : Sound m) (ruled : Ruled m) (q : plan.Plan) (h : 
             ≡ pick (eqb (clockedIn m T (registersOf c) (inputs r) .number) 0)
             (repeatFrom (clockedIn m T) inputs n (r + 1) (clockedIn m T (registersOf c) (inputs r)))
             (endedAt r (clockedIn m T (registersOf c) (inputs r) .number) c)
-        off w = rw (row-same r o ∙ w, off-is (registersOf c) (inputs r) (x .right) w) (ap (endedAt r 25) (x .last))
+        off w = rw (row-same r o ∙ w, off-is (registersOf c) (inputs r) (x .right) w) (ap (endedAt r 25) p)
 
         by : (u : Bool) → upperInputsFit m (inputs r) ≡ u →
-            ((d : Clocked) (f : Stand) → Held (r + 1) d f →
+            ((d : Clocked) (f : Stand) → Held d f → lastOn q g (r + 1) f ≡ d →
             roundsFrom q P tab numbers g vs xs n (r + 1) f ≡ repeatFrom (clockedIn m T) inputs n (r + 1) d) →
             pick (valuesFit q 1 vs xs (rowAt r) (upperOf q)) (roundsFrom q P tab numbers g vs xs n (r + 1) (rowOn q P tab numbers g vs xs r s))
             (endedAt r 25 (lastOn q g r s))
@@ -442,7 +465,72 @@ module _ (m : Module Expr) (z : Sound m) (ruled : Ruled m) (q : plan.Plan) (h : 
         by true w ih = on w ih
         by false w ih = off w
 
+    first-last : lastOn q g 0 (stand (handOn q g (base m z q h g)) (g .places)) ≡ refused 0 g
+    unfolding lastOn
+    first-last = refl
+
     pub rounds-are : registersFit m g ≡ true →
         roundsFrom q P tab numbers g vs xs (length vs / 16) 0 (stand (handOn q g (base m z q h g)) (g .places))
         ≡ repeatFrom (clockedIn m T) inputs (length vs / 16) 0 (refused 0 g)
     rounds-are e = rounds-same (length vs / 16) 0 (refused 0 g) (stand (handOn q g (base m z q h g)) (g .places)) (omega arith) (held-first e)
+        first-last
+
+    -- ---- with the words of each
+
+    settled-row : (r : ℕ) (o : r < length vs / 16) (c : Clocked) (s : Stand) (x : Held c s) (w : upperInputsFit m (inputs r) ≡ true) →
+        settledRow q P tab numbers g vs xs r s ≡ stand (ds r o c s x w) (t r o c s x w .places)
+    unfolding settledOn
+    settled-row r o c s x w = ap (settledOn q P tab numbers) (row-is r o c s x w)
+
+    trace-same : (n r : ℕ) (c : Clocked) (s : Stand) (us : List ℕ) → r + n ≡ length vs / 16 → Held c s →
+        traceFrom q P tab numbers g vs xs n r c s us ≡ repeatTrace (clockedIn m T) inputs n r c us
+    unfolding traceFrom repeatTrace rowFits refused
+    trace-same zero r c s us l x = refl
+    trace-same (suc n) r c s us l x =
+        by (upperInputsFit m (inputs r)) refl (λ d f vs y. trace-same n (r + 1) d f vs (omega arith) y)
+      where
+        o : r < length vs / 16
+        o = omega arith
+
+        row : Stand
+        row = settledRow q P tab numbers g vs xs r s
+
+        d : Clocked
+        d = clockedIn m T (registersOf c) (inputs r)
+
+        Same : Type 0
+        Same =
+            pick (valuesFit q 1 vs xs (rowAt r) (upperOf q))
+            (traceFrom q P tab numbers g vs xs n (r + 1) (answerOn q g row) row (putRow r (answerOn q g row) us)) (traced (endedAt r 25 c) us)
+            ≡ pick (eqb (d .number) 0) (repeatTrace (clockedIn m T) inputs n (r + 1) d (putRow r d us)) (traced (endedAt r (d .number) c) us)
+
+        Next : Type 0
+        Next = (e : Clocked) (f : Stand) (vs' : List ℕ) → Held e f →
+            traceFrom q P tab numbers g vs xs n (r + 1) e f vs' ≡ repeatTrace (clockedIn m T) inputs n (r + 1) e vs'
+
+        on : upperInputsFit m (inputs r) ≡ true → Next → Same
+        on w ih =
+            let f = stand (ds r o c s x w) (t r o c s x w .places) in
+            rw (row-same r o ∙ w)
+            (ap
+            (λ (u : Stand). traceFrom q P tab numbers g vs xs n (r + 1) (answerOn q g u) u (putRow r (answerOn q g u) us))
+            (settled-row r o c s x w)
+            ∙ ap (λ (v : Clocked). traceFrom q P tab numbers g vs xs n (r + 1) v f (putRow r v us)) (answer-both r o c s x w)
+            ∙ ih d f (putRow r d us) (held-settled r o c s x w)
+            ∙ sym
+            (ap
+            (λ (k : ℕ). pick (eqb k 0) (repeatTrace (clockedIn m T) inputs n (r + 1) d (putRow r d us)) (traced (endedAt r k c) us))
+            (number-next r o c s x w)))
+
+        off : upperInputsFit m (inputs r) ≡ false → Same
+        off w = rw (row-same r o ∙ w, off-is (registersOf c) (inputs r) (x .right) w)
+
+        by : (u : Bool) → upperInputsFit m (inputs r) ≡ u → Next → Same
+        by true w ih = on w ih
+        by false w ih = off w
+
+    pub trace-are : registersFit m g ≡ true → (us : List ℕ) →
+        traceFrom q P tab numbers g vs xs (length vs / 16) 0 (refused 0 g) (stand (handOn q g (base m z q h g)) (g .places)) us
+        ≡ repeatTrace (clockedIn m T) inputs (length vs / 16) 0 (refused 0 g) us
+    trace-are e us =
+        trace-same (length vs / 16) 0 (refused 0 g) (stand (handOn q g (base m z q h g)) (g .places)) us (omega arith) (held-first e)

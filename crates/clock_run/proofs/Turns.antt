@@ -2,15 +2,16 @@
 use mathlib.Core.Path.{_≡_, refl, sym, ap, _∙_}
 use mathlib.Core.Bool.{Bool, true, false}
 use mathlib.Core.List.{List}
-use Prim.Native.Nat.{ℕ, suc, _+_, _-_, _/_, _≤_, _<_}
+use Prim.Native.Nat.{ℕ, zero, suc, _+_, _-_, _/_, _≤_, _<_}
 use native.Mathlib.Numerals.{add-one}
 use native.Mathlib.Omega.{arith}
-use borrow.Author.Tests.{eq-eqb, ne-eqb}
-use lib.ListN.{length, getD, set, replicate}
+use borrow.Author.Tests.{eq-eqb, ne-eqb, lt-ltb, le-ltb}
+use lib.ListN.{length, getD, set, replicate, length-set}
 use Rattle.values.specs.declared.Value.{Value}
 use Rattle.values.specs.Planes.{valueAt, numberOf, isUnknown}
 use Rattle.cells.specs.Cells.{cellOf, valueOf, cellAt}
 use Rattle.events.specs.declared.Inputs.{Inputs}
+use Rattle.events.specs.Rows.{wholeRows}
 use Rattle.plan.specs.Plan.{Node, Plan}
 use Rattle.plan_state.specs.Planes.{marked, numberIn, unknownIn}
 use Rattle.nextstate.specs.declared.Registers.{Registers}
@@ -21,6 +22,7 @@ use Rattle.clock_steps.specs.Taking.{Stand, stand, atMost, rise}
 use Rattle.clock_run.specs.Running.{valuesFit, upperOf, registersFitOn, inputsFitOn, putRegisters, putItems, handOn, numbersTo, flagsTo}
 use Rattle.clock_run.specs.Running.{wireNumbersTo, wireFlagsTo, answerOn, turnOn, settledOn, clockedOn, cycleOn}
 use Rattle.clock_run.specs.declared.Rounds.{Rounds}
+use Rattle.clock_run.specs.Traces.{wordOf, putWords, putRow, traced, traceFrom, traceRows, traceOn}
 use Rattle.clock_run.specs.Rounds.{lastOn, endedAt, rowAt, rowFits, rowOn, roundsFrom, roundsOn, cyclesOn}
 
 -- ---- upperOf
@@ -185,3 +187,101 @@ module _ (q : Plan) (f : ℕ → Node) (ts numbers : List ℕ) (g : Registers) (
           ∙ ap (λ (x : List ℕ). turnOn q f ts numbers (stand x (b .places)))
           (d ∙ ap (λ (j : ℕ). putItems ns xs (rowAt r) j (b .cells)) up) in
           ap (roundsFrom q f ts numbers g ns xs (n - (r + 1)) (r + 1)) a ∙ (rw (s, rw up at t) at rest)
+
+-- ---- putWords
+
+module _ (c : Clocked) (at : ℕ) where
+  pub words-none : (ws : List ℕ) → ws ≡ putWords c at 0 ws
+  unfolding putWords
+  words-none ws = refl
+
+  pub words-more : (k : ℕ) (ws : List ℕ) {us : List ℕ} {a : ℕ} → us ≡ putWords c at k ws → a ≡ wordOf c k →
+      set us (at + k) a ≡ putWords c at (k + 1) ws
+  unfolding putWords
+  words-more k ws p e = rw (add-one k, ← p, ← e)
+
+  pub words-length : (n : ℕ) (ws : List ℕ) → length (putWords c at n ws) ≡ length ws
+  unfolding putWords
+  words-length zero ws = refl
+  words-length (suc n) ws = length-set (putWords c at n ws) (at + n) _ ∙ words-length n ws
+
+-- ---- traceFrom: the rows that are left end where all of them do
+
+module _ (q : Plan) (f : ℕ → Node) (ts numbers : List ℕ) (g : Registers) (ns : List ℕ) (xs : List Bool) (ws : List ℕ) where
+  abbrev pub Left : ℕ → ℕ → Clocked → Stand → List ℕ → Type 0
+  Left n r c b us =
+      traceFrom q f ts numbers g ns xs (n - r) r c b us
+      ≡ traceFrom q f ts numbers g ns xs n 0 (refused 0 g) (stand (handOn q g (replicate 4176 4294967296)) (g .places)) ws
+
+  pub left-first : (n : ℕ) {cs : List ℕ} {c : Clocked} → cs ≡ handOn q g (replicate 4176 4294967296) → c ≡ refused 0 g →
+      Left n 0 c (stand cs (g .places)) ws
+  left-first n e h =
+      let k : n - 0 ≡ n = omega arith in
+      rw (k, e, h)
+
+  module _ (n r : ℕ) (c : Clocked) (b : Stand) (us : List ℕ) (left : Left n r c b us) where
+    pub left-end : (x : Rounds) → n ≤ r → x ≡ endedAt r 0 c → n ≡ length ns / 16 → traced x us ≡ traceRows q f ts numbers g ns xs ws
+    unfolding traceRows traceFrom
+    left-end x h k l =
+        let z : n - r ≡ 0 = omega arith in
+        ap (λ (y : Rounds). traced y us) k
+        ∙ (rw z at left)
+        ∙ ap
+        (λ (j : ℕ). traceFrom q f ts numbers g ns xs j 0 (refused 0 g) (stand (handOn q g (replicate 4176 4294967296)) (g .places)) ws)
+        l
+
+    module _ (h : r < n) (s : n - r ≡ suc (n - (r + 1))) {u : ℕ} (up : u ≡ upperOf q) where
+      pub left-off : (x : Rounds) → valuesFit q 1 ns xs (rowAt r) u ≡ false → x ≡ endedAt r 25 c → n ≡ length ns / 16 →
+          traced x us ≡ traceRows q f ts numbers g ns xs ws
+      unfolding traceRows traceFrom rowFits
+      left-off x t k l =
+          ap (λ (y : Rounds). traced y us) k
+          ∙ (rw (s, rw up at t) at left)
+          ∙ ap
+          (λ (j : ℕ). traceFrom q f ts numbers g ns xs j 0 (refused 0 g) (stand (handOn q g (replicate 4176 4294967296)) (g .places)) ws)
+          l
+
+      pub left-on :
+          {ds es os fs vs : List ℕ} {d : Clocked} → valuesFit q 1 ns xs (rowAt r) u ≡ true → ds ≡ putItems ns xs (rowAt r) u (b .cells) →
+          stand es os ≡ turnOn q f ts numbers (stand ds (b .places)) → fs ≡ settle q es → d ≡ answerOn q g (stand fs os) →
+          vs ≡ putRow r d us → Left n (r + 1) d (stand fs os) vs
+      unfolding traceFrom rowFits rowOn settledOn
+      left-on {es = es} {os = os} {fs = fs} {d = d} t e v w a p =
+          let x =
+          v
+          ∙ ap (λ (l : List ℕ). turnOn q f ts numbers (stand l (b .places)))
+          (e ∙ ap (λ (j : ℕ). putItems ns xs (rowAt r) j (b .cells)) up) in
+          let y = ap (λ (l : List ℕ). stand l os) w ∙ ap (λ (z : Stand). stand (settle q (z .cells)) (z .places)) x in
+          ap (traceFrom q f ts numbers g ns xs (n - (r + 1)) (r + 1) d (stand fs os)) p
+          ∙ ap (λ (k : Clocked). traceFrom q f ts numbers g ns xs (n - (r + 1)) (r + 1) k (stand fs os) (putRow r k us)) a
+          ∙ ap
+          (λ (z : Stand). traceFrom q f ts numbers g ns xs (n - (r + 1)) (r + 1) (answerOn q g z) z (putRow r (answerOn q g z) us))
+          y
+          ∙ (rw (s, rw up at t) at left)
+
+-- ---- traceOn
+
+module _ (q : Plan) (f : ℕ → Node) (ts numbers : List ℕ) (g : Registers) (ns : List ℕ) (xs : List Bool) (ws : List ℕ) where
+  abbrev Trace : Rounds → List ℕ → Type 0
+  Trace x us = traced x us ≡ traceOn q f ts numbers g ns xs ws
+
+  pub trace-23 : {c : Clocked} {x : Rounds} → length ws / 72 < length ns / 16 → c ≡ refused 23 g → x ≡ endedAt 0 23 c → Trace x ws
+  unfolding traceOn
+  trace-23 l e h = rw (lt-ltb (length ws / 72) (length ns / 16) l) (ap (λ (y : Rounds). traced y ws) (h ∙ ap (endedAt 0 23) e))
+
+  module _ (l : length ns / 16 ≤ length ws / 72) where
+    pub trace-31 : {c : Clocked} {x : Rounds} → registersFitOn q g ≡ false → c ≡ refused 31 g → x ≡ endedAt 0 31 c → Trace x ws
+    unfolding traceOn
+    trace-31 t e h =
+        rw (le-ltb (length ws / 72) (length ns / 16) l, t) (ap (λ (y : Rounds). traced y ws) (h ∙ ap (endedAt 0 31) e))
+
+    pub trace-25 : {c : Clocked} {x : Rounds} → registersFitOn q g ≡ true → wholeRows ns xs ≡ false → c ≡ refused 25 g → x ≡ endedAt 0 25 c → Trace x ws
+    unfolding traceOn
+    trace-25 t u e h =
+        rw (le-ltb (length ws / 72) (length ns / 16) l, t, u) (ap (λ (y : Rounds). traced y ws) (h ∙ ap (endedAt 0 25) e))
+
+    pub trace-all :
+        {x : Rounds} {us : List ℕ} → registersFitOn q g ≡ true → wholeRows ns xs ≡ true → x ≡ traceRows q f ts numbers g ns xs ws .rounds →
+        us ≡ traceRows q f ts numbers g ns xs ws .words → Trace x us
+    unfolding traceOn
+    trace-all t u e h = rw (le-ltb (length ws / 72) (length ns / 16) l, t, u) (λ i. traced (e i) (h i))

@@ -13,7 +13,8 @@ use nextstate::Registers;
 use plan::Cells;
 use plan::PlanTable;
 ghost use mathlib.Core.Path.{_≡_};
-ghost use Prim.Native.Nat.{_+_, _≤_};
+ghost use Prim.Native.Nat.{_+_, _*_, _/_, _≤_};
+ghost use lib.ListN.{length};
 ghost use Rattle.plan.specs.Plan.{planOf};
 ghost use Rattle.nextstate.specs.CycleRun.{refused};
 ghost use Rattle.clock_steps.specs.Taking.{atMost, stand};
@@ -21,6 +22,7 @@ ghost use Rattle.clock_run.specs.Running.{valuesFit, waitsAt, placesWait
 ghost use Rattle.clock_run.specs.Running.{putItems, handOn, numbersTo, flagsTo, wireNumbersTo, wireFlagsTo, answerOn, cycleOn};
 ghost use Rattle.clock_run.specs.Running.{turnOn};
 ghost use Rattle.clock_run.specs.Rounds.{lastOn, endedAt, roundsOn, cyclesOn};
+ghost use Rattle.clock_run.specs.Traces.{wordOf, putWords, traceRows, traceOn};
 
 // A byte as a place.
 fn wide(b: u8) -> usize
@@ -397,4 +399,120 @@ pub fn cycles<'a>(
         return ended(0, 25, refused(25, before));
     }
     run_rows(plan, lent, table, numbers, before, value, unknown)
+}
+
+// ---- traces: each cycle's registers, places and wires as 72 words
+
+// A byte as a long word.
+fn long(b: u8) -> u64
+    ensures { λ r. ⌜ r ≡ b ⌝ }
+{
+    b as u64
+}
+
+// Word `k` of what a cycle gave: 32 registers, eight places, 32 wires.
+fn word_of(c: Clocked, k: usize) -> u64
+    ensures { λ r. ⌜ r ≡ wordOf c k ⌝ }
+{
+    if k < 32 {
+        return plan_state::marked(c.value[k], c.unknown[k]);
+    }
+    if k < 40 {
+        return long(c.places[k - 32]);
+    }
+    if k < 72 {
+        return plan_state::marked(c.wire[k - 40], c.unsure[k - 40]);
+    }
+    0
+}
+
+// Puts the words of what a cycle gave.
+fn put_row(c: Clocked, at: usize, out: &mut [u64])
+    requires { ⌜ at + 72 ≤ length (now out) ⌝ }
+    ensures { λ _. ⌜ now (out .exit) ≡ putWords c at 72 (now (out .entry)) ⌝ }
+{
+    let mut k: usize = 0;
+    while k < 72 {
+        out[at + k] = word_of(c, k);
+        k += 1;
+    }
+}
+
+// A cycle for each row, up to the first that is refused; what each gave is put.
+fn trace_rows<'a>(
+    plan: &PlanTable,
+    lent: &PlanTable,
+    table: &RowTable,
+    numbers: &RowNumbers,
+    before: Registers,
+    value: &'a [u32],
+    unknown: &'a [bool],
+    out: &mut [u64],
+) -> Rounds
+    requires { ⌜ 72 * (length (now value) / 16) ≤ length (now out) ⌝ }
+    ensures { λ r. ⌜
+        r
+        ≡ traceRows (planOf (now (plan .entry))) (planOf (now (lent .entry)) .node) (now (table .entry)) (now (numbers .entry)) before
+        (now (value .entry)) (now (unknown .entry)) (now (out .entry)) .rounds
+        ⌝ }
+    ensures { λ _. ⌜
+        now (out .exit)
+        ≡ traceRows (planOf (now (plan .entry))) (planOf (now (lent .entry)) .node) (now (table .entry)) (now (numbers .entry)) before
+        (now (value .entry)) (now (unknown .entry)) (now (out .entry)) .words
+        ⌝ }
+{
+    let rows = value.len() / 16;
+    let n = upper(plan);
+    let mut cells = [4294967296u64; 4176];
+    let mut places = before.places;
+    hand(plan, before, &mut cells);
+    let mut last = refused(0, before);
+    let mut r: usize = 0;
+    while r < rows {
+        let at = 16 * r + 1;
+        if !values_fit(plan, 1, n, value, unknown, at) {
+            return ended(r, 25, last);
+        }
+        put_items(n, value, unknown, at, &mut cells);
+        turn(plan, lent, table, numbers, &mut cells, &mut places);
+        settle(plan, &mut cells);
+        last = answer(plan, before, &cells, places);
+        put_row(last, 72 * r, out);
+        r += 1;
+    }
+    ended(r, 0, last)
+}
+
+// Many cycles as `cycles` runs them, and what each of them gave in 72 words of its own; 23 where not so many are lent.
+pub fn trace<'a>(
+    plan: &PlanTable,
+    lent: &PlanTable,
+    table: &RowTable,
+    numbers: &RowNumbers,
+    before: Registers,
+    value: &'a [u32],
+    unknown: &'a [bool],
+    out: &mut [u64],
+) -> Rounds
+    ensures { λ r. ⌜
+        r
+        ≡ traceOn (planOf (now (plan .entry))) (planOf (now (lent .entry)) .node) (now (table .entry)) (now (numbers .entry)) before
+        (now (value .entry)) (now (unknown .entry)) (now (out .entry)) .rounds
+        ⌝ }
+    ensures { λ _. ⌜
+        now (out .exit)
+        ≡ traceOn (planOf (now (plan .entry))) (planOf (now (lent .entry)) .node) (now (table .entry)) (now (numbers .entry)) before
+        (now (value .entry)) (now (unknown .entry)) (now (out .entry)) .words
+        ⌝ }
+{
+    if out.len() / 72 < value.len() / 16 {
+        return ended(0, 23, refused(23, before));
+    }
+    if !registers_fit(plan, before) {
+        return ended(0, 31, refused(31, before));
+    }
+    if !fitting::rows_whole(value, unknown) {
+        return ended(0, 25, refused(25, before));
+    }
+    trace_rows(plan, lent, table, numbers, before, value, unknown, out)
 }
