@@ -200,7 +200,8 @@ module _ (m : Module Expr) (b : Book) (g : Registers) (cs : List ℕ) where
         let u : k < 32 = omega (arith, to-length c 0 (replicate 32 0) W) in
         by k (decLt k W) ∙ sym (getD-listOf (λ k. numberOf (wireValue m b k)) 32 k 0 u))
       where
-        by : (k : ℕ) → Dec (k < W) → getD (setTo (λ k. numberOf (cellAt cs (J + R + k))) W (replicate 32 0)) k 0 ≡ numberOf (wireValue m b k)
+        by : (k : ℕ) → Dec (k < W) → getD (setTo (λ k. numberOf (cellAt cs (J + R + k))) W (replicate 32 0)) k 0
+            ≡ numberOf (wireValue m b k)
         by k (yes o) =
             to-at (λ k. numberOf (cellAt cs (J + R + k))) 0 (replicate 32 0) W k o (omega (arith, length-replicate {A = ℕ} 32 0))
             ∙ ap numberOf (same k o ∙ sym (value-in k o))
@@ -224,7 +225,8 @@ module _ (m : Module Expr) (b : Book) (g : Registers) (cs : List ℕ) where
         by : (k : ℕ) → k < 32 → Dec (k < W) →
             getD (setTo (λ k. isUnknown (cellAt cs (J + R + k))) W (replicate 32 true)) k false ≡ isUnknown (wireValue m b k)
         by k u (yes o) =
-            to-at (λ k. isUnknown (cellAt cs (J + R + k))) false (replicate 32 true) W k o (omega (arith, length-replicate {A = Bool} 32 true))
+            to-at (λ k. isUnknown (cellAt cs (J + R + k))) false (replicate 32 true) W k o
+            (omega (arith, length-replicate {A = Bool} 32 true))
             ∙ ap isUnknown (same k o ∙ sym (value-in k o))
         by k u (no d) =
             to-above (λ k. isUnknown (cellAt cs (J + R + k))) false (replicate 32 true) W k (omega arith)

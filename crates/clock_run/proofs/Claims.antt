@@ -44,7 +44,8 @@ cycles-are-the-runs m z ruled q h ns us rs written y count k ws ls ts ms room g 
     (same-rounds (registersFit m g) (wholeRows vs xs) _ _ _ _
     (λ e. rounds-are m z ruled q h ns us rs written y count k ws ls ts ms room g w vs xs inputs i e))
 
-same-traced : (a s t : Bool) (x y b c e : Traced) → (s ≡ true → x ≡ y) → pick a e (pick s (pick t x b) c) ≡ pick a e (pick s (pick t y b) c)
+same-traced : (a s t : Bool) (x y b c e : Traced) → (s ≡ true → x ≡ y) → pick a e (pick s (pick t x b) c)
+    ≡ pick a e (pick s (pick t y b) c)
 same-traced true s t x y b c e h = refl
 same-traced false true t x y b c e h = ap (λ (u : Traced). pick t u b) (h refl)
 same-traced false false t x y b c e h = refl

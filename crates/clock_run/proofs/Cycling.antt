@@ -40,7 +40,8 @@ use Rattle.clock_steps.proofs.Settling.{Settled, settled, settled-kept}
 use Rattle.clock_steps.proofs.RowNumbers.{most-same, wait-inside}
 use Rattle.clock_steps.proofs.Entries.{nodes-fit, place-lands}
 use Rattle.clock_steps.proofs.Claims.{rise-is-the-books}
-use Rattle.clock_run.specs.Running.{upperOf, putItems, handOn, numbersTo, flagsTo, wireNumbersTo, wireFlagsTo, answerOn, turnOn, settledOn, clockedOn}
+use Rattle.clock_run.specs.Running.{upperOf, putItems, handOn, numbersTo, flagsTo, wireNumbersTo, wireFlagsTo, answerOn, turnOn}
+use Rattle.clock_run.specs.Running.{settledOn, clockedOn}
 use Rattle.clock_run.specs.Claims.{Whole, Ready}
 use Rattle.clock_run.proofs.Holding.{wired, coded, lent}
 use Rattle.clock_run.proofs.Handing.{cells-are, cells-long, register-cell, cells-value}
@@ -124,7 +125,8 @@ module _ (m : Module Expr) (z : Sound m) (q : plan.Plan) (h : Holds m q) (ns us 
       up : Risen m T (book.settled m b) (stand cs (s .places)) (rise q P rows numbers (stand cs (s .places)))
       unfolding RiseIsTheBooks
       up =
-          rise-is-the-books m q (wired m z q h) (coded m z q h) ns us rs written (lent m z q h y) count k ws ls ts ms room (book.settled m b)
+          rise-is-the-books m q (wired m z q h) (coded m z q h) ns us rs written (lent m z q h y) count k ws ls ts ms room
+          (book.settled m b)
           (stand cs (s .places)) stands (waiting (book.settled m b) waits-too)
 
       abbrev t : Stand
@@ -190,7 +192,8 @@ module _ (m : Module Expr) (z : Sound m) (q : plan.Plan) (h : Holds m q) (ns us 
           by true = sym (ap numberOf (value-is r o) ∙ number-cell (c .values (I + r)) (value-small r o))
           by false = number-marked (getD (g .value) r 0) (getD (g .unknown) r false) (w .small r)
 
-      flag-is : (r : ℕ) → r < R → unknownIn (getD ds (I + r) 0) ≡ pick (written? r) (isUnknown (d .values (I + r))) (getD (g .unknown) r false)
+      flag-is : (r : ℕ) → r < R → unknownIn (getD ds (I + r) 0)
+          ≡ pick (written? r) (isUnknown (d .values (I + r))) (getD (g .unknown) r false)
       flag-is r o = ap unknownIn (cell-is r o) ∙ by (written? r)
         where
           by : (u : Bool) →
@@ -232,7 +235,8 @@ module _ (m : Module Expr) (z : Sound m) (q : plan.Plan) (h : Holds m q) (ns us 
             unknown-stored m d g ds flag-is,
             wires-given m d g ds (z .wires-most) wire-is,
             unsure-given m d g ds (z .wires-most) wire-is,
-            places-stored m d g ds (t .places) (x .risen .stands .eight ∙ sym (w .eight)) (omega (arith, w .eight, z .threads-most)) place-is
+            places-stored m d g ds (t .places) (x .risen .stands .eight ∙ sym (w .eight)) (omega (arith, w .eight, z .threads-most))
+                place-is
                 (λ i o. x .risen .past i o ∙ ap (λ (l : List ℕ). getD l i 0) here),
           )
 
@@ -267,4 +271,5 @@ module _ (m : Module Expr) (z : Sound m) (q : plan.Plan) (h : Holds m q) (ns us 
       pub cycle-given : clockedOn q P rows numbers g a ≡ given m (clocked m T g a) g
       unfolding clockedOn settledOn clocked
       cycle-given =
-          given-is g w (handed m g a) first (turnOn q P rows numbers first) (turned (handed m g a) first first-stands first-waits) first-cells refl
+          given-is g w (handed m g a) first (turnOn q P rows numbers first) (turned (handed m g a) first first-stands first-waits)
+          first-cells refl

@@ -33,7 +33,8 @@ use Rattle.clock_steps.specs.Claims.{Lent}
 use Rattle.clock_steps.proofs.Entries.{nodes-fit, register-fits}
 use Rattle.clock_run.proofs.Handing.{handed-clock, handed-input, handed-register}
 
-module _ (m : Module Expr) (z : Sound m) (g : Registers) (a : Inputs) (right : registersFit m g ≡ true) (fit : upperInputsFit m a ≡ true) where
+module _ (m : Module Expr) (z : Sound m) (g : Registers) (a : Inputs) (right : registersFit m g ≡ true)
+    (fit : upperInputsFit m a ≡ true) where
   abbrev I : ℕ
   I = m .scope .inputs
 
@@ -110,7 +111,8 @@ module _ (m : Module Expr) (ns us rs written : List ℕ) (l : Lent m ns us rs wr
       (omega (arith, ltb-true n (length (listOf 4096 (nodeAt ns))) inside, length-listOf (nodeAt ns) 4096)) in
       rw (w, same) at k
 
-  taken-fits : (n u : ℕ) → n ≤ length (m .threads) → u < length (m .scope .widths) → fits (getD (m .scope .widths) u 0) (taken m T b n u) ≡ true
+  taken-fits : (n u : ℕ) → n ≤ length (m .threads) → u < length (m .scope .widths) →
+      fits (getD (m .scope .widths) u 0) (taken m T b n u) ≡ true
   unfolding taken
   taken-fits zero u h o = q u o
   taken-fits (suc i) u h o = by (writes m i u) refl (taken-fits i u (omega arith) o)

@@ -199,7 +199,8 @@ module _ (m : Module Expr) (z : Sound m) (ns : List ℕ) (xs : List Bool) (at : 
 module _ (m : Module Expr) (z : Sound m) (g : Registers) (w : Whole g) (a : Inputs) (fit : upperInputsFit m a ≡ true)
     (ns : List ℕ) (xs : List Bool) (at : ℕ) (items : (v : ℕ) → v < m .scope .inputs - 1 → inputOf a v ≡ valueAt ns xs (at + v))
     (cs : List ℕ) (long : length cs ≡ 4176) (clock : getD cs 0 0 ≡ 1)
-    (mine : (r : ℕ) → r < m .scope .registers → getD cs (m .scope .inputs + r) 0 ≡ marked (getD (g .value) r 0) (getD (g .unknown) r false))
+    (mine : (r : ℕ) → r < m .scope .registers → getD cs (m .scope .inputs + r) 0
+    ≡ marked (getD (g .value) r 0) (getD (g .unknown) r false))
   where
     abbrev ds : List ℕ
     ds = fed m z ns xs at cs long
@@ -232,7 +233,8 @@ module _ (m : Module Expr) (z : Sound m) (g : Registers) (w : Whole g) (a : Inpu
 
 -- ---- the cells before a single cycle
 
-module _ (m : Module Expr) (z : Sound m) (q : Plan) (h : Holds m q) (g : Registers) (w : Whole g) (a : Inputs) (fit : upperInputsFit m a ≡ true) where
+module _ (m : Module Expr) (z : Sound m) (q : Plan) (h : Holds m q) (g : Registers) (w : Whole g) (a : Inputs)
+    (fit : upperInputsFit m a ≡ true) where
   abbrev start : List ℕ
   start = clocked m z q h g
 

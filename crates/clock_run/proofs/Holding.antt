@@ -53,7 +53,9 @@ module _ (m : Module Expr) (z : Sound m) (q : Plan) (h : Holds m q) where
         wires = h .wires;
         few = omega (arith, z .variables, z .inputs-most, z .registers-most, z .wires-most);
         inside = λ k o. omega (arith, z .variables);
-        wire = λ k o. record { nodes = h .wire k o .nodes; flat = h .wire k o .flat; above = h .wire k o .above; room = h .wire k o .room };
+        wire = λ k o.
+            let x = h .wire k o in
+            record { nodes = x .nodes; flat = x .flat; above = x .above; room = x .room };
       }
 
   pub coded : Coded m q
@@ -109,7 +111,8 @@ module _ (m : Module Expr) (z : Sound m) (q : Plan) (h : Holds m q) where
         let e : 0 + r ≡ r = omega arith in
         rw (h .inputs, width-is (m .scope .inputs + r) (omega (arith, z .variables)), e)
 
-    input-same : (v : ℕ) → v < m .scope .inputs - 1 → fits (q .width (1 + v)) (valueAt ns xs (0 + v)) ≡ fits (widthOf m (v + 1)) (valueAt ns xs v)
+    input-same : (v : ℕ) → v < m .scope .inputs - 1 → fits (q .width (1 + v)) (valueAt ns xs (0 + v))
+        ≡ fits (widthOf m (v + 1)) (valueAt ns xs v)
     input-same v o =
         let e : 0 + v ≡ v = omega arith in
         width-same v o (valueAt ns xs (0 + v)) ∙ ap (λ (u : ℕ). fits (widthOf m (v + 1)) (valueAt ns xs u)) e
@@ -123,7 +126,8 @@ module _ (m : Module Expr) (z : Sound m) (q : Plan) (h : Holds m q) where
       (λ r. fits (widthOf m (m .scope .inputs + r)) (valueAt (g .value) (g .unknown) r)) (m .scope .registers)
       (register-same (g .value) (g .unknown)))
       (ap (λ (n : ℕ). allBelow n (λ i. waitsAt q i (getD (g .places) i 0))) (threads-is m q coded)
-      ∙ all-same (λ i. waitsAt q i (getD (g .places) i 0)) (λ i. isWait (instrAt (codeOf m i) (getD (g .places) i 0))) (length (m .threads))
+      ∙ all-same (λ i. waitsAt q i (getD (g .places) i 0)) (λ i. isWait (instrAt (codeOf m i) (getD (g .places) i 0)))
+      (length (m .threads))
       (λ i o. wait-same i (getD (g .places) i 0) o))
 
   -- ---- 25

@@ -106,7 +106,8 @@ module _ {A : Type 0} (c : ℕ → A) (other : A) (xs : List A) where
           ap (set ys n) (e ∙ sym (to-above n n (omega arith))) ∙ set-getD ys n other ∙ p
 
 -- What is put over is put.
-pub to-twice : {A : Type 0} (f : ℕ → A) (other : A) (c : ℕ → A) (n : ℕ) (xs : List A) → n ≤ length xs → setTo f n (setTo c n xs) ≡ setTo f n xs
+pub to-twice : {A : Type 0} (f : ℕ → A) (other : A) (c : ℕ → A) (n : ℕ) (xs : List A) → n ≤ length xs → setTo f n (setTo c n xs)
+    ≡ setTo f n xs
 to-twice f other c n xs l =
     ext-getD other (setTo f n (setTo c n xs)) (setTo f n xs)
     (to-length f other (setTo c n xs) n ∙ to-length c other xs n ∙ sym (to-length f other xs n)) (λ j o. by j (decLt j n))

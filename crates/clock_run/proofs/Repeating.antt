@@ -49,7 +49,8 @@ use Rattle.clock_run.specs.Claims.{Whole, Ready, RowInputs}
 use Rattle.clock_run.proofs.Lists.{setTo, to-length, to-at, to-above, to-twice}
 use Rattle.clock_run.proofs.Answering.{numbers-are, flags-are}
 use Rattle.clock_run.proofs.Holding.{lent, upper-is, width-same}
-use Rattle.clock_run.proofs.Handing.{base, marked-value, handed-past, hand-are, hand-long, hand-clock, hand-register, fed, fed-are, fed-long}
+use Rattle.clock_run.proofs.Handing.{base, marked-value, handed-past, hand-are, hand-long, hand-clock, hand-register, fed}
+use Rattle.clock_run.proofs.Handing.{fed-are, fed-long}
 use Rattle.clock_run.proofs.Handing.{fed-clock, fed-past, fed-value}
 use Rattle.clock_run.proofs.Fits.{handed-fits, first-waits, rise-fits}
 use Rattle.clock_run.proofs.Cycling.{Turned, turned, cell-is, value-small, given-is, next-waits}
@@ -127,7 +128,8 @@ module _ (m : Module Expr) (z : Sound m) (ruled : Ruled m) (q : plan.Plan) (h : 
     unfolding valuesFit upperInputsFit
     row-same r o =
         ap (λ (n : ℕ). allBelow n (λ v. fits (q .width (1 + v)) (valueAt vs xs (rowAt r + v)))) (upper-is m z q h)
-        ∙ all-same (λ v. fits (q .width (1 + v)) (valueAt vs xs (rowAt r + v))) (λ v. fits (widthOf m (v + 1)) (inputOf (inputs r) v)) (I - 1)
+        ∙ all-same (λ v. fits (q .width (1 + v)) (valueAt vs xs (rowAt r + v))) (λ v. fits (widthOf m (v + 1)) (inputOf (inputs r) v))
+        (I - 1)
         (λ v u. width-same m z q h v u (valueAt vs xs (rowAt r + v)) ∙ ap (fits (widthOf m (v + 1))) (sym (given-rows .item r v o u)))
         ∙ sym (ap (λ (t : Bool). t && allBelow (I - 1) (λ v. fits (widthOf m (v + 1)) (inputOf (inputs r) v)))
         (eq-eqb (inputs r .count + 1) I (given-rows .count r)))
@@ -188,7 +190,8 @@ module _ (m : Module Expr) (z : Sound m) (ruled : Ruled m) (q : plan.Plan) (h : 
               ∙ b-past v (omega arith)
               ∙ sym
               (settle-other m (handed m old a .values) v (off v d)
-              ∙ handed-past m old a v (λ e. omega (arith, z .inputs-some, z .variables)) (omega (arith, z .variables)) (omega (arith, z .variables)))
+              ∙ handed-past m old a v (λ e. omega (arith, z .inputs-some, z .variables)) (omega (arith, z .variables))
+              (omega (arith, z .variables)))
 
       book-same : book.settled m b ≡ book.settled m (handed m old a)
       unfolding book.settled handed
@@ -264,7 +267,8 @@ module _ (m : Module Expr) (z : Sound m) (ruled : Ruled m) (q : plan.Plan) (h : 
           rw (value-at j u, flag-at j u)
           (sym
           (again (someThread m (λ i. writes m i (I + j))) (book.rise m T (book.settled m b) .values (I + j)) (getD (c .value) j 0)
-          (getD (c .unknown) j false) (value-small m z q h ns us rs written y count k ws ls ts ms room old (x .whole) b next t turn mine-too (x .places) j u) (x .whole .small j) (getD ds (I + j) 0)
+          (getD (c .unknown) j false) (value-small m z q h ns us rs written y count k ws ls ts ms room old (x .whole) b next t turn
+          mine-too (x .places) j u) (x .whole .small j) (getD ds (I + j) 0)
           (cell-is m z q h ns us rs written y count k ws ls ts ms room old (x .whole) b next t turn mine-too (x .places) j u)))
 
       mine-next : (j : ℕ) → j < R → getD (t .cells) (I + j) 0 ≡ marked (getD (e .value) j 0) (getD (e .unknown) j false)
@@ -349,10 +353,12 @@ module _ (m : Module Expr) (z : Sound m) (ruled : Ruled m) (q : plan.Plan) (h : 
 
       -- ---- what it gives is what the last of r + 1 cycles gave
 
-      numbers-both : numbersTo ds (q .inputs) (atMost 32 (q .registers)) (g .value) ≡ numbersTo ds (q .inputs) (atMost 32 (q .registers)) (c .value)
+      numbers-both : numbersTo ds (q .inputs) (atMost 32 (q .registers)) (g .value)
+          ≡ numbersTo ds (q .inputs) (atMost 32 (q .registers)) (c .value)
       numbers-both = list-is (g .value) ∙ sym (x .numbers-kept F) ∙ sym (list-is (c .value))
 
-      flags-both : flagsTo ds (q .inputs) (atMost 32 (q .registers)) (g .unknown) ≡ flagsTo ds (q .inputs) (atMost 32 (q .registers)) (c .unknown)
+      flags-both : flagsTo ds (q .inputs) (atMost 32 (q .registers)) (g .unknown)
+          ≡ flagsTo ds (q .inputs) (atMost 32 (q .registers)) (c .unknown)
       flags-both = flags-is (g .unknown) ∙ sym (x .flags-kept G) ∙ sym (flags-is (c .unknown))
 
       last-next : lastOn q g (r + 1) t ≡ e
@@ -434,7 +440,8 @@ module _ (m : Module Expr) (z : Sound m) (ruled : Ruled m) (q : plan.Plan) (h : 
         on : upperInputsFit m (inputs r) ≡ true →
             ((d : Clocked) (f : Stand) → Held d f → lastOn q g (r + 1) f ≡ d →
             roundsFrom q P tab numbers g vs xs n (r + 1) f ≡ repeatFrom (clockedIn m T) inputs n (r + 1) d) →
-            pick (valuesFit q 1 vs xs (rowAt r) (upperOf q)) (roundsFrom q P tab numbers g vs xs n (r + 1) (rowOn q P tab numbers g vs xs r s))
+            pick (valuesFit q 1 vs xs (rowAt r) (upperOf q))
+            (roundsFrom q P tab numbers g vs xs n (r + 1) (rowOn q P tab numbers g vs xs r s))
             (endedAt r 25 (lastOn q g r s))
             ≡ pick (eqb (clockedIn m T (registersOf c) (inputs r) .number) 0)
             (repeatFrom (clockedIn m T) inputs n (r + 1) (clockedIn m T (registersOf c) (inputs r)))
@@ -447,7 +454,8 @@ module _ (m : Module Expr) (z : Sound m) (ruled : Ruled m) (q : plan.Plan) (h : 
             (ap (λ (k : ℕ). pick (eqb k 0) (repeatFrom (clockedIn m T) inputs n (r + 1) d) (endedAt r k c)) (number-next r o c s x w)))
 
         off : upperInputsFit m (inputs r) ≡ false →
-            pick (valuesFit q 1 vs xs (rowAt r) (upperOf q)) (roundsFrom q P tab numbers g vs xs n (r + 1) (rowOn q P tab numbers g vs xs r s))
+            pick (valuesFit q 1 vs xs (rowAt r) (upperOf q))
+            (roundsFrom q P tab numbers g vs xs n (r + 1) (rowOn q P tab numbers g vs xs r s))
             (endedAt r 25 (lastOn q g r s))
             ≡ pick (eqb (clockedIn m T (registersOf c) (inputs r) .number) 0)
             (repeatFrom (clockedIn m T) inputs n (r + 1) (clockedIn m T (registersOf c) (inputs r)))
@@ -457,7 +465,8 @@ module _ (m : Module Expr) (z : Sound m) (ruled : Ruled m) (q : plan.Plan) (h : 
         by : (u : Bool) → upperInputsFit m (inputs r) ≡ u →
             ((d : Clocked) (f : Stand) → Held d f → lastOn q g (r + 1) f ≡ d →
             roundsFrom q P tab numbers g vs xs n (r + 1) f ≡ repeatFrom (clockedIn m T) inputs n (r + 1) d) →
-            pick (valuesFit q 1 vs xs (rowAt r) (upperOf q)) (roundsFrom q P tab numbers g vs xs n (r + 1) (rowOn q P tab numbers g vs xs r s))
+            pick (valuesFit q 1 vs xs (rowAt r) (upperOf q))
+            (roundsFrom q P tab numbers g vs xs n (r + 1) (rowOn q P tab numbers g vs xs r s))
             (endedAt r 25 (lastOn q g r s))
             ≡ pick (eqb (clockedIn m T (registersOf c) (inputs r) .number) 0)
             (repeatFrom (clockedIn m T) inputs n (r + 1) (clockedIn m T (registersOf c) (inputs r)))
@@ -472,7 +481,8 @@ module _ (m : Module Expr) (z : Sound m) (ruled : Ruled m) (q : plan.Plan) (h : 
     pub rounds-are : registersFit m g ≡ true →
         roundsFrom q P tab numbers g vs xs (length vs / 16) 0 (stand (handOn q g (base m z q h g)) (g .places))
         ≡ repeatFrom (clockedIn m T) inputs (length vs / 16) 0 (refused 0 g)
-    rounds-are e = rounds-same (length vs / 16) 0 (refused 0 g) (stand (handOn q g (base m z q h g)) (g .places)) (omega arith) (held-first e)
+    rounds-are e = rounds-same (length vs / 16) 0 (refused 0 g) (stand (handOn q g (base m z q h g)) (g .places)) (omega arith)
+        (held-first e)
         first-last
 
     -- ---- with the words of each
@@ -501,8 +511,10 @@ module _ (m : Module Expr) (z : Sound m) (ruled : Ruled m) (q : plan.Plan) (h : 
         Same : Type 0
         Same =
             pick (valuesFit q 1 vs xs (rowAt r) (upperOf q))
-            (traceFrom q P tab numbers g vs xs n (r + 1) (answerOn q g row) row (putRow r (answerOn q g row) us)) (traced (endedAt r 25 c) us)
-            ≡ pick (eqb (d .number) 0) (repeatTrace (clockedIn m T) inputs n (r + 1) d (putRow r d us)) (traced (endedAt r (d .number) c) us)
+            (traceFrom q P tab numbers g vs xs n (r + 1) (answerOn q g row) row (putRow r (answerOn q g row) us))
+            (traced (endedAt r 25 c) us)
+            ≡ pick (eqb (d .number) 0) (repeatTrace (clockedIn m T) inputs n (r + 1) d (putRow r d us))
+            (traced (endedAt r (d .number) c) us)
 
         Next : Type 0
         Next = (e : Clocked) (f : Stand) (vs' : List ℕ) → Held e f →

@@ -19,7 +19,8 @@ use Rattle.nextstate.specs.declared.Clocked.{Clocked}
 use Rattle.nextstate.specs.CycleRun.{refused}
 use Rattle.clock_steps.specs.Settling.{putCell, settle}
 use Rattle.clock_steps.specs.Taking.{Stand, stand, atMost, rise}
-use Rattle.clock_run.specs.Running.{valuesFit, upperOf, registersFitOn, inputsFitOn, putRegisters, putItems, handOn, numbersTo, flagsTo}
+use Rattle.clock_run.specs.Running.{valuesFit, upperOf, registersFitOn, inputsFitOn, putRegisters, putItems, handOn, numbersTo}
+use Rattle.clock_run.specs.Running.{flagsTo}
 use Rattle.clock_run.specs.Running.{wireNumbersTo, wireFlagsTo, answerOn, turnOn, settledOn, clockedOn, cycleOn}
 use Rattle.clock_run.specs.declared.Rounds.{Rounds}
 use Rattle.clock_run.specs.Traces.{wordOf, putWords, putRow, traced, traceFrom, traceRows, traceOn}
@@ -74,7 +75,8 @@ module _ (cs : List ℕ) (first : ℕ) where
   unfolding flagsTo
   flags-none xs = refl
 
-  pub flags-more : (r : ℕ) (xs : List Bool) {ys : List Bool} {a : Bool} → ys ≡ flagsTo cs first r xs → a ≡ unknownIn (getD cs (first + r) 0) →
+  pub flags-more : (r : ℕ) (xs : List Bool) {ys : List Bool} {a : Bool} → ys ≡ flagsTo cs first r xs → a
+      ≡ unknownIn (getD cs (first + r) 0) →
       set ys r a ≡ flagsTo cs first (r + 1) xs
   unfolding flagsTo
   flags-more r xs p e = rw (add-one r, ← p, ← e)
@@ -94,7 +96,8 @@ module _ (cs : List ℕ) (first : ℕ) where
   unsure-none xs = refl
 
   pub unsure-more :
-      (k : ℕ) (xs : List Bool) {ys : List Bool} {b : Value} {a : Bool} → ys ≡ wireFlagsTo cs first k xs → b ≡ valueOf (getD cs (first + k) 0) →
+      (k : ℕ) (xs : List Bool) {ys : List Bool} {b : Value} {a : Bool} → ys ≡ wireFlagsTo cs first k xs → b
+      ≡ valueOf (getD cs (first + k) 0) →
       a ≡ isUnknown b → set ys k a ≡ wireFlagsTo cs first (k + 1) xs
   unfolding wireFlagsTo cellAt
   unsure-more k xs p b e = rw (add-one k, ← p, ← b, ← e)
@@ -102,7 +105,8 @@ module _ (cs : List ℕ) (first : ℕ) where
 -- ---- registersFitOn
 
 pub values-judged :
-    (q : Plan) (g : Registers) {i n : ℕ} {x t : Bool} → i ≡ q .inputs → n ≡ q .registers → x ≡ valuesFit q i (g .value) (g .unknown) 0 n → x ≡ t →
+    (q : Plan) (g : Registers) {i n : ℕ} {x t : Bool} → i ≡ q .inputs → n ≡ q .registers → x
+    ≡ valuesFit q i (g .value) (g .unknown) 0 n → x ≡ t →
     valuesFit q (q .inputs) (g .value) (g .unknown) 0 (q .registers) ≡ t
 values-judged q g {n = n} a b e h =
     sym
@@ -275,7 +279,8 @@ module _ (q : Plan) (f : ℕ → Node) (ts numbers : List ℕ) (g : Registers) (
     trace-31 t e h =
         rw (le-ltb (length ws / 72) (length ns / 16) l, t) (ap (λ (y : Rounds). traced y ws) (h ∙ ap (endedAt 0 31) e))
 
-    pub trace-25 : {c : Clocked} {x : Rounds} → registersFitOn q g ≡ true → wholeRows ns xs ≡ false → c ≡ refused 25 g → x ≡ endedAt 0 25 c → Trace x ws
+    pub trace-25 : {c : Clocked} {x : Rounds} → registersFitOn q g ≡ true → wholeRows ns xs ≡ false → c ≡ refused 25 g → x
+        ≡ endedAt 0 25 c → Trace x ws
     unfolding traceOn
     trace-25 t u e h =
         rw (le-ltb (length ws / 72) (length ns / 16) l, t, u) (ap (λ (y : Rounds). traced y ws) (h ∙ ap (endedAt 0 25) e))

@@ -66,7 +66,8 @@ CyclesAreTheRuns =
     (vs : List ℕ) (xs : List Bool) (inputs : ℕ → Inputs) → RowInputs m vs xs inputs →
     cyclesOn q (plan.nodeAt (copyAll ns us count ws)) (fillRows ns (lowAll ns count ls) rs q written ts) (numberRows q ms) g vs xs
     ≡ pick (registersFit m g)
-    (pick (wholeRows vs xs) (repeatFrom (clockedIn m (tablesIn ns rs)) inputs (length vs / 16) 0 (refused 0 g)) (endedAt 0 25 (refused 25 g)))
+    (pick (wholeRows vs xs) (repeatFrom (clockedIn m (tablesIn ns rs)) inputs (length vs / 16) 0 (refused 0 g))
+    (endedAt 0 25 (refused 25 g)))
     (endedAt 0 31 (refused 31 g))
 
 -- With each cycle's registers, places and wires in words of its own.

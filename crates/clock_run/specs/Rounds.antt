@@ -1,4 +1,5 @@
--- Many cycles on a plan and on tables that are filled, on one plane of cells from row to row. Defined for plans and tables of any contents.
+-- Many cycles on a plan and on tables that are filled, on one plane of cells from row to row. Defined for plans and tables of any
+-- contents.
 use mathlib.Core.Bool.{Bool}
 use mathlib.Core.List.{List}
 use Prim.Native.Nat.{ℕ, zero, suc, _+_, _*_, _/_}

@@ -1,4 +1,5 @@
--- A clock cycle on a plan and on tables that are filled (document 01, "Extraction and the cycle run"): registers and inputs are judged, laid
+-- A clock cycle on a plan and on tables that are filled (document 01, "Extraction and the cycle run"): registers and inputs are
+-- judged, laid
 -- out in a plane of cells, and registers, places and wires taken out again. Defined for plans and tables of any contents.
 use mathlib.Core.Bool.{Bool, true, false, _&&_}
 use mathlib.Core.List.{List}

@@ -54,7 +54,8 @@ module _ (q : Plan) (f : ℕ → Node) (ts numbers : List ℕ) (g : Registers) (
   traceFrom zero r c b ws = traced (endedAt r 0 c) ws
   traceFrom (suc n) r c b ws =
       let t = settledRow r b in
-      pick (rowFits q f ts numbers g ns xs r) (traceFrom n (r + 1) (answerOn q g t) t (putRow r (answerOn q g t) ws)) (traced (endedAt r 25 c) ws)
+      pick (rowFits q f ts numbers g ns xs r) (traceFrom n (r + 1) (answerOn q g t) t (putRow r (answerOn q g t) ws))
+      (traced (endedAt r 25 c) ws)
 
   unfoldable pub traceRows : List ℕ → Traced
   traceRows ws = traceFrom (length ns / 16) 0 (refused 0 g) (stand (handOn q g (replicate 4176 4294967296)) (g .places)) ws

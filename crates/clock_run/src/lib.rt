@@ -375,7 +375,8 @@ fn run_rows<'a>(
     ended(r, 0, last)
 }
 
-// Many cycles by tables that are filled: whole rows of 16 inputs, each with its flag; a cycle for each row, from what the last one left, up
+// Many cycles by tables that are filled: whole rows of 16 inputs, each with its flag; a cycle for each row, from what the last one
+// left, up
 // to the first that is refused.
 pub fn cycles<'a>(
     plan: &PlanTable,

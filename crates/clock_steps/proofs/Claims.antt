@@ -63,5 +63,7 @@ pub rise-is-the-books : RiseIsTheBooks
 unfolding RiseIsTheBooks
 rise-is-the-books m q w c ns us rs written l count k ws ls ts ms r b s st wt =
     rw (copy-all ns us count ws (k .most), low-all ns count ls (k .most))
-    (rise-same m q w c ns us rs written l count k ls (plan.nodeAt (copyTo ns us count ws)) (copies m q w c ns us rs written l count k ws ls ts ms r)
-    (fillRows ns (lowsTo ns count ls) rs q written ts) (numberRows q ms) (filled m q w c ns us rs written l count k ws ls ts ms r) b s st wt)
+    (rise-same m q w c ns us rs written l count k ls (plan.nodeAt (copyTo ns us count ws))
+    (copies m q w c ns us rs written l count k ws ls ts ms r)
+    (fillRows ns (lowsTo ns count ls) rs q written ts) (numberRows q ms) (filled m q w c ns us rs written l count k ws ls ts ms r) b s
+    st wt)

@@ -36,7 +36,8 @@ module _ (q : Plan) (i first : ℕ) where
   unfolding numberTo
   number-more p ns e w r = rw (add-one p, ← e, ← w, ← r)
 
-  pub number-all : (n : ℕ) (ns : List ℕ) {ms : List ℕ} {s p : ℕ} → s ≡ q .size i → n ≡ atMost 256 s → p ≡ n → ms ≡ numberTo q i first p ns →
+  pub number-all : (n : ℕ) (ns : List ℕ) {ms : List ℕ} {s p : ℕ} → s ≡ q .size i → n ≡ atMost 256 s → p ≡ n → ms
+      ≡ numberTo q i first p ns →
       ms ≡ numberThread q i first ns
   unfolding numberThread
   number-all n ns e a p r = r ∙ ap (λ (j : ℕ). numberTo q i first j ns) (p ∙ a ∙ ap (atMost 256) e)

@@ -1,4 +1,5 @@
--- The rise of the clock on a plane of cells is the cycle book's: thread by thread, registers and place take the values of the nodes in the row
+-- The rise of the clock on a plane of cells is the cycle book's: thread by thread, registers and place take the values of the nodes in
+-- the row
 -- of its wait. Assumes nothing.
 use mathlib.Core.Path.{_≡_, refl, sym, ap, _∙_}
 use mathlib.Core.Bool.{Bool, true, false, _||_}
@@ -32,7 +33,8 @@ use Rattle.clock_nodes.specs.Copying.{cellIn, lowsTo}
 use Rattle.clock_nodes.specs.Rows.{rowPlace, entryAt, lowTo, highTo}
 use Rattle.clock_nodes.proofs.Ranges.{Copies, Done, range-done, book-worth, row-low, row-low-place, row-high, row-high-place, row-most}
 use Rattle.clock_steps.specs.Claims.{Wired, Coded, Lent, Counted, Stands, Waiting, Risen}
-use Rattle.clock_steps.specs.Taking.{rowIn, entryCell, workRow, takeRegisters, Taking, taking, placeOf, takeRow, takeThread, takeBelow}
+use Rattle.clock_steps.specs.Taking.{rowIn, entryCell, workRow, takeRegisters, Taking, taking, placeOf, takeRow, takeThread}
+use Rattle.clock_steps.specs.Taking.{takeBelow}
 use Rattle.clock_steps.specs.Taking.{loadTo, storeTo, Stand, stand, atMost, rise}
 use Rattle.clock_steps.proofs.Turns.{risen}
 use Rattle.clock_steps.proofs.Rows.{RowIs}
@@ -43,7 +45,8 @@ use Rattle.clock_steps.proofs.Taking.{marks, taken-length, taken-at, lo
 -- ---- the tables of rows and of their numbers, filled
 
 pub record Filled (m : Module Expr) (ns ls rs written ts numbers : List ℕ) : Type 0 where
-  pub number : (i p : ℕ) → i < length (m .threads) → isWait (instrAt (codeOf m i) p) ≡ true → rowIn numbers i p ≡ rowOf m (tablesIn ns rs) i p
+  pub number : (i p : ℕ) → i < length (m .threads) → isWait (instrAt (codeOf m i) p) ≡ true → rowIn numbers i p
+      ≡ rowOf m (tablesIn ns rs) i p
   pub row : (i p : ℕ) → i < length (m .threads) → isWait (instrAt (codeOf m i) p) ≡ true →
       RowIs ns ls rs ts (rowOf m (tablesIn ns rs) i p) (getD written i 0)
 
@@ -135,7 +138,8 @@ module _ (m : Module Expr) (q : Plan) (w : Wired m q) (code : Coded m q) (ns us 
           ∙ book-worth m ns rs (t .fit) (b .values) (entryAt rs row 32)
           ∙ ap (worth m T (b .values)) (sym (entry-is m ns us rs written l i p o (wt .wait i o) 32))
 
-      register-value : (r : ℕ) → r < 32 → getD mask r false ≡ true → cellAt ds (entryCell ts row r) ≡ worth m T (b .values) (entry m T i p r)
+      register-value : (r : ℕ) → r < 32 → getD mask r false ≡ true → cellAt ds (entryCell ts row r)
+          ≡ worth m T (b .values) (entry m T i p r)
       register-value r h e =
           cell-is r (omega arith)
           ∙ done .right (entryAt rs row r) (register-in m ns us rs written l i p o (wt .wait i o) count k r e)
@@ -180,7 +184,8 @@ module _ (m : Module Expr) (q : Plan) (w : Wired m q) (code : Coded m q) (ns us 
           by false e = rw (marks-is r ∙ e)
 
       news-more : (r : ℕ) → r < R →
-          getD xs r 0 ≡ pick (anyBelow (suc i) (λ j. writes m j (I + r))) (cellOf (taken m T b (suc i) (I + r))) (getD (s .cells) (I + r) 0)
+          getD xs r 0 ≡ pick (anyBelow (suc i) (λ j. writes m j (I + r))) (cellOf (taken m T b (suc i) (I + r)))
+          (getD (s .cells) (I + r) 0)
       unfolding anyBelow
       news-more r u = news-at r u ∙ rw (next-taken r) (by (writes m i (I + r)))
         where

@@ -92,7 +92,8 @@ module _ (q : Plan) where
           getD (numberTo q i (rowsTo q i) (atMost 256 (q .size i)) ms) (256 * j + p) 0 ≡ (rowsTo q j + waitsTo q j p) % 256
       by r (at-end e) =
           rw e
-          (to-same i (rowsTo q i) (atMost 256 (q .size i)) ms (omega (arith, numbers-length i ns, most-most 256 (q .size i))) p (rw e at o))
+          (to-same i (rowsTo q i) (atMost 256 (q .size i)) ms (omega (arith, numbers-length i ns, most-most 256 (q .size i))) p
+          (rw e at o))
       by r (before k) =
           to-other i (rowsTo q i) (atMost 256 (q .size i)) ms (256 * j + p)
           (λ s u e. omega (arith, most-most 256 (q .size i), most-most 256 (q .size j)))

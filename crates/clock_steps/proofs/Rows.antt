@@ -1,4 +1,5 @@
--- The rows of lent tables, filled: each wait's row has the cells of its entries, its range of nodes and the registers that its thread writes.
+-- The rows of lent tables, filled: each wait's row has the cells of its entries, its range of nodes and the registers that its thread
+-- writes.
 -- Assumes nothing.
 use mathlib.Core.Path.{_≡_, refl, sym, ap, _∙_}
 use mathlib.Core.Logic.{_≢_}
@@ -92,20 +93,23 @@ module _ (ns ls rs : List ℕ) where
   put-entry : (row lo hi mask : ℕ) (us : List ℕ) (c : ℕ) → c < 33 →
       getD (putRow row lo hi mask us) (rowPlace row + c) 0 ≡ getD us (rowPlace row + c) 0
   put-entry row lo hi mask us c h =
-      getD-set-other (set (set us (rowPlace row + 33) lo) (rowPlace row + 34) hi) (rowPlace row + 35) (rowPlace row + c) mask 0 (λ e. omega arith)
+      getD-set-other (set (set us (rowPlace row + 33) lo) (rowPlace row + 34) hi) (rowPlace row + 35) (rowPlace row + c) mask 0
+      (λ e. omega arith)
       ∙ getD-set-other (set us (rowPlace row + 33) lo) (rowPlace row + 34) (rowPlace row + c) hi 0 (λ e. omega arith)
       ∙ getD-set-other us (rowPlace row + 33) (rowPlace row + c) lo 0 (λ e. omega arith)
 
   module _ (row lo hi mask : ℕ) (us : List ℕ) (room : rowPlace row + 36 ≤ length us) where
     put-low : getD (putRow row lo hi mask us) (rowPlace row + 33) 0 ≡ lo
     put-low =
-        getD-set-other (set (set us (rowPlace row + 33) lo) (rowPlace row + 34) hi) (rowPlace row + 35) (rowPlace row + 33) mask 0 (λ e. omega arith)
+        getD-set-other (set (set us (rowPlace row + 33) lo) (rowPlace row + 34) hi) (rowPlace row + 35) (rowPlace row + 33) mask 0
+        (λ e. omega arith)
         ∙ getD-set-other (set us (rowPlace row + 33) lo) (rowPlace row + 34) (rowPlace row + 33) hi 0 (λ e. omega arith)
         ∙ getD-set-same us (rowPlace row + 33) lo 0 (omega arith)
 
     put-high : getD (putRow row lo hi mask us) (rowPlace row + 34) 0 ≡ hi
     put-high =
-        getD-set-other (set (set us (rowPlace row + 33) lo) (rowPlace row + 34) hi) (rowPlace row + 35) (rowPlace row + 34) mask 0 (λ e. omega arith)
+        getD-set-other (set (set us (rowPlace row + 33) lo) (rowPlace row + 34) hi) (rowPlace row + 35) (rowPlace row + 34) mask 0
+        (λ e. omega arith)
         ∙ getD-set-same (set us (rowPlace row + 33) lo) (rowPlace row + 34) hi 0 (omega (arith, length-set us (rowPlace row + 33) lo))
 
     put-mask : getD (putRow row lo hi mask us) (rowPlace row + 35) 0 ≡ mask
@@ -159,7 +163,8 @@ module _ (ns ls rs : List ℕ) where
   from-length mask first zero ts = refl
   from-length mask first (suc n) ts = fill-length (first + n) mask (fillFrom ns ls rs mask first n ts) ∙ from-length mask first n ts
 
-  from-below : (mask first n : ℕ) (ts : List ℕ) (row old : ℕ) → row < first → RowIs ts row old → RowIs (fillFrom ns ls rs mask first n ts) row old
+  from-below : (mask first n : ℕ) (ts : List ℕ) (row old : ℕ) → row < first → RowIs ts row old →
+      RowIs (fillFrom ns ls rs mask first n ts) row old
   unfolding fillFrom
   from-below mask first zero ts row old h x = x
   from-below mask first (suc n) ts row old h x =

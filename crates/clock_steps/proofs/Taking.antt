@@ -106,7 +106,8 @@ module _ (news : List ℕ) (first : ℕ) (cs : List ℕ) where
       ∙ length-set (storeTo news first n cs) (first + n) _
       ∙ store-length n (omega arith)
 
-  pub store-other : (n : ℕ) → first + n ≤ 80 → (v : ℕ) → ((r : ℕ) → r < n → v ≢ first + r) → getD (storeTo news first n cs) v 0 ≡ getD cs v 0
+  pub store-other : (n : ℕ) → first + n ≤ 80 → (v : ℕ) → ((r : ℕ) → r < n → v ≢ first + r) → getD (storeTo news first n cs) v 0
+      ≡ getD cs v 0
   unfolding storeTo
   store-other zero h v d = refl
   store-other (suc n) h v d =
@@ -124,6 +125,7 @@ module _ (news : List ℕ) (first : ℕ) (cs : List ℕ) where
       xs : List ℕ
       xs = storeTo news first n cs
 
-      by : (j < n → getD xs (first + j) 0 ≡ getD news j 0) → Below n j → getD (set xs (first + n) (getD news n 0)) (first + j) 0 ≡ getD news j 0
+      by : (j < n → getD xs (first + j) 0 ≡ getD news j 0) → Below n j → getD (set xs (first + n) (getD news n 0)) (first + j) 0
+          ≡ getD news j 0
       by r (at-end e) = rw e (getD-set-same xs (first + n) (getD news n 0) 0 (omega (arith, store-length n (omega arith))))
       by r (before u) = getD-set-other xs (first + n) (first + j) _ 0 (λ e. omega arith) ∙ r u

@@ -1,4 +1,5 @@
--- What is claimed of a cycle on a plane of cells: on the plan of a module, with tables filled from lent ones that fit, the rise of the clock
+-- What is claimed of a cycle on a plane of cells: on the plan of a module, with tables filled from lent ones that fit, the rise of the
+-- clock
 -- is the cycle book's (document 01, "Extraction and the cycle run"). proofs/Claims shows it.
 use mathlib.Core.Path.{_≡_}
 use mathlib.Core.Bool.{true, false}
@@ -57,7 +58,8 @@ pub record Lent (m : Module Expr) (ns us rs written : List ℕ) : Type 0 where
   pub registers : m .scope .registers ≤ 32
   pub inside : m .scope .inputs + m .scope .registers ≤ variables m
   pub writers : (i r : ℕ) → i < length (m .threads) → getD (bits (getD written i 0)) r false ≡ writes m i (m .scope .inputs + r)
-  pub only : (i v : ℕ) → i < length (m .threads) → writes m i v ≡ true → (m .scope .inputs ≤ v) × (v < m .scope .inputs + m .scope .registers)
+  pub only : (i v : ℕ) → i < length (m .threads) → writes m i v ≡ true →
+      (m .scope .inputs ≤ v) × (v < m .scope .inputs + m .scope .registers)
 
 -- So many nodes are copied that every entry is one of them, or none of the 4,096.
 pub record Counted (rs : List ℕ) (count : ℕ) : Type 0 where
@@ -84,7 +86,8 @@ pub record Waiting (m : Module Expr) (T : Tables) (b : book.Book) : Type 0 where
   pub wait : (i : ℕ) → i < length (m .threads) → isWait (instrAt (codeOf m i) (b .places i)) ≡ true
   pub byte : (i : ℕ) → i < length (m .threads) → book.nextPlace m T b i < 256
 
--- The book's rise: a register that some thread writes has its value's cell; every other variable's cell stays, and places past the threads.
+-- The book's rise: a register that some thread writes has its value's cell; every other variable's cell stays, and places past the
+-- threads.
 pub record Risen (m : Module Expr) (T : Tables) (b : book.Book) (s t : Stand) : Type 0 where
   pub stands : Stands m (book.rise m T b) t
   pub cell : (v : ℕ) → v < 80 →

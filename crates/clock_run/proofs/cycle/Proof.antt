@@ -36,8 +36,10 @@ returns-3 c =
     let j = i .before .before in
     let a = j .before .before .args in
     cycled (planOf (a .plan .now)) (nodeAt (a .lent .now)) (a .table .now) (a .numbers .now) (a .before) (a .t6)
-    (sym (j .before .registers-fit .ensures) ∙ not-false _ (j .if1 .left)) (sym (i .before .inputs-fit .ensures) ∙ not-false _ (i .if2 .left))
-    (u .upper .ensures .0) (h .hand .ensures) (p .put-items .ensures) (s .settle .ensures) (r .rise .ensures) (c .before .before .settle2 .ensures)
+    (sym (j .before .registers-fit .ensures) ∙ not-false _ (j .if1 .left))
+    (sym (i .before .inputs-fit .ensures) ∙ not-false _ (i .if2 .left))
+    (u .upper .ensures .0) (h .hand .ensures) (p .put-items .ensures) (s .settle .ensures) (r .rise .ensures)
+    (c .before .before .settle2 .ensures)
     (c .answer .ensures)
 
 pub cycle-spec : {M : Type 1} → statement M

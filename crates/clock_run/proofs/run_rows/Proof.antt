@@ -33,7 +33,8 @@ loop-holds c =
       c .before .before .before .upper .ensures .1,
       refl,
       c .before .before .before .upper .ensures .0,
-      rest-first (planOf (a .plan .now)) (nodeAt (a .lent .now)) (a .table .now) (a .numbers .now) (a .before) (a .value .now) (a .unknown .now) _
+      rest-first (planOf (a .plan .now)) (nodeAt (a .lent .now)) (a .table .now) (a .numbers .now) (a .before) (a .value .now)
+          (a .unknown .now) _
           (c .hand .ensures),
     )
 
@@ -49,9 +50,12 @@ returns c =
     let l = v .before .before in
     let a = l .before .before .before .before .before .before .before .args in
     let i = l .loop .inv in
-    rest-off (planOf (a .plan .now)) (nodeAt (a .lent .now)) (a .table .now) (a .numbers .now) (a .before) (a .value .now) (a .unknown .now) _
-    (l .loop .r) (stand (l .loop .cells) (l .loop .places)) (i .5) (v .before .loop-test .taken) (omega (arith, v .before .loop-test .taken)) (i .4) _ _
-    (sym (v .values-fit .ensures) ∙ not-true _ (c .before .before .before .if1 .taken)) (c .before .last-of .ensures) (c .ended .ensures) (i .3)
+    rest-off (planOf (a .plan .now)) (nodeAt (a .lent .now)) (a .table .now) (a .numbers .now) (a .before) (a .value .now)
+    (a .unknown .now) _
+    (l .loop .r) (stand (l .loop .cells) (l .loop .places)) (i .5) (v .before .loop-test .taken)
+    (omega (arith, v .before .loop-test .taken)) (i .4) _ _
+    (sym (v .values-fit .ensures) ∙ not-true _ (c .before .before .before .if1 .taken)) (c .before .last-of .ensures)
+    (c .ended .ensures) (i .3)
 
 loop-again : tie.Need-loop-again Inv-loop μ-loop
 loop-again c =
@@ -65,8 +69,10 @@ loop-again c =
       i .2,
       i .3,
       i .4,
-      rest-on (planOf (a .plan .now)) (nodeAt (a .lent .now)) (a .table .now) (a .numbers .now) (a .before) (a .value .now) (a .unknown .now) _
-          (l .loop .r) (stand (l .loop .cells) (l .loop .places)) (i .5) (v .before .loop-test .taken) (omega (arith, v .before .loop-test .taken)) (i .4)
+      rest-on (planOf (a .plan .now)) (nodeAt (a .lent .now)) (a .table .now) (a .numbers .now) (a .before) (a .value .now)
+          (a .unknown .now) _
+          (l .loop .r) (stand (l .loop .cells) (l .loop .places)) (i .5) (v .before .loop-test .taken)
+          (omega (arith, v .before .loop-test .taken)) (i .4)
           (sym (v .values-fit .ensures) ∙ not-false _ (p .before .before .if1 .left)) (p .put-items .ensures) (c .turn .ensures),
     )
 
@@ -75,8 +81,10 @@ returns-2 c =
     let l = c .before .before .before .before in
     let a = l .before .before .before .before .before .before .before .args in
     let i = l .loop .inv in
-    rest-end (planOf (a .plan .now)) (nodeAt (a .lent .now)) (a .table .now) (a .numbers .now) (a .before) (a .value .now) (a .unknown .now) _
-    (l .loop .r) (stand (l .loop .cells) (l .loop .places)) (i .5) _ _ (omega (arith, c .before .before .before .loop-test .left)) (c .before .last-of2 .ensures)
+    rest-end (planOf (a .plan .now)) (nodeAt (a .lent .now)) (a .table .now) (a .numbers .now) (a .before) (a .value .now)
+    (a .unknown .now) _
+    (l .loop .r) (stand (l .loop .cells) (l .loop .places)) (i .5) _ _ (omega (arith, c .before .before .before .loop-test .left))
+    (c .before .last-of2 .ensures)
     (c .ended2 .ensures) (i .3)
 
 pub run-rows-spec : {M : Type 1} → statement M

@@ -13,7 +13,8 @@ returns : tie.Need-returns
 returns c =
     let i = c .before .before in
     let a = i .before .before .before .before .args in
-    let e = trace-23 (planOf (a .plan .now)) (nodeAt (a .lent .now)) (a .table .now) (a .numbers .now) (a .before) (a .value .now) (a .unknown .now) (a .out .now) (i .if1 .taken) (c .before .refused .ensures) (c .ended .ensures) in
+    let e = trace-23 (planOf (a .plan .now)) (nodeAt (a .lent .now)) (a .table .now) (a .numbers .now) (a .before) (a .value .now)
+    (a .unknown .now) (a .out .now) (i .if1 .taken) (c .before .refused .ensures) (c .ended .ensures) in
     (ap (λ (t : Traced). t .rounds) e, ap (λ (t : Traced). t .words) e)
 
 returns-2 : tie.Need-returns-2
@@ -22,7 +23,8 @@ returns-2 c =
     let i = r .before in
     let a = i .before .before .before .before .args in
     let e =
-    trace-31 (planOf (a .plan .now)) (nodeAt (a .lent .now)) (a .table .now) (a .numbers .now) (a .before) (a .value .now) (a .unknown .now) (a .out .now) (i .if1 .left)
+    trace-31 (planOf (a .plan .now)) (nodeAt (a .lent .now)) (a .table .now) (a .numbers .now) (a .before) (a .value .now)
+    (a .unknown .now) (a .out .now) (i .if1 .left)
     (sym (r .registers-fit .ensures) ∙ not-true _ (c .before .before .if2 .taken)) (c .before .refused2 .ensures) (c .ended2 .ensures) in
     (ap (λ (t : Traced). t .rounds) e, ap (λ (t : Traced). t .words) e)
 
@@ -33,8 +35,10 @@ returns-3 c =
     let i = j .before .before in
     let a = i .before .before .before .before .args in
     let e =
-    trace-25 (planOf (a .plan .now)) (nodeAt (a .lent .now)) (a .table .now) (a .numbers .now) (a .before) (a .value .now) (a .unknown .now) (a .out .now) (i .if1 .left)
-    (sym (j .before .registers-fit .ensures) ∙ not-false _ (j .if2 .left)) (sym (w .rows-whole .ensures) ∙ not-true _ (c .before .before .if3 .taken))
+    trace-25 (planOf (a .plan .now)) (nodeAt (a .lent .now)) (a .table .now) (a .numbers .now) (a .before) (a .value .now)
+    (a .unknown .now) (a .out .now) (i .if1 .left)
+    (sym (j .before .registers-fit .ensures) ∙ not-false _ (j .if2 .left))
+    (sym (w .rows-whole .ensures) ∙ not-true _ (c .before .before .if3 .taken))
     (c .before .refused3 .ensures) (c .ended3 .ensures) in
     (ap (λ (t : Traced). t .rounds) e, ap (λ (t : Traced). t .words) e)
 
@@ -46,7 +50,8 @@ returns-4 c =
     let i = j .before .before in
     let a = i .before .before .before .before .args in
     let e =
-    trace-all (planOf (a .plan .now)) (nodeAt (a .lent .now)) (a .table .now) (a .numbers .now) (a .before) (a .value .now) (a .unknown .now) (a .out .now) (i .if1 .left)
+    trace-all (planOf (a .plan .now)) (nodeAt (a .lent .now)) (a .table .now) (a .numbers .now) (a .before) (a .value .now)
+    (a .unknown .now) (a .out .now) (i .if1 .left)
     (sym (j .before .registers-fit .ensures) ∙ not-false _ (j .if2 .left)) (sym (w .rows-whole .ensures) ∙ not-false _ (k .if3 .left))
     (c .before .before .trace-rows .ensures .0) (c .before .before .trace-rows .ensures .1) in
     (ap (λ (t : Traced). t .rounds) e, ap (λ (t : Traced). t .words) e)

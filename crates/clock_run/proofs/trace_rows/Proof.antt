@@ -40,7 +40,8 @@ loop-holds c =
       omega (arith, f .pre, f .good .1 .1 .1 .1 .1 .1 .1 .0 .0),
       refl,
       c .before .before .before .before .upper .ensures .0,
-      left-first (planOf (a .plan .now)) (nodeAt (a .lent .now)) (a .table .now) (a .numbers .now) (a .before) (a .value .now) (a .unknown .now) (a .out .now) _ (c .before .hand .ensures) (c .refused .ensures),
+      left-first (planOf (a .plan .now)) (nodeAt (a .lent .now)) (a .table .now) (a .numbers .now) (a .before) (a .value .now)
+          (a .unknown .now) (a .out .now) _ (c .before .hand .ensures) (c .refused .ensures),
     )
 
 mul-at : tie.Need-mul-at Inv-loop μ-loop
@@ -56,7 +57,8 @@ returns c =
     let a = l .before .before .before .before .before .before .before .before .before .args in
     let i = l .loop .inv in
     let e =
-    left-off (planOf (a .plan .now)) (nodeAt (a .lent .now)) (a .table .now) (a .numbers .now) (a .before) (a .value .now) (a .unknown .now) (a .out .now) _ (l .loop .r) (l .loop .last) (stand (l .loop .cells) (l .loop .places)) (l .loop .out) (i .8)
+    left-off (planOf (a .plan .now)) (nodeAt (a .lent .now)) (a .table .now) (a .numbers .now) (a .before) (a .value .now)
+    (a .unknown .now) (a .out .now) _ (l .loop .r) (l .loop .last) (stand (l .loop .cells) (l .loop .places)) (l .loop .out) (i .8)
     (v .before .loop-test .taken) (omega (arith, v .before .loop-test .taken)) (i .7) _
     (sym (v .values-fit .ensures) ∙ not-true _ (c .before .if1 .taken)) (c .ended .ensures) (i .6) in
     (ap (λ (t : Traced). t .rounds) e, ap (λ (t : Traced). t .words) e)
@@ -84,9 +86,11 @@ loop-again c =
       i .5,
       i .6,
       i .7,
-      left-on (planOf (a .plan .now)) (nodeAt (a .lent .now)) (a .table .now) (a .numbers .now) (a .before) (a .value .now) (a .unknown .now) (a .out .now) _ (l .loop .r) (l .loop .last) (stand (l .loop .cells) (l .loop .places)) (l .loop .out) (i .8)
+      left-on (planOf (a .plan .now)) (nodeAt (a .lent .now)) (a .table .now) (a .numbers .now) (a .before) (a .value .now)
+          (a .unknown .now) (a .out .now) _ (l .loop .r) (l .loop .last) (stand (l .loop .cells) (l .loop .places)) (l .loop .out) (i .8)
           (v .before .loop-test .taken) (omega (arith, v .before .loop-test .taken)) (i .7)
-          (sym (v .values-fit .ensures) ∙ not-false _ (p .before .before .if1 .left)) (p .put-items .ensures) (t .turn .ensures) (s .settle .ensures)
+          (sym (v .values-fit .ensures) ∙ not-false _ (p .before .before .if1 .left)) (p .put-items .ensures) (t .turn .ensures)
+          (s .settle .ensures)
           (w .answer .ensures) (c .before .before .put-row .ensures),
     )
 
@@ -96,7 +100,8 @@ returns-2 c =
     let a = l .before .before .before .before .before .before .before .before .before .args in
     let i = l .loop .inv in
     let e =
-    left-end (planOf (a .plan .now)) (nodeAt (a .lent .now)) (a .table .now) (a .numbers .now) (a .before) (a .value .now) (a .unknown .now) (a .out .now) _ (l .loop .r) (l .loop .last) (stand (l .loop .cells) (l .loop .places)) (l .loop .out) (i .8) _
+    left-end (planOf (a .plan .now)) (nodeAt (a .lent .now)) (a .table .now) (a .numbers .now) (a .before) (a .value .now)
+    (a .unknown .now) (a .out .now) _ (l .loop .r) (l .loop .last) (stand (l .loop .cells) (l .loop .places)) (l .loop .out) (i .8) _
     (omega (arith, c .before .loop-test .left)) (c .ended2 .ensures) (i .6) in
     (ap (λ (t : Traced). t .rounds) e, ap (λ (t : Traced). t .words) e)
 

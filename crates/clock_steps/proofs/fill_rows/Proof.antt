@@ -4,7 +4,8 @@ use Prim.Native.Nat.{_-_, _*_, _≤_}
 use native.Mathlib.Omega.{arith}
 use Rattle.plan.specs.Plan.{planOf}
 use Rattle.clock_steps.specs.Numbers.{rowsTo, numbersTo, fillBelow}
-use Rattle.clock_steps.proofs.Numbers.{rows-none, rows-more, numbers-none, numbers-more, numbers-all, below-none, below-more, below-all}
+use Rattle.clock_steps.proofs.Numbers.{rows-none, rows-more, numbers-none, numbers-more, numbers-all, below-none, below-more}
+use Rattle.clock_steps.proofs.Numbers.{below-all}
 use borrow.Author.Needs.{needs}
 use Rattle.clock_steps.proofs.fill_rows.Statement.{statement}
 use Rattle.clock_steps.proofs.fill_rows.Tie as tie

@@ -26,7 +26,8 @@ loop-again c =
     let i = c .before .before .before .before .loop .inv in (
       omega arith,
       omega arith,
-      fill-more (a .nodes .now) (a .lows .now) (a .rows .now) (a .written) (a .first) _ _ (i .0) (i .2) (c .before .before .row-of .ensures)
+      fill-more (a .nodes .now) (a .lows .now) (a .rows .now) (a .written) (a .first) _ _ (i .0) (i .2)
+          (c .before .before .row-of .ensures)
           (c .fill-row .ensures),
     )
 
