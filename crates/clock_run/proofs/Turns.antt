@@ -23,7 +23,7 @@ use Rattle.clock_run.specs.Running.{valuesFit, upperOf, registersFitOn, 
 use Rattle.clock_run.specs.Running.{flagsTo}
 use Rattle.clock_run.specs.Running.{wireNumbersTo, wireFlagsTo, answerOn, turnOn, settledOn, clockedOn, cycleOn}
 use Rattle.clock_run.specs.declared.Rounds.{Rounds}
-use Rattle.clock_run.specs.Traces.{wordOf, putWords, putRow, traced, traceFrom, traceRows, traceOn}
+use Rattle.clock_run.specs.Traces.{wordOf, putWords, putRow, Traced, traced, traceFrom, traceRows, traceOn}
 use Rattle.clock_run.specs.Rounds.{lastOn, endedAt, rowAt, rowFits, rowOn, roundsFrom, roundsOn, cyclesOn}
 
 -- ---- upperOf
@@ -264,6 +264,9 @@ module _ (q : Plan) (f : ℕ → Node) (ts numbers : List ℕ) (g : Registers) (
           ∙ (rw (s, rw up at t) at left)
 
 -- ---- traceOn
+
+pub parts : {x : Rounds} {us : List ℕ} {t : Traced} → traced x us ≡ t → (x ≡ t .rounds) × (us ≡ t .words)
+parts e = (ap (λ (t : Traced). t .rounds) e, ap (λ (t : Traced). t .words) e)
 
 module _ (q : Plan) (f : ℕ → Node) (ts numbers : List ℕ) (g : Registers) (ns : List ℕ) (xs : List Bool) (ws : List ℕ) where
   abbrev Trace : Rounds → List ℕ → Type 0

@@ -17,7 +17,7 @@ ghost use Prim.Native.Nat.{_+_, _*_, _/_, _≤_};
 ghost use lib.ListN.{length};
 ghost use Rattle.plan.specs.Plan.{planOf};
 ghost use Rattle.nextstate.specs.CycleRun.{refused};
-ghost use Rattle.clock_steps.specs.Taking.{atMost, stand};
+ghost use Rattle.clock_steps.specs.Taking.{stand};
 ghost use Rattle.clock_run.specs.Running.{valuesFit, waitsAt, placesWait, upperOf, registersFitOn, inputsFitOn, putRegisters};
 ghost use Rattle.clock_run.specs.Running.{putItems, handOn, numbersTo, flagsTo, wireNumbersTo, wireFlagsTo, answerOn, cycleOn};
 ghost use Rattle.clock_run.specs.Running.{turnOn};

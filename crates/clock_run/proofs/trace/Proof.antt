@@ -1,10 +1,8 @@
 -- `clock_run::trace` meets its contract. Assumes nothing.
-use mathlib.Core.Path.{_≡_, sym, ap, _∙_}
-use native.Mathlib.Omega.{arith}
+use mathlib.Core.Path.{sym, _∙_}
 use borrow.Author.Tests.{not-true, not-false}
 use Rattle.plan.specs.Plan.{planOf, nodeAt}
-use Rattle.clock_run.specs.Traces.{Traced}
-use Rattle.clock_run.proofs.Turns.{trace-23, trace-31, trace-25, trace-all}
+use Rattle.clock_run.proofs.Turns.{trace-23, trace-31, trace-25, trace-all, parts}
 use borrow.Author.Needs.{needs}
 use Rattle.clock_run.proofs.trace.Statement.{statement}
 use Rattle.clock_run.proofs.trace.Tie as tie
@@ -15,7 +13,7 @@ returns c =
     let a = i .before .before .before .before .args in
     let e = trace-23 (planOf (a .plan .now)) (nodeAt (a .lent .now)) (a .table .now) (a .numbers .now) (a .before) (a .value .now)
     (a .unknown .now) (a .out .now) (i .if1 .taken) (c .before .refused .ensures) (c .ended .ensures) in
-    (ap (λ (t : Traced). t .rounds) e, ap (λ (t : Traced). t .words) e)
+    parts e
 
 returns-2 : tie.Need-returns-2
 returns-2 c =
@@ -26,7 +24,7 @@ returns-2 c =
     trace-31 (planOf (a .plan .now)) (nodeAt (a .lent .now)) (a .table .now) (a .numbers .now) (a .before) (a .value .now)
     (a .unknown .now) (a .out .now) (i .if1 .left)
     (sym (r .registers-fit .ensures) ∙ not-true _ (c .before .before .if2 .taken)) (c .before .refused2 .ensures) (c .ended2 .ensures) in
-    (ap (λ (t : Traced). t .rounds) e, ap (λ (t : Traced). t .words) e)
+    parts e
 
 returns-3 : tie.Need-returns-3
 returns-3 c =
@@ -40,7 +38,7 @@ returns-3 c =
     (sym (j .before .registers-fit .ensures) ∙ not-false _ (j .if2 .left))
     (sym (w .rows-whole .ensures) ∙ not-true _ (c .before .before .if3 .taken))
     (c .before .refused3 .ensures) (c .ended3 .ensures) in
-    (ap (λ (t : Traced). t .rounds) e, ap (λ (t : Traced). t .words) e)
+    parts e
 
 returns-4 : tie.Need-returns-4
 returns-4 c =
@@ -54,7 +52,7 @@ returns-4 c =
     (a .unknown .now) (a .out .now) (i .if1 .left)
     (sym (j .before .registers-fit .ensures) ∙ not-false _ (j .if2 .left)) (sym (w .rows-whole .ensures) ∙ not-false _ (k .if3 .left))
     (c .before .before .trace-rows .ensures .0) (c .before .before .trace-rows .ensures .1) in
-    (ap (λ (t : Traced). t .rounds) e, ap (λ (t : Traced). t .words) e)
+    parts e
 
 pub trace-spec : {M : Type 1} → statement M
 trace-spec =

@@ -7,8 +7,7 @@ use lib.ListN.{length}
 use Rattle.plan.specs.Plan.{planOf, nodeAt}
 use Rattle.clock_steps.specs.Taking.{stand}
 use Rattle.clock_run.specs.Running.{upperOf}
-use Rattle.clock_run.specs.Traces.{Traced}
-use Rattle.clock_run.proofs.Turns.{Left, left-first, left-end, left-off, left-on, words-length}
+use Rattle.clock_run.proofs.Turns.{Left, left-first, left-end, left-off, left-on, words-length, parts}
 use borrow.Author.Needs.{needs}
 use Rattle.clock_run.proofs.trace_rows.Statement.{statement}
 use Rattle.clock_run.proofs.trace_rows.Tie as tie
@@ -61,7 +60,7 @@ returns c =
     (a .unknown .now) (a .out .now) _ (l .loop .r) (l .loop .last) (stand (l .loop .cells) (l .loop .places)) (l .loop .out) (i .8)
     (v .before .loop-test .taken) (omega (arith, v .before .loop-test .taken)) (i .7) _
     (sym (v .values-fit .ensures) ∙ not-true _ (c .before .if1 .taken)) (c .ended .ensures) (i .6) in
-    (ap (λ (t : Traced). t .rounds) e, ap (λ (t : Traced). t .words) e)
+    parts e
 
 add-r : tie.Need-add-r Inv-loop μ-loop
 add-r c =
@@ -103,7 +102,7 @@ returns-2 c =
     left-end (planOf (a .plan .now)) (nodeAt (a .lent .now)) (a .table .now) (a .numbers .now) (a .before) (a .value .now)
     (a .unknown .now) (a .out .now) _ (l .loop .r) (l .loop .last) (stand (l .loop .cells) (l .loop .places)) (l .loop .out) (i .8) _
     (omega (arith, c .before .loop-test .left)) (c .ended2 .ensures) (i .6) in
-    (ap (λ (t : Traced). t .rounds) e, ap (λ (t : Traced). t .words) e)
+    parts e
 
 pub trace-rows-spec : {M : Type 1} → statement M
 trace-rows-spec =
