@@ -1,3 +1,9 @@
 pub mod Turns
 pub mod Settling
 pub mod Numbers
+pub mod Rows
+pub mod RowNumbers
+pub mod Entries
+pub mod Taking
+pub mod Rising
+pub mod Claims

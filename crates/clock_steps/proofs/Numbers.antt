@@ -2,14 +2,16 @@
 use mathlib.Core.Path.{_≡_, refl, ap, _∙_}
 use mathlib.Core.Bool.{Bool}
 use mathlib.Core.List.{List}
-use Prim.Native.Nat.{ℕ, _+_, _*_, _%_}
+use Prim.Native.Nat.{ℕ, suc, _+_, _-_, _*_, _%_, _≤_}
 use native.Mathlib.Numerals.{add-one}
 use native.Mathlib.Omega.{arith}
-use lib.ListN.{set}
+use lib.ListN.{getD, set}
 use Rattle.plan.specs.Plan.{Plan}
 use Rattle.nextstate.specs.Rules.{one}
+use Rattle.clock_nodes.specs.Rows.{fillRow}
 use Rattle.clock_steps.specs.Taking.{atMost}
 use Rattle.clock_steps.specs.Numbers.{waitsTo, waitsIn, numberTo, numberThread, rowsTo, numbersTo, numberRows}
+use Rattle.clock_steps.specs.Numbers.{fillFrom, fillBelow, fillRows}
 
 module _ (q : Plan) (i first : ℕ) where
   pub waits-none : first ≡ first + waitsTo q i 0
@@ -34,7 +36,8 @@ module _ (q : Plan) (i first : ℕ) where
   unfolding numberTo
   number-more p ns e w r = rw (add-one p, ← e, ← w, ← r)
 
-  pub number-all : (n : ℕ) (ns : List ℕ) {ms : List ℕ} {s p : ℕ} → s ≡ q .size i → n ≡ atMost 256 s → p ≡ n → ms ≡ numberTo q i first p ns →
+  pub number-all : (n : ℕ) (ns : List ℕ) {ms : List ℕ} {s p : ℕ} → s ≡ q .size i → n ≡ atMost 256 s → p ≡ n → ms
+      ≡ numberTo q i first p ns →
       ms ≡ numberThread q i first ns
   unfolding numberThread
   number-all n ns e a p r = r ∙ ap (λ (j : ℕ). numberTo q i first j ns) (p ∙ a ∙ ap (atMost 256) e)
@@ -66,3 +69,40 @@ module _ (q : Plan) where
       ms ≡ numberRows q ns
   unfolding numberRows
   numbers-all n ns e a p r = r ∙ ap (λ (j : ℕ). numbersTo q j ns) (p ∙ a ∙ ap (atMost 8) e)
+
+-- ---- the rows of a thread, and of all threads
+
+module _ (ns ls rs : List ℕ) where
+  pub fill-none : (mask first : ℕ) (ts : List ℕ) → ts ≡ fillFrom ns ls rs mask first (first - first) ts
+  unfolding fillFrom
+  fill-none mask first ts =
+      let e : first - first ≡ 0 = omega arith in
+      rw e
+
+  pub fill-more :
+      (mask first k : ℕ) (ts : List ℕ) {us vs : List ℕ} {row : ℕ} → first ≤ k → us ≡ fillFrom ns ls rs mask first (k - first) ts →
+      row ≡ k → vs ≡ fillRow ns ls rs row mask us → vs ≡ fillFrom ns ls rs mask first (k + 1 - first) ts
+  unfolding fillFrom
+  fill-more mask first k ts h e r s =
+      let n : k + 1 - first ≡ suc (k - first) = omega arith in
+      let o : first + (k - first) ≡ k = omega arith in
+      rw (n, o, ← e) (s ∙ rw r)
+
+  module _ (q : Plan) (written : List ℕ) where
+    pub below-none : (ts : List ℕ) → ts ≡ fillBelow ns ls rs q written 0 ts
+    unfolding fillBelow
+    below-none ts = refl
+
+    pub below-more :
+        (i : ℕ) (ts : List ℕ) {us vs : List ℕ} {k l : ℕ} → us ≡ fillBelow ns ls rs q written i ts → k ≡ rowsTo q i → l ≡ k + waitsIn q i →
+        vs ≡ fillFrom ns ls rs (getD written i 0) k (l - k) us → vs ≡ fillBelow ns ls rs q written (i + 1) ts
+    unfolding fillBelow
+    below-more i ts {k = k} {l = l} e a b s =
+        let n : l - k ≡ waitsIn q i = omega arith in
+        rw (add-one i, ← e, ← a, ← n) s
+
+    pub below-all :
+        (n : ℕ) (ts : List ℕ) {us : List ℕ} {s i : ℕ} → s ≡ q .threads → n ≡ atMost 8 s → i ≡ n → us ≡ fillBelow ns ls rs q written i ts →
+        us ≡ fillRows ns ls rs q written ts
+    unfolding fillRows
+    below-all n ts e a p r = r ∙ ap (λ (j : ℕ). fillBelow ns ls rs q written j ts) (p ∙ a ∙ ap (atMost 8) e)

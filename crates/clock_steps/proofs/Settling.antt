@@ -1,6 +1,6 @@
 -- The wires settled on a plane of cells are those that the cycle book settles, where each wire's expression lies flattened in the plan.
 -- Assumes nothing.
-use mathlib.Core.Path.{_≡_, sym, ap, subst, _∙_}
+use mathlib.Core.Path.{_≡_, refl, sym, ap, subst, _∙_}
 use mathlib.Core.List.{List}
 use Prim.Native.Nat.{ℕ, zero, suc, _+_, _-_, _<_, _≤_}
 use native.Mathlib.Decide.{ℕ-discrete}
@@ -22,23 +22,8 @@ use Rattle.plan_nodes.specs.Flat.{Flat, a-variable, a-constant, an-unknown, a-u
 use Rattle.plan_nodes.proofs.Nodes.{work-within}
 use Rattle.plan_nodes.proofs.Flat.{Done, flat-eval}
 use Rattle.nextstate.specs.Book as book
+use Rattle.clock_steps.specs.Claims.{Wired}
 use Rattle.clock_steps.specs.Settling.{putCell, rootOf, workWire, settleWire, settleTo, settle}
-
--- ---- what a plan holds of a module's wires
-
-pub record Wire (m : Module Expr) (q : Plan) (k : ℕ) : Type 0 where
-  pub nodes : ℕ
-  pub flat : Flat (q .node) (variables m) (q .wire k .first) (wireExpr m k) (q .wire k .root) nodes
-  pub above : 80 ≤ q .wire k .first
-  pub room : q .wire k .first + nodes ≤ 4176
-
-pub record Wired (m : Module Expr) (q : Plan) : Type 0 where
-  pub inputs : q .inputs ≡ m .scope .inputs
-  pub registers : q .registers ≡ m .scope .registers
-  pub wires : q .wires ≡ length (m .wires)
-  pub few : variables m ≤ 80
-  pub inside : (k : ℕ) → k < length (m .wires) → wireVariable m k < variables m
-  pub wire : (k : ℕ) → k < length (m .wires) → Wire m q k
 
 -- ---- the root of a flattened expression is its last node, or a variable
 
@@ -134,6 +119,14 @@ module _ (m : Module Expr) (q : Plan) (w : Wired m q) where
             ∙ at-same ds cs v (done .kept v (omega (arith, w .few, w .wire k h .above)))
             ∙ s .value v o)
 
+    -- The cells before the wires stay.
+    wire-kept : (v : ℕ) → v < m .scope .inputs + m .scope .registers → getD (settleWire q k cs) v 0 ≡ getD cs v 0
+    unfolding putCell wireVariable
+    wire-kept v o =
+        let z = small in
+        rw (wire-is, lt-ltb (wireVariable m k) 80 small)
+        (getD-set-other ds (wireVariable m k) v _ 0 (λ e. omega arith) ∙ done .kept v (omega (arith, w .wire k h .above)))
+
   -- ---- all wires
 
   settled-to : (k : ℕ) → k ≤ length (m .wires) → (f : ℕ → Value) (cs : List ℕ) → Settled f cs →
@@ -149,3 +142,18 @@ module _ (m : Module Expr) (q : Plan) (w : Wired m q) where
   settled f cs s =
       let r = settled-to (length (m .wires)) (omega arith) f cs s in
       subst (λ (n : ℕ). Settled (book.settleBelow m (length (m .wires)) f) (settleTo q n cs)) (sym (w .wires)) r
+
+  kept-to : (k : ℕ) → k ≤ length (m .wires) → (f : ℕ → Value) (cs : List ℕ) → Settled f cs → (v : ℕ) →
+      v < m .scope .inputs + m .scope .registers → getD (settleTo q k cs) v 0 ≡ getD cs v 0
+  unfolding settleTo
+  kept-to zero h f cs s v o = refl
+  kept-to (suc k) h f cs s v o =
+      wire-kept k (omega arith) (book.settleBelow m k f) (settleTo q k cs) (settled-to k (omega arith) f cs s) v o
+      ∙ kept-to k (omega arith) f cs s v o
+
+  -- The cells of inputs and registers stay.
+  pub settled-kept : (f : ℕ → Value) (cs : List ℕ) → Settled f cs → (v : ℕ) → v < m .scope .inputs + m .scope .registers →
+      getD (settle q cs) v 0 ≡ getD cs v 0
+  unfolding settle
+  settled-kept f cs s v o =
+      ap (λ (n : ℕ). getD (settleTo q n cs) v 0) (w .wires) ∙ kept-to (length (m .wires)) (omega arith) f cs s v o

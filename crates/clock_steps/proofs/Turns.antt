@@ -9,7 +9,7 @@ use Rattle.plan.specs.Sections.{slotOf}
 use Rattle.plan.specs.Plan.{Node, Plan}
 use Rattle.clock_steps.specs.Settling.{putCell, settleWire, settleTo, settle}
 use Rattle.clock_steps.specs.Taking.{takeRegister, takeRegisters, Taking, taking, takeThread, takeBelow, loadTo, storeTo, Stand}
-use Rattle.clock_steps.specs.Taking.{stand, atMost, rise, step}
+use Rattle.clock_steps.specs.Taking.{stand, atMost, rise}
 
 -- ---- settleTo, settle
 
@@ -84,7 +84,7 @@ pub most-more : (most n : ℕ) → most ≤ n → most ≡ atMost most n
 unfolding atMost
 most-more most n h = rw (le-ltb n most h)
 
--- ---- step
+-- ---- rise
 
 module _ (f : ℕ → Node) (ts numbers cs ps : List ℕ) where
   -- What the threads leave, and the rise on plain numbers.
@@ -95,7 +95,7 @@ module _ (f : ℕ → Node) (ts numbers cs ps : List ℕ) where
   put first count t = stand (storeTo (t .news) first count (t .cells)) (t .places)
 
   module _ (q : Plan) where
-    risen : rise q f ts numbers (stand cs ps)
+    pub risen : rise q f ts numbers (stand cs ps)
         ≡ put (q .inputs) (atMost 32 (q .registers)) (left (q .inputs) (atMost 32 (q .registers)) (atMost 8 (q .threads)))
     unfolding rise
     risen = refl
@@ -103,15 +103,14 @@ module _ (f : ℕ → Node) (ts numbers cs ps : List ℕ) where
     same-rise : {i j n m k l : ℕ} → i ≡ j → n ≡ m → k ≡ l → put i n (left i n k) ≡ put j m (left j m l)
     same-rise a b c = rw (a, b, c)
 
-    pub stepped :
-        {first count threads registers all : ℕ} {n0 n1 n2 c1 c2 c3 p1 : List ℕ} →
+    pub rises :
+        {first count threads registers all : ℕ} {n0 n1 n2 c1 c2 p1 : List ℕ} →
         first ≡ q .inputs → registers ≡ q .registers → all ≡ q .threads →
         count ≡ atMost 32 registers → threads ≡ atMost 8 all → n0 ≡ replicate 32 0 → n1 ≡ loadTo cs first count n0 →
-        taking c1 n2 p1 ≡ takeBelow f ts numbers count threads (taking cs n1 ps) → c2 ≡ storeTo n2 first count c1 → c3 ≡ settle q c2 →
-        stand c3 p1 ≡ step q f ts numbers (stand cs ps)
-    unfolding step
-    stepped {first} {count} {threads} {p1 = p1} a b c d e z l t s w =
+        taking c1 n2 p1 ≡ takeBelow f ts numbers count threads (taking cs n1 ps) → c2 ≡ storeTo n2 first count c1 →
+        stand c2 p1 ≡ rise q f ts numbers (stand cs ps)
+    rises {first} {count} {threads} {p1 = p1} a b c d e z l t s =
         let u = t ∙ ap (λ (n : List ℕ). takeBelow f ts numbers count threads (taking cs n ps)) (l ∙ ap (loadTo cs first count) z) in
         let y = ap (λ (x : List ℕ). stand x p1) s ∙ ap (put first count) u in
         let x = same-rise a (d ∙ ap (atMost 32) b) (e ∙ ap (atMost 8) c) in
-        ap (λ (v : List ℕ). stand v p1) w ∙ ap (λ (v : Stand). stand (settle q (v .cells)) (v .places)) (y ∙ x ∙ sym risen)
+        y ∙ x ∙ sym risen

@@ -1,3 +1,4 @@
 pub mod Settling
 pub mod Taking
 pub mod Numbers
+pub mod Claims

@@ -2,9 +2,10 @@
 -- for plans of any contents.
 use mathlib.Core.List.{List}
 use Prim.Native.Nat.{ℕ, zero, suc, _+_, _*_, _%_}
-use lib.ListN.{set}
+use lib.ListN.{getD, set}
 use Rattle.plan.specs.Plan.{Plan}
 use Rattle.nextstate.specs.Rules.{one}
+use Rattle.clock_nodes.specs.Rows.{fillRow}
 use Rattle.clock_steps.specs.Taking.{atMost}
 
 module _ (q : Plan) where
@@ -37,3 +38,19 @@ module _ (q : Plan) where
 
   unfoldable pub numberRows : List ℕ → List ℕ
   numberRows ns = numbersTo (atMost 8 (q .threads)) ns
+
+-- ---- the rows of the waits, filled
+
+module _ (ns ls rs : List ℕ) where
+  -- So many rows from `first` on, of a thread that writes the registers of this mask.
+  unfoldable pub fillFrom : ℕ → ℕ → ℕ → List ℕ → List ℕ
+  fillFrom mask first zero ts = ts
+  fillFrom mask first (suc n) ts = fillRow ns ls rs (first + n) mask (fillFrom mask first n ts)
+
+  -- Those of the threads below i; `written` has each thread's mask.
+  unfoldable pub fillBelow : Plan → List ℕ → ℕ → List ℕ → List ℕ
+  fillBelow q written zero ts = ts
+  fillBelow q written (suc i) ts = fillFrom (getD written i 0) (rowsTo q i) (waitsIn q i) (fillBelow q written i ts)
+
+  unfoldable pub fillRows : Plan → List ℕ → List ℕ → List ℕ
+  fillRows q written ts = fillBelow q written (atMost 8 (q .threads)) ts

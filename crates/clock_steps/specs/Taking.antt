@@ -8,12 +8,12 @@ use lib.ListN.{getD, set, replicate}
 use Rattle.values.specs.Values.{pick}
 use Rattle.values.specs.Planes.{numberOf}
 use Rattle.masks.specs.Masks.{bits}
-use Rattle.cells.specs.Cells.{valueOf}
+use Rattle.cells.specs.Cells.{valueOf, cellOf, cellAt}
 use Rattle.plan.specs.Sections.{slotOf}
 use Rattle.plan.specs.Plan.{Node, Plan}
 use Rattle.plan_nodes.specs.Nodes.{work}
 use Rattle.clock_nodes.specs.Rows.{rowPlace}
-use Rattle.clock_steps.specs.Settling.{putCell, settle}
+use Rattle.clock_steps.specs.Settling.{putCell}
 
 -- ---- a row
 
@@ -29,10 +29,10 @@ entryCell ts row c = slotOf (getD ts (rowPlace row + c) 0)
 unfoldable pub workRow : (ℕ → Node) → List ℕ → ℕ → List ℕ → List ℕ
 workRow f ts row cs = work f (getD ts (rowPlace row + 33) 0) (getD ts (rowPlace row + 34) 0) cs
 
--- Register r, if the row's thread writes it.
+-- Register r, if the row's thread writes it, takes its entry's value: what lay under an x is not taken.
 unfoldable pub takeRegister : List ℕ → ℕ → List ℕ → ℕ → List ℕ → List ℕ
 takeRegister ts row cs r news =
-    pick (getD (bits (getD ts (rowPlace row + 35) 0)) r false) (set news r (getD cs (entryCell ts row r) 0)) news
+    pick (getD (bits (getD ts (rowPlace row + 35) 0)) r false) (set news r (cellOf (cellAt cs (entryCell ts row r)))) news
 
 -- The registers below r.
 unfoldable pub takeRegisters : List ℕ → ℕ → List ℕ → ℕ → List ℕ → List ℕ
@@ -79,7 +79,7 @@ unfoldable pub storeTo : List ℕ → ℕ → ℕ → List ℕ → List ℕ
 storeTo news first zero cs = cs
 storeTo news first (suc r) cs = putCell (first + r) (getD news r 0) (storeTo news first r cs)
 
--- ---- a cycle
+-- ---- the rise
 
 pub record Stand : Type 0 where
   pub cells : List ℕ
@@ -99,9 +99,3 @@ rise q f ts numbers b =
     takeBelow f ts numbers count (atMost 8 (q .threads))
     (taking (b .cells) (loadTo (b .cells) (q .inputs) count (replicate 32 0)) (b .places)) in
     stand (storeTo (t .news) (q .inputs) count (t .cells)) (t .places)
-
--- "then it settles."
-unfoldable pub step : Plan → (ℕ → Node) → List ℕ → List ℕ → Stand → Stand
-step q f ts numbers b =
-    let r = rise q f ts numbers b in
-    stand (settle q (r .cells)) (r .places)

@@ -1,19 +1,20 @@
 // A clock cycle on one plane of cells: the wires settled by a plan's nodes, then each thread's written registers and place taken from the
 // nodes of its wait's row. Each function equals its definition in specs/ for tables, cells and places of any contents.
+use clock_nodes::Lows;
 use clock_nodes::RowTable;
 use plan::Cells;
 use plan::PlanTable;
 ghost use mathlib.Core.Path.{_≡_};
-ghost use Prim.Native.Nat.{_+_, _%_, _<_, _≤_};
+ghost use Prim.Native.Nat.{_+_, _-_, _%_, _<_, _≤_};
 ghost use Rattle.values.specs.Planes.{numberOf};
 ghost use Rattle.cells.specs.Cells.{valueOf};
 ghost use Rattle.plan.specs.Sections.{slotOf};
 ghost use Rattle.plan.specs.Plan.{planOf};
 ghost use Rattle.nextstate.specs.Rules.{one};
-ghost use Rattle.clock_steps.specs.Numbers.{waitsIn, numberThread, numberRows};
+ghost use Rattle.clock_steps.specs.Numbers.{waitsIn, numberThread, numberRows, fillFrom, fillRows};
 ghost use Rattle.clock_steps.specs.Settling.{putCell, settleWire, settle};
 ghost use Rattle.clock_steps.specs.Taking.{rowIn, workRow, takeRegister, takeRegisters, taking, takeThread, takeBelow, loadTo};
-ghost use Rattle.clock_steps.specs.Taking.{storeTo, atMost, stand, step};
+ghost use Rattle.clock_steps.specs.Taking.{storeTo, atMost, stand, rise};
 
 // For each thread and place the row of its wait: 256 places to a thread.
 pub type RowNumbers = [u8; 2048];
@@ -43,7 +44,7 @@ fn slot(n: usize) -> usize
 }
 
 // Puts a cell's contents into a variable's cell; past the last variable nothing.
-fn put_cell(cells: &mut Cells, v: usize, c: u64)
+pub fn put_cell(cells: &mut Cells, v: usize, c: u64)
     ensures { λ _. ⌜ now (cells .exit) ≡ putCell v c (now (cells .entry)) ⌝ }
 {
     if 80 <= v {
@@ -101,14 +102,14 @@ fn work_row(lent: &PlanTable, table: &RowTable, row: usize, cells: &mut Cells)
     plan_nodes::work(lent, lo, hi, cells);
 }
 
-// Register `r`, if the row's thread writes it, takes the cell of its entry.
+// Register `r`, if the row's thread writes it, takes the value of its entry.
 fn take_register(table: &RowTable, row: usize, r: usize, cells: &Cells, news: &mut [u64; 32])
     requires { ⌜ row < 32 ⌝ }
     requires { ⌜ r < 32 ⌝ }
     ensures { λ _. ⌜ now (news .exit) ≡ takeRegister (now (table .entry)) row (now (cells .entry)) r (now (news .entry)) ⌝ }
 {
     if masks::has(table[36 * row + 35], r) {
-        news[r] = cells[plan::slot(table[36 * row + r])];
+        news[r] = cells::store(cells::load(cells[plan::slot(table[36 * row + r])]));
     }
 }
 
@@ -187,7 +188,7 @@ fn take(
 // ---- a cycle
 
 // At most so many.
-fn at_most(most: usize, n: usize) -> usize
+pub fn at_most(most: usize, n: usize) -> usize
     ensures { λ r. ⌜ r ≡ atMost most n ⌝ }
     ensures { λ r. ⌜ r ≤ most ⌝ }
 {
@@ -220,8 +221,8 @@ fn store(first: usize, count: usize, news: &[u64; 32], cells: &mut Cells)
     }
 }
 
-// The rise of the clock on settled wires; afterwards the wires are settled again.
-pub fn step(
+// The rise of the clock on settled wires.
+pub fn rise(
     plan: &PlanTable,
     lent: &PlanTable,
     table: &RowTable,
@@ -231,7 +232,7 @@ pub fn step(
 )
     ensures { λ _. ⌜
         stand (now (cells .exit)) (now (places .exit))
-        ≡ step (planOf (now (plan .entry))) (planOf (now (lent .entry)) .node) (now (table .entry)) (now (numbers .entry))
+        ≡ rise (planOf (now (plan .entry))) (planOf (now (lent .entry)) .node) (now (table .entry)) (now (numbers .entry))
         (stand (now (cells .entry)) (now (places .entry)))
         ⌝ }
 {
@@ -251,7 +252,6 @@ pub fn step(
         places,
     );
     store(first, count, &news, cells);
-    settle(plan, cells);
 }
 
 // ---- the rows' numbers
@@ -299,15 +299,60 @@ fn number_thread(plan: &PlanTable, i: usize, first: u16, numbers: &mut RowNumber
     k
 }
 
-// Numbers the places of all threads, once a call.
-pub fn number_rows(plan: &PlanTable, numbers: &mut RowNumbers)
+// A row's number as a place.
+fn row_of(k: u16) -> usize
+    ensures { λ r. ⌜ r ≡ k ⌝ }
+{
+    k as usize
+}
+
+// Fills the rows from `first` to `end`, of a thread that writes these registers.
+fn fill_thread(
+    nodes: &[u16],
+    lows: &Lows,
+    rows: &[u16],
+    first: u16,
+    end: u16,
+    written: u32,
+    table: &mut RowTable,
+)
+    requires { ⌜ first ≤ end ⌝ }
+    ensures { λ _. ⌜
+        now (table .exit)
+        ≡ fillFrom (now (nodes .entry)) (now (lows .entry)) (now (rows .entry)) written first (end - first) (now (table .entry))
+        ⌝ }
+{
+    let mut k = first;
+    while k < end {
+        clock_nodes::fill_row(nodes, lows, rows, row_of(k), written, table);
+        k += 1;
+    }
+}
+
+// Numbers the places of all threads and fills the rows of their waits, once a call. `written` has the registers that each thread writes.
+pub fn fill_rows(
+    plan: &PlanTable,
+    nodes: &[u16],
+    lows: &Lows,
+    rows: &[u16],
+    written: &[u32; 8],
+    numbers: &mut RowNumbers,
+    table: &mut RowTable,
+)
     ensures { λ _. ⌜ now (numbers .exit) ≡ numberRows (planOf (now (plan .entry))) (now (numbers .entry)) ⌝ }
+    ensures { λ _. ⌜
+        now (table .exit)
+        ≡ fillRows (now (nodes .entry)) (now (lows .entry)) (now (rows .entry)) (planOf (now (plan .entry))) (now (written .entry))
+        (now (table .entry))
+        ⌝ }
 {
     let threads = at_most(8, plan::threads(plan));
     let mut k: u16 = 0;
     let mut i: usize = 0;
     while i < threads {
-        k = number_thread(plan, i, k, numbers);
+        let next = number_thread(plan, i, k, numbers);
+        fill_thread(nodes, lows, rows, k, next, written[i], table);
+        k = next;
         i += 1;
     }
 }

@@ -1,0 +1,295 @@
+-- What each branch and each turn of a loop owes, on plain values. Assumes nothing.
+use mathlib.Core.Path.{_≡_, refl, sym, ap, _∙_}
+use mathlib.Core.Bool.{Bool, true, false}
+use mathlib.Core.List.{List}
+use Prim.Native.Nat.{ℕ, zero, suc, _+_, _-_, _/_, _≤_, _<_}
+use native.Mathlib.Numerals.{add-one}
+use native.Mathlib.Omega.{arith}
+use borrow.Author.Tests.{eq-eqb, ne-eqb, lt-ltb, le-ltb}
+use lib.ListN.{length, getD, set, replicate, length-set}
+use Rattle.values.specs.declared.Value.{Value}
+use Rattle.values.specs.Planes.{valueAt, numberOf, isUnknown}
+use Rattle.cells.specs.Cells.{cellOf, valueOf, cellAt}
+use Rattle.events.specs.declared.Inputs.{Inputs}
+use Rattle.events.specs.Rows.{wholeRows}
+use Rattle.plan.specs.Plan.{Node, Plan}
+use Rattle.plan_state.specs.Planes.{marked, numberIn, unknownIn}
+use Rattle.nextstate.specs.declared.Registers.{Registers}
+use Rattle.nextstate.specs.declared.Clocked.{Clocked}
+use Rattle.nextstate.specs.CycleRun.{refused}
+use Rattle.clock_steps.specs.Settling.{putCell, settle}
+use Rattle.clock_steps.specs.Taking.{Stand, stand, atMost, rise}
+use Rattle.clock_run.specs.Running.{valuesFit, upperOf, registersFitOn, inputsFitOn, putRegisters, putItems, handOn, numbersTo}
+use Rattle.clock_run.specs.Running.{flagsTo}
+use Rattle.clock_run.specs.Running.{wireNumbersTo, wireFlagsTo, answerOn, turnOn, settledOn, clockedOn, cycleOn}
+use Rattle.clock_run.specs.declared.Rounds.{Rounds}
+use Rattle.clock_run.specs.Traces.{wordOf, putWords, putRow, Traced, traced, traceFrom, traceRows, traceOn}
+use Rattle.clock_run.specs.Rounds.{lastOn, endedAt, rowAt, rowFits, rowOn, roundsFrom, roundsOn, cyclesOn}
+
+-- ---- upperOf
+
+pub upper-none : (q : Plan) {n : ℕ} → n ≡ q .inputs → n ≡ 0 → 0 ≡ upperOf q
+unfolding upperOf atMost
+upper-none q e z = rw (← e, z)
+
+pub upper-some : (q : Plan) {n r : ℕ} → n ≡ q .inputs → r ≡ atMost 15 (n - 1) → r ≡ upperOf q
+unfolding upperOf
+upper-some q e h = rw (← e) h
+
+-- ---- putRegisters, putItems
+
+module _ (ns : List ℕ) (xs : List Bool) where
+  pub registers-none : (first : ℕ) (cs : List ℕ) → cs ≡ putRegisters ns xs first 0 cs
+  unfolding putRegisters
+  registers-none first cs = refl
+
+  pub registers-more :
+      (first r : ℕ) (cs : List ℕ) {ds es : List ℕ} {a : ℕ} → ds ≡ putRegisters ns xs first r cs →
+      a ≡ marked (getD ns r 0) (getD xs r false) → es ≡ putCell (first + r) a ds → es ≡ putRegisters ns xs first (r + 1) cs
+  unfolding putRegisters
+  registers-more first r cs p e s = rw (add-one r, ← p, ← e) s
+
+  pub items-none : (at : ℕ) (cs : List ℕ) → cs ≡ putItems ns xs at 0 cs
+  unfolding putItems
+  items-none at cs = refl
+
+  pub items-more :
+      (at v : ℕ) (cs : List ℕ) {ds es : List ℕ} {b : Value} {a : ℕ} → ds ≡ putItems ns xs at v cs → b ≡ valueAt ns xs (at + v) →
+      a ≡ cellOf b → es ≡ putCell (1 + v) a ds → es ≡ putItems ns xs at (v + 1) cs
+  unfolding putItems
+  items-more at v cs p b e s = rw (add-one v, ← p, ← b, ← e) s
+
+-- ---- numbersTo, flagsTo, and those of the wires
+
+module _ (cs : List ℕ) (first : ℕ) where
+  pub numbers-none : (ns : List ℕ) → ns ≡ numbersTo cs first 0 ns
+  unfolding numbersTo
+  numbers-none ns = refl
+
+  pub numbers-more : (r : ℕ) (ns : List ℕ) {ms : List ℕ} {a : ℕ} → ms ≡ numbersTo cs first r ns → a ≡ numberIn (getD cs (first + r) 0) →
+      set ms r a ≡ numbersTo cs first (r + 1) ns
+  unfolding numbersTo
+  numbers-more r ns p e = rw (add-one r, ← p, ← e)
+
+  pub flags-none : (xs : List Bool) → xs ≡ flagsTo cs first 0 xs
+  unfolding flagsTo
+  flags-none xs = refl
+
+  pub flags-more : (r : ℕ) (xs : List Bool) {ys : List Bool} {a : Bool} → ys ≡ flagsTo cs first r xs → a
+      ≡ unknownIn (getD cs (first + r) 0) →
+      set ys r a ≡ flagsTo cs first (r + 1) xs
+  unfolding flagsTo
+  flags-more r xs p e = rw (add-one r, ← p, ← e)
+
+  pub wires-none : (ns : List ℕ) → ns ≡ wireNumbersTo cs first 0 ns
+  unfolding wireNumbersTo
+  wires-none ns = refl
+
+  pub wires-more :
+      (k : ℕ) (ns : List ℕ) {ms : List ℕ} {b : Value} {a : ℕ} → ms ≡ wireNumbersTo cs first k ns → b ≡ valueOf (getD cs (first + k) 0) →
+      a ≡ numberOf b → set ms k a ≡ wireNumbersTo cs first (k + 1) ns
+  unfolding wireNumbersTo cellAt
+  wires-more k ns p b e = rw (add-one k, ← p, ← b, ← e)
+
+  pub unsure-none : (xs : List Bool) → xs ≡ wireFlagsTo cs first 0 xs
+  unfolding wireFlagsTo
+  unsure-none xs = refl
+
+  pub unsure-more :
+      (k : ℕ) (xs : List Bool) {ys : List Bool} {b : Value} {a : Bool} → ys ≡ wireFlagsTo cs first k xs → b
+      ≡ valueOf (getD cs (first + k) 0) →
+      a ≡ isUnknown b → set ys k a ≡ wireFlagsTo cs first (k + 1) xs
+  unfolding wireFlagsTo cellAt
+  unsure-more k xs p b e = rw (add-one k, ← p, ← b, ← e)
+
+-- ---- registersFitOn
+
+pub values-judged :
+    (q : Plan) (g : Registers) {i n : ℕ} {x t : Bool} → i ≡ q .inputs → n ≡ q .registers → x
+    ≡ valuesFit q i (g .value) (g .unknown) 0 n → x ≡ t →
+    valuesFit q (q .inputs) (g .value) (g .unknown) 0 (q .registers) ≡ t
+values-judged q g {n = n} a b e h =
+    sym
+    (e
+    ∙ ap (λ (k : ℕ). valuesFit q k (g .value) (g .unknown) 0 n) a
+    ∙ ap (valuesFit q (q .inputs) (g .value) (g .unknown) 0) b)
+    ∙ h
+
+-- ---- cycleOn
+
+module _ (q : Plan) (f : ℕ → Node) (ts numbers : List ℕ) where
+  pub turn-is : {c3 c4 p : List ℕ} (cs ps : List ℕ) → c3 ≡ settle q cs → stand c4 p ≡ rise q f ts numbers (stand c3 ps) →
+      stand c4 p ≡ turnOn q f ts numbers (stand cs ps)
+  unfolding turnOn
+  turn-is cs ps e h = h ∙ ap (λ (x : List ℕ). rise q f ts numbers (stand x ps)) e
+
+  settled-is : {c5 : List ℕ} (c4 p : List ℕ) → c5 ≡ settle q c4 → stand c5 p ≡ settledOn q f ts numbers (stand c4 p)
+  unfolding settledOn
+  settled-is c4 p e = ap (λ (x : List ℕ). stand x p) e
+
+  pub cycled :
+      (g : Registers) (a : Inputs) {n : ℕ} {c1 c2 c3 c4 c5 p : List ℕ} {r : Clocked} → registersFitOn q g ≡ true → inputsFitOn q a ≡ true →
+      n ≡ upperOf q → c1 ≡ handOn q g (replicate 4176 4294967296) → c2 ≡ putItems (a .value) (a .unknown) 0 n c1 → c3 ≡ settle q c2 →
+      stand c4 p ≡ rise q f ts numbers (stand c3 (g .places)) → c5 ≡ settle q c4 → r ≡ answerOn q g (stand c5 p) →
+      r ≡ cycleOn q f ts numbers g a
+  unfolding cycleOn clockedOn
+  cycled g a {n} {c1} {c2} {c4 = c4} {p = p} t u e h1 h2 h3 h4 h5 h6 =
+      let x = h2 ∙ ap (λ (m : ℕ). putItems (a .value) (a .unknown) 0 m c1) e ∙ ap (putItems (a .value) (a .unknown) 0 (upperOf q)) h1 in
+      let y = turn-is c2 (g .places) h3 h4 ∙ ap (λ (cs : List ℕ). turnOn q f ts numbers (stand cs (g .places))) x in
+      rw (t, u) (h6 ∙ ap (answerOn q g) (settled-is c4 p h5 ∙ ap (settledOn q f ts numbers) y))
+
+-- ---- lastOn
+
+pub last-none : (q : Plan) (g : Registers) (r : ℕ) (b : Stand) {c : Clocked} → r ≡ 0 → c ≡ refused 0 g → c ≡ lastOn q g r b
+unfolding lastOn
+last-none q g r b e h = rw (eq-eqb r 0 e) h
+
+pub last-some :
+    (q : Plan) (g : Registers) (r : ℕ) (cs ps : List ℕ) {ds : List ℕ} {c : Clocked} → (r ≡ 0 → ⊥) → ds ≡ settle q cs →
+    c ≡ answerOn q g (stand ds ps) → c ≡ lastOn q g r (stand cs ps)
+unfolding lastOn
+last-some q g r cs ps d e h = rw (ne-eqb r 0 d) (h ∙ ap (λ (x : List ℕ). answerOn q g (stand x ps)) e)
+
+-- ---- roundsFrom: the rows that are left end where all of them do
+
+module _ (q : Plan) (f : ℕ → Node) (ts numbers : List ℕ) (g : Registers) (ns : List ℕ) (xs : List Bool) where
+  abbrev pub first : Stand
+  first = stand (handOn q g (replicate 4176 4294967296)) (g .places)
+
+  abbrev pub Rest : ℕ → ℕ → Stand → Type 0
+  Rest n r b = roundsFrom q f ts numbers g ns xs (n - r) r b ≡ roundsFrom q f ts numbers g ns xs n 0 first
+
+  pub rest-first : (n : ℕ) {cs : List ℕ} → cs ≡ handOn q g (replicate 4176 4294967296) → Rest n 0 (stand cs (g .places))
+  rest-first n e =
+      let k : n - 0 ≡ n = omega arith in
+      rw (k, e)
+
+  module _ (n r : ℕ) (b : Stand) (rest : Rest n r b) where
+    pub rest-end : (c : Clocked) (x : Rounds) → n ≤ r → c ≡ lastOn q g r b → x ≡ endedAt r 0 c → n ≡ length ns / 16 →
+        x ≡ roundsOn q f ts numbers g ns xs
+    unfolding roundsOn roundsFrom
+    rest-end c x h e k l =
+        let z : n - r ≡ 0 = omega arith in
+        k ∙ ap (endedAt r 0) e ∙ (rw z at rest) ∙ ap (λ (j : ℕ). roundsFrom q f ts numbers g ns xs j 0 first) l
+
+    module _ (h : r < n) (s : n - r ≡ suc (n - (r + 1))) {u : ℕ} (up : u ≡ upperOf q) where
+      pub rest-off : (c : Clocked) (x : Rounds) → valuesFit q 1 ns xs (rowAt r) u ≡ false → c ≡ lastOn q g r b → x ≡ endedAt r 25 c →
+          n ≡ length ns / 16 → x ≡ roundsOn q f ts numbers g ns xs
+      unfolding roundsOn roundsFrom rowFits
+      rest-off c x t e k l =
+          k
+          ∙ ap (endedAt r 25) e
+          ∙ (rw (s, rw up at t) at rest)
+          ∙ ap (λ (j : ℕ). roundsFrom q f ts numbers g ns xs j 0 first) l
+
+      pub rest-on : {ds es os : List ℕ} → valuesFit q 1 ns xs (rowAt r) u ≡ true → ds ≡ putItems ns xs (rowAt r) u (b .cells) →
+          stand es os ≡ turnOn q f ts numbers (stand ds (b .places)) → Rest n (r + 1) (stand es os)
+      unfolding roundsFrom rowFits rowOn
+      rest-on t d v =
+          let a =
+          v
+          ∙ ap (λ (x : List ℕ). turnOn q f ts numbers (stand x (b .places)))
+          (d ∙ ap (λ (j : ℕ). putItems ns xs (rowAt r) j (b .cells)) up) in
+          ap (roundsFrom q f ts numbers g ns xs (n - (r + 1)) (r + 1)) a ∙ (rw (s, rw up at t) at rest)
+
+-- ---- putWords
+
+module _ (c : Clocked) (at : ℕ) where
+  pub words-none : (ws : List ℕ) → ws ≡ putWords c at 0 ws
+  unfolding putWords
+  words-none ws = refl
+
+  pub words-more : (k : ℕ) (ws : List ℕ) {us : List ℕ} {a : ℕ} → us ≡ putWords c at k ws → a ≡ wordOf c k →
+      set us (at + k) a ≡ putWords c at (k + 1) ws
+  unfolding putWords
+  words-more k ws p e = rw (add-one k, ← p, ← e)
+
+  pub words-length : (n : ℕ) (ws : List ℕ) → length (putWords c at n ws) ≡ length ws
+  unfolding putWords
+  words-length zero ws = refl
+  words-length (suc n) ws = length-set (putWords c at n ws) (at + n) _ ∙ words-length n ws
+
+-- ---- traceFrom: the rows that are left end where all of them do
+
+module _ (q : Plan) (f : ℕ → Node) (ts numbers : List ℕ) (g : Registers) (ns : List ℕ) (xs : List Bool) (ws : List ℕ) where
+  abbrev pub Left : ℕ → ℕ → Clocked → Stand → List ℕ → Type 0
+  Left n r c b us =
+      traceFrom q f ts numbers g ns xs (n - r) r c b us
+      ≡ traceFrom q f ts numbers g ns xs n 0 (refused 0 g) (stand (handOn q g (replicate 4176 4294967296)) (g .places)) ws
+
+  pub left-first : (n : ℕ) {cs : List ℕ} {c : Clocked} → cs ≡ handOn q g (replicate 4176 4294967296) → c ≡ refused 0 g →
+      Left n 0 c (stand cs (g .places)) ws
+  left-first n e h =
+      let k : n - 0 ≡ n = omega arith in
+      rw (k, e, h)
+
+  module _ (n r : ℕ) (c : Clocked) (b : Stand) (us : List ℕ) (left : Left n r c b us) where
+    pub left-end : (x : Rounds) → n ≤ r → x ≡ endedAt r 0 c → n ≡ length ns / 16 → traced x us ≡ traceRows q f ts numbers g ns xs ws
+    unfolding traceRows traceFrom
+    left-end x h k l =
+        let z : n - r ≡ 0 = omega arith in
+        ap (λ (y : Rounds). traced y us) k
+        ∙ (rw z at left)
+        ∙ ap
+        (λ (j : ℕ). traceFrom q f ts numbers g ns xs j 0 (refused 0 g) (stand (handOn q g (replicate 4176 4294967296)) (g .places)) ws)
+        l
+
+    module _ (h : r < n) (s : n - r ≡ suc (n - (r + 1))) {u : ℕ} (up : u ≡ upperOf q) where
+      pub left-off : (x : Rounds) → valuesFit q 1 ns xs (rowAt r) u ≡ false → x ≡ endedAt r 25 c → n ≡ length ns / 16 →
+          traced x us ≡ traceRows q f ts numbers g ns xs ws
+      unfolding traceRows traceFrom rowFits
+      left-off x t k l =
+          ap (λ (y : Rounds). traced y us) k
+          ∙ (rw (s, rw up at t) at left)
+          ∙ ap
+          (λ (j : ℕ). traceFrom q f ts numbers g ns xs j 0 (refused 0 g) (stand (handOn q g (replicate 4176 4294967296)) (g .places)) ws)
+          l
+
+      pub left-on :
+          {ds es os fs vs : List ℕ} {d : Clocked} → valuesFit q 1 ns xs (rowAt r) u ≡ true → ds ≡ putItems ns xs (rowAt r) u (b .cells) →
+          stand es os ≡ turnOn q f ts numbers (stand ds (b .places)) → fs ≡ settle q es → d ≡ answerOn q g (stand fs os) →
+          vs ≡ putRow r d us → Left n (r + 1) d (stand fs os) vs
+      unfolding traceFrom rowFits rowOn settledOn
+      left-on {es = es} {os = os} {fs = fs} {d = d} t e v w a p =
+          let x =
+          v
+          ∙ ap (λ (l : List ℕ). turnOn q f ts numbers (stand l (b .places)))
+          (e ∙ ap (λ (j : ℕ). putItems ns xs (rowAt r) j (b .cells)) up) in
+          let y = ap (λ (l : List ℕ). stand l os) w ∙ ap (λ (z : Stand). stand (settle q (z .cells)) (z .places)) x in
+          ap (traceFrom q f ts numbers g ns xs (n - (r + 1)) (r + 1) d (stand fs os)) p
+          ∙ ap (λ (k : Clocked). traceFrom q f ts numbers g ns xs (n - (r + 1)) (r + 1) k (stand fs os) (putRow r k us)) a
+          ∙ ap
+          (λ (z : Stand). traceFrom q f ts numbers g ns xs (n - (r + 1)) (r + 1) (answerOn q g z) z (putRow r (answerOn q g z) us))
+          y
+          ∙ (rw (s, rw up at t) at left)
+
+-- ---- traceOn
+
+pub parts : {x : Rounds} {us : List ℕ} {t : Traced} → traced x us ≡ t → (x ≡ t .rounds) × (us ≡ t .words)
+parts e = (ap (λ (t : Traced). t .rounds) e, ap (λ (t : Traced). t .words) e)
+
+module _ (q : Plan) (f : ℕ → Node) (ts numbers : List ℕ) (g : Registers) (ns : List ℕ) (xs : List Bool) (ws : List ℕ) where
+  abbrev Trace : Rounds → List ℕ → Type 0
+  Trace x us = traced x us ≡ traceOn q f ts numbers g ns xs ws
+
+  pub trace-23 : {c : Clocked} {x : Rounds} → length ws / 72 < length ns / 16 → c ≡ refused 23 g → x ≡ endedAt 0 23 c → Trace x ws
+  unfolding traceOn
+  trace-23 l e h = rw (lt-ltb (length ws / 72) (length ns / 16) l) (ap (λ (y : Rounds). traced y ws) (h ∙ ap (endedAt 0 23) e))
+
+  module _ (l : length ns / 16 ≤ length ws / 72) where
+    pub trace-31 : {c : Clocked} {x : Rounds} → registersFitOn q g ≡ false → c ≡ refused 31 g → x ≡ endedAt 0 31 c → Trace x ws
+    unfolding traceOn
+    trace-31 t e h =
+        rw (le-ltb (length ws / 72) (length ns / 16) l, t) (ap (λ (y : Rounds). traced y ws) (h ∙ ap (endedAt 0 31) e))
+
+    pub trace-25 : {c : Clocked} {x : Rounds} → registersFitOn q g ≡ true → wholeRows ns xs ≡ false → c ≡ refused 25 g → x
+        ≡ endedAt 0 25 c → Trace x ws
+    unfolding traceOn
+    trace-25 t u e h =
+        rw (le-ltb (length ws / 72) (length ns / 16) l, t, u) (ap (λ (y : Rounds). traced y ws) (h ∙ ap (endedAt 0 25) e))
+
+    pub trace-all :
+        {x : Rounds} {us : List ℕ} → registersFitOn q g ≡ true → wholeRows ns xs ≡ true → x ≡ traceRows q f ts numbers g ns xs ws .rounds →
+        us ≡ traceRows q f ts numbers g ns xs ws .words → Trace x us
+    unfolding traceOn
+    trace-all t u e h = rw (le-ltb (length ws / 72) (length ns / 16) l, t, u) (λ i. traced (e i) (h i))

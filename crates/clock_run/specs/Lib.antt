@@ -1,0 +1,4 @@
+pub mod Running
+pub mod Rounds
+pub mod Traces
+pub mod Claims

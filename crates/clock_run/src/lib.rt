@@ -1,0 +1,519 @@
+// A clock cycle, and many of them, on a plan and on tables that were filled once from lent ones: registers, places and inputs are judged,
+// laid out in cells, and registers, places and wires taken out again. Each function equals its definition in specs/ for plans and tables
+// of any contents.
+use clock_nodes::RowTable;
+use clock_steps::RowNumbers;
+use clock_steps::at_most;
+use clock_steps::put_cell;
+use clock_steps::rise;
+use clock_steps::settle;
+use events::Inputs;
+use nextstate::Clocked;
+use nextstate::Registers;
+use plan::Cells;
+use plan::PlanTable;
+ghost use mathlib.Core.Path.{_≡_};
+ghost use Prim.Native.Nat.{_+_, _*_, _/_, _≤_};
+ghost use lib.ListN.{length};
+ghost use Rattle.plan.specs.Plan.{planOf};
+ghost use Rattle.nextstate.specs.CycleRun.{refused};
+ghost use Rattle.clock_steps.specs.Taking.{stand};
+ghost use Rattle.clock_run.specs.Running.{valuesFit, waitsAt, placesWait, upperOf, registersFitOn, inputsFitOn, putRegisters};
+ghost use Rattle.clock_run.specs.Running.{putItems, handOn, numbersTo, flagsTo, wireNumbersTo, wireFlagsTo, answerOn, cycleOn};
+ghost use Rattle.clock_run.specs.Running.{turnOn};
+ghost use Rattle.clock_run.specs.Rounds.{lastOn, endedAt, roundsOn, cyclesOn};
+ghost use Rattle.clock_run.specs.Traces.{wordOf, putWords, traceRows, traceOn};
+
+// A byte as a place.
+fn wide(b: u8) -> usize
+    ensures { λ r. ⌜ r ≡ b ⌝ }
+{
+    b as usize
+}
+
+// ---- 31 and 25
+
+// Do `n` values from a place on fit the widths of the variables from `from` on?
+fn values_fit<'a>(
+    plan: &PlanTable,
+    from: usize,
+    n: usize,
+    value: &'a [u32],
+    unknown: &'a [bool],
+    at: usize,
+) -> bool
+    requires { ⌜ from + n ≤ 1024 ⌝ }
+    requires { ⌜ at + n ≤ 18446744073709551615 ⌝ }
+    ensures { λ r. ⌜ r ≡ valuesFit (planOf (now (plan .entry))) from (now (value .entry)) (now (unknown .entry)) at n ⌝ }
+{
+    let mut v: usize = 0;
+    while v < n {
+        if !values::fits(
+            plan::width(plan, from + v),
+            values::value_at(value, unknown, at + v),
+        ) {
+            return false;
+        }
+        v += 1;
+    }
+    true
+}
+
+// Is a number a place of thread `i`, and a wait?
+fn waits_at(plan: &PlanTable, i: usize, p: u8) -> bool
+    ensures { λ r. ⌜ r ≡ waitsAt (planOf (now (plan .entry))) i p ⌝ }
+{
+    if plan::size(plan, i) <= wide(p) {
+        return false;
+    }
+    plan::waits(plan, i, p)
+}
+
+// Does each thread wait?
+fn places_wait(plan: &PlanTable, places: &[u8; 8]) -> bool
+    ensures { λ r. ⌜ r ≡ placesWait (planOf (now (plan .entry))) (now (places .entry)) ⌝ }
+{
+    let n = at_most(8, plan::threads(plan));
+    let mut i: usize = 0;
+    while i < n {
+        if !waits_at(plan, i, places[i]) {
+            return false;
+        }
+        i += 1;
+    }
+    true
+}
+
+// How many inputs a cycle takes: all but the clock.
+fn upper(plan: &PlanTable) -> usize
+    ensures { λ r. ⌜ r ≡ upperOf (planOf (now (plan .entry))) ⌝ }
+    ensures { λ r. ⌜ r ≤ 15 ⌝ }
+{
+    let n = plan::inputs(plan);
+    if n == 0 {
+        return 0;
+    }
+    at_most(15, n - 1)
+}
+
+// 31: do the registers fit their widths, and does each thread wait?
+fn registers_fit(plan: &PlanTable, before: Registers) -> bool
+    ensures { λ r. ⌜ r ≡ registersFitOn (planOf (now (plan .entry))) before ⌝ }
+{
+    let first = plan::inputs(plan);
+    let n = plan::registers(plan);
+    if !values_fit(plan, first, n, &before.value, &before.unknown, 0) {
+        return false;
+    }
+    places_wait(plan, &before.places)
+}
+
+// 25: are the inputs as many as the plan's, and do they fit their widths?
+fn inputs_fit(plan: &PlanTable, given: Inputs) -> bool
+    ensures { λ r. ⌜ r ≡ inputsFitOn (planOf (now (plan .entry))) given ⌝ }
+{
+    if wide(given.count) + 1 != plan::inputs(plan) {
+        return false;
+    }
+    values_fit(plan, 1, upper(plan), &given.value, &given.unknown, 0)
+}
+
+// ---- values into cells
+
+// The registers' cells, with what lies under an x.
+fn put_registers<'a>(
+    first: usize,
+    n: usize,
+    value: &'a [u32; 32],
+    unknown: &'a [bool; 32],
+    cells: &mut Cells,
+)
+    requires { ⌜ first ≤ 256 ⌝ }
+    requires { ⌜ n ≤ 32 ⌝ }
+    ensures { λ _. ⌜ now (cells .exit) ≡ putRegisters (now (value .entry)) (now (unknown .entry)) first n (now (cells .entry)) ⌝ }
+{
+    let mut r: usize = 0;
+    while r < n {
+        let a = plan_state::marked(value[r], unknown[r]);
+        put_cell(cells, first + r, a);
+        r += 1;
+    }
+}
+
+// The inputs' cells, from input 1 on.
+fn put_items<'a>(n: usize, value: &'a [u32], unknown: &'a [bool], at: usize, cells: &mut Cells)
+    requires { ⌜ n ≤ 15 ⌝ }
+    requires { ⌜ at + n ≤ 18446744073709551615 ⌝ }
+    ensures { λ _. ⌜ now (cells .exit) ≡ putItems (now (value .entry)) (now (unknown .entry)) at n (now (cells .entry)) ⌝ }
+{
+    let mut v: usize = 0;
+    while v < n {
+        let a = cells::store(values::value_at(value, unknown, at + v));
+        put_cell(cells, 1 + v, a);
+        v += 1;
+    }
+}
+
+// The cells before a cycle: the registers, and 1 for the clock.
+fn hand(plan: &PlanTable, before: Registers, cells: &mut Cells)
+    ensures { λ _. ⌜ now (cells .exit) ≡ handOn (planOf (now (plan .entry))) before (now (cells .entry)) ⌝ }
+{
+    let first = plan::inputs(plan);
+    let n = at_most(32, plan::registers(plan));
+    put_registers(first, n, &before.value, &before.unknown, cells);
+    put_cell(cells, 0, 1);
+}
+
+// ---- and out again
+
+// The registers' numbers and flags, with what lies under an x.
+fn take_registers(
+    first: usize,
+    n: usize,
+    cells: &Cells,
+    value: &mut [u32; 32],
+    unknown: &mut [bool; 32],
+)
+    requires { ⌜ first ≤ 256 ⌝ }
+    requires { ⌜ n ≤ 32 ⌝ }
+    ensures { λ _. ⌜ now (value .exit) ≡ numbersTo (now (cells .entry)) first n (now (value .entry)) ⌝ }
+    ensures { λ _. ⌜ now (unknown .exit) ≡ flagsTo (now (cells .entry)) first n (now (unknown .entry)) ⌝ }
+{
+    let mut r: usize = 0;
+    while r < n {
+        value[r] = plan_state::number_in(cells[first + r]);
+        unknown[r] = plan_state::unknown_in(cells[first + r]);
+        r += 1;
+    }
+}
+
+// The wires' numbers and flags: under an x lies 0.
+fn take_wires(
+    first: usize,
+    n: usize,
+    cells: &Cells,
+    value: &mut [u32; 32],
+    unknown: &mut [bool; 32],
+)
+    requires { ⌜ first ≤ 512 ⌝ }
+    requires { ⌜ n ≤ 32 ⌝ }
+    ensures { λ _. ⌜ now (value .exit) ≡ wireNumbersTo (now (cells .entry)) first n (now (value .entry)) ⌝ }
+    ensures { λ _. ⌜ now (unknown .exit) ≡ wireFlagsTo (now (cells .entry)) first n (now (unknown .entry)) ⌝ }
+{
+    let mut k: usize = 0;
+    while k < n {
+        value[k] = values::number_of(cells::load(cells[first + k]));
+        unknown[k] = values::is_unknown(cells::load(cells[first + k]));
+        k += 1;
+    }
+}
+
+// What a cycle gives, from settled wires.
+fn answer(plan: &PlanTable, before: Registers, cells: &Cells, places: [u8; 8]) -> Clocked
+    ensures { λ r. ⌜ r ≡ answerOn (planOf (now (plan .entry))) before (stand (now (cells .entry)) places) ⌝ }
+{
+    let first = plan::inputs(plan);
+    let more = plan::registers(plan);
+    let wires = at_most(32, plan::wires(plan));
+    let mut value = before.value;
+    let mut unknown = before.unknown;
+    take_registers(first, at_most(32, more), cells, &mut value, &mut unknown);
+    let mut wire = [0u32; 32];
+    let mut unsure = [true; 32];
+    take_wires(first + more, wires, cells, &mut wire, &mut unsure);
+    Clocked {
+        number: 0,
+        value,
+        unknown,
+        places,
+        wire,
+        unsure,
+    }
+}
+
+// A refusal hands back the registers and places that it got, and wires all x.
+fn refused(number: u8, before: Registers) -> Clocked
+    ensures { λ r. ⌜ r ≡ refused number before ⌝ }
+{
+    let value = before.value;
+    let unknown = before.unknown;
+    let places = before.places;
+    let wire = [0u32; 32];
+    let unsure = [true; 32];
+    Clocked {
+        number,
+        value,
+        unknown,
+        places,
+        wire,
+        unsure,
+    }
+}
+
+// ---- a cycle
+
+// A clock cycle from registers, places and inputs 1 up, by tables that are filled.
+pub fn cycle(
+    plan: &PlanTable,
+    lent: &PlanTable,
+    table: &RowTable,
+    numbers: &RowNumbers,
+    before: Registers,
+    given: Inputs,
+) -> Clocked
+    ensures { λ r. ⌜
+        r
+        ≡ cycleOn (planOf (now (plan .entry))) (planOf (now (lent .entry)) .node) (now (table .entry)) (now (numbers .entry)) before
+        given
+        ⌝ }
+{
+    if !registers_fit(plan, before) {
+        return refused(31, before);
+    }
+    if !inputs_fit(plan, given) {
+        return refused(25, before);
+    }
+    let mut cells = [4294967296u64; 4176];
+    let mut places = before.places;
+    hand(plan, before, &mut cells);
+    put_items(upper(plan), &given.value, &given.unknown, 0, &mut cells);
+    settle(plan, &mut cells);
+    rise(plan, lent, table, numbers, &mut cells, &mut places);
+    settle(plan, &mut cells);
+    answer(plan, before, &cells, places)
+}
+
+// ---- many cycles
+
+// What many cycles give: how many were accepted, the number that refused the next, 0 where none was, and what the last one gave.
+pub struct Rounds {
+    pub cycles: usize,
+    pub number: u8,
+    pub last: Clocked,
+}
+
+// Where the cycles end.
+fn ended(cycles: usize, number: u8, last: Clocked) -> Rounds
+    ensures { λ r. ⌜ r ≡ endedAt cycles number last ⌝ }
+{
+    Rounds {
+        cycles,
+        number,
+        last,
+    }
+}
+
+// What the last of `r` cycles gave; before the first the registers as handed, and wires x.
+fn last_of(
+    plan: &PlanTable,
+    before: Registers,
+    r: usize,
+    cells: &mut Cells,
+    places: [u8; 8],
+) -> Clocked
+    ensures { λ c. ⌜ c ≡ lastOn (planOf (now (plan .entry))) before r (stand (now (cells .entry)) places) ⌝ }
+{
+    if r == 0 {
+        return refused(0, before);
+    }
+    settle(plan, cells);
+    answer(plan, before, cells, places)
+}
+
+// The wires settled, then the rise.
+fn turn(
+    plan: &PlanTable,
+    lent: &PlanTable,
+    table: &RowTable,
+    numbers: &RowNumbers,
+    cells: &mut Cells,
+    places: &mut [u8; 8],
+)
+    ensures { λ _. ⌜
+        stand (now (cells .exit)) (now (places .exit))
+        ≡ turnOn (planOf (now (plan .entry))) (planOf (now (lent .entry)) .node) (now (table .entry)) (now (numbers .entry))
+        (stand (now (cells .entry)) (now (places .entry)))
+        ⌝ }
+{
+    settle(plan, cells);
+    rise(plan, lent, table, numbers, cells, places);
+}
+
+// A cycle for each row of 16, the clock's in front, up to the first that is refused.
+fn run_rows<'a>(
+    plan: &PlanTable,
+    lent: &PlanTable,
+    table: &RowTable,
+    numbers: &RowNumbers,
+    before: Registers,
+    value: &'a [u32],
+    unknown: &'a [bool],
+) -> Rounds
+    ensures { λ r. ⌜
+        r
+        ≡ roundsOn (planOf (now (plan .entry))) (planOf (now (lent .entry)) .node) (now (table .entry)) (now (numbers .entry)) before
+        (now (value .entry)) (now (unknown .entry))
+        ⌝ }
+{
+    let rows = value.len() / 16;
+    let n = upper(plan);
+    let mut cells = [4294967296u64; 4176];
+    let mut places = before.places;
+    hand(plan, before, &mut cells);
+    let mut r: usize = 0;
+    while r < rows {
+        let at = 16 * r + 1;
+        if !values_fit(plan, 1, n, value, unknown, at) {
+            let last = last_of(plan, before, r, &mut cells, places);
+            return ended(r, 25, last);
+        }
+        put_items(n, value, unknown, at, &mut cells);
+        turn(plan, lent, table, numbers, &mut cells, &mut places);
+        r += 1;
+    }
+    let last = last_of(plan, before, r, &mut cells, places);
+    ended(r, 0, last)
+}
+
+// Many cycles by tables that are filled: whole rows of 16 inputs, each with its flag; a cycle for each row, from what the last one
+// left, up
+// to the first that is refused.
+pub fn cycles<'a>(
+    plan: &PlanTable,
+    lent: &PlanTable,
+    table: &RowTable,
+    numbers: &RowNumbers,
+    before: Registers,
+    value: &'a [u32],
+    unknown: &'a [bool],
+) -> Rounds
+    ensures { λ r. ⌜
+        r
+        ≡ cyclesOn (planOf (now (plan .entry))) (planOf (now (lent .entry)) .node) (now (table .entry)) (now (numbers .entry)) before
+        (now (value .entry)) (now (unknown .entry))
+        ⌝ }
+{
+    if !registers_fit(plan, before) {
+        return ended(0, 31, refused(31, before));
+    }
+    if !fitting::rows_whole(value, unknown) {
+        return ended(0, 25, refused(25, before));
+    }
+    run_rows(plan, lent, table, numbers, before, value, unknown)
+}
+
+// ---- traces: each cycle's registers, places and wires as 72 words
+
+// A byte as a long word.
+fn long(b: u8) -> u64
+    ensures { λ r. ⌜ r ≡ b ⌝ }
+{
+    b as u64
+}
+
+// Word `k` of what a cycle gave: 32 registers, eight places, 32 wires.
+fn word_of(c: Clocked, k: usize) -> u64
+    ensures { λ r. ⌜ r ≡ wordOf c k ⌝ }
+{
+    if k < 32 {
+        return plan_state::marked(c.value[k], c.unknown[k]);
+    }
+    if k < 40 {
+        return long(c.places[k - 32]);
+    }
+    if k < 72 {
+        return plan_state::marked(c.wire[k - 40], c.unsure[k - 40]);
+    }
+    0
+}
+
+// Puts the words of what a cycle gave.
+fn put_row(c: Clocked, at: usize, out: &mut [u64])
+    requires { ⌜ at + 72 ≤ length (now out) ⌝ }
+    ensures { λ _. ⌜ now (out .exit) ≡ putWords c at 72 (now (out .entry)) ⌝ }
+{
+    let mut k: usize = 0;
+    while k < 72 {
+        out[at + k] = word_of(c, k);
+        k += 1;
+    }
+}
+
+// A cycle for each row, up to the first that is refused; what each gave is put.
+fn trace_rows<'a>(
+    plan: &PlanTable,
+    lent: &PlanTable,
+    table: &RowTable,
+    numbers: &RowNumbers,
+    before: Registers,
+    value: &'a [u32],
+    unknown: &'a [bool],
+    out: &mut [u64],
+) -> Rounds
+    requires { ⌜ 72 * (length (now value) / 16) ≤ length (now out) ⌝ }
+    ensures { λ r. ⌜
+        r
+        ≡ traceRows (planOf (now (plan .entry))) (planOf (now (lent .entry)) .node) (now (table .entry)) (now (numbers .entry)) before
+        (now (value .entry)) (now (unknown .entry)) (now (out .entry)) .rounds
+        ⌝ }
+    ensures { λ _. ⌜
+        now (out .exit)
+        ≡ traceRows (planOf (now (plan .entry))) (planOf (now (lent .entry)) .node) (now (table .entry)) (now (numbers .entry)) before
+        (now (value .entry)) (now (unknown .entry)) (now (out .entry)) .words
+        ⌝ }
+{
+    let rows = value.len() / 16;
+    let n = upper(plan);
+    let mut cells = [4294967296u64; 4176];
+    let mut places = before.places;
+    hand(plan, before, &mut cells);
+    let mut last = refused(0, before);
+    let mut r: usize = 0;
+    while r < rows {
+        let at = 16 * r + 1;
+        if !values_fit(plan, 1, n, value, unknown, at) {
+            return ended(r, 25, last);
+        }
+        put_items(n, value, unknown, at, &mut cells);
+        turn(plan, lent, table, numbers, &mut cells, &mut places);
+        settle(plan, &mut cells);
+        last = answer(plan, before, &cells, places);
+        put_row(last, 72 * r, out);
+        r += 1;
+    }
+    ended(r, 0, last)
+}
+
+// Many cycles as `cycles` runs them, and what each of them gave in 72 words of its own; 23 where not so many are lent.
+pub fn trace<'a>(
+    plan: &PlanTable,
+    lent: &PlanTable,
+    table: &RowTable,
+    numbers: &RowNumbers,
+    before: Registers,
+    value: &'a [u32],
+    unknown: &'a [bool],
+    out: &mut [u64],
+) -> Rounds
+    ensures { λ r. ⌜
+        r
+        ≡ traceOn (planOf (now (plan .entry))) (planOf (now (lent .entry)) .node) (now (table .entry)) (now (numbers .entry)) before
+        (now (value .entry)) (now (unknown .entry)) (now (out .entry)) .rounds
+        ⌝ }
+    ensures { λ _. ⌜
+        now (out .exit)
+        ≡ traceOn (planOf (now (plan .entry))) (planOf (now (lent .entry)) .node) (now (table .entry)) (now (numbers .entry)) before
+        (now (value .entry)) (now (unknown .entry)) (now (out .entry)) .words
+        ⌝ }
+{
+    if out.len() / 72 < value.len() / 16 {
+        return ended(0, 23, refused(23, before));
+    }
+    if !registers_fit(plan, before) {
+        return ended(0, 31, refused(31, before));
+    }
+    if !fitting::rows_whole(value, unknown) {
+        return ended(0, 25, refused(25, before));
+    }
+    trace_rows(plan, lent, table, numbers, before, value, unknown, out)
+}
