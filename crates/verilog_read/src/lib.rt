@@ -102,7 +102,7 @@ fn scanned(text: &[u8], lent: &mut [u8]) -> TextRead
 
 // A text's sheet in 8,192 lent bytes, zeros behind it, and its length; or the number and the place of its refusal, which leaves the
 // lent bytes.
-fn read_text(text: &[u8], lent: &mut [u8]) -> TextRead
+pub fn read_text(text: &[u8], lent: &mut [u8]) -> TextRead
     ensures { λ r. ⌜ gave r (now (lent .exit)) ≡ readText (now (text .entry)) (now (lent .entry)) ⌝ }
 {
     if lent.len() != 8192 {
