@@ -1,7 +1,7 @@
 // Verilog text from C and Rust: its sheet, and where its variables are declared.
 ghost use mathlib.Core.Path.{_≡_};
 ghost use Rattle.verilog_labels.specs.Labels.{labels};
-ghost use Rattle.verilog_read.specs.Read.{readText};
+ghost use Rattle.verilog_source.specs.Compiled.{compiled};
 
 // A text's sheet (document 02, request [1]) in 8,192 lent bytes, zeros behind it. `place` takes the byte at which a refusal was met: of
 // the text, for the numbers 1 to 11 of the sheet; 0 where there is none. `length` takes the sheet's length, 0 where refused.
@@ -12,10 +12,10 @@ pub extern "C" fn walbryts_read_text(
     place: &mut usize,
     length: &mut usize,
 ) -> u8
-    ensures { λ r. ⌜ r ≡ readText (now (text .entry)) (now (lent .entry)) .answer .number ⌝ }
-    ensures { λ r. ⌜ now (lent .exit) ≡ readText (now (text .entry)) (now (lent .entry)) .lent ⌝ }
-    ensures { λ r. ⌜ now (place .exit) ≡ readText (now (text .entry)) (now (lent .entry)) .answer .place ⌝ }
-    ensures { λ r. ⌜ now (length .exit) ≡ readText (now (text .entry)) (now (lent .entry)) .answer .length ⌝ }
+    ensures { λ r. ⌜ r ≡ compiled (now (text .entry)) (now (lent .entry)) .answer .number ⌝ }
+    ensures { λ r. ⌜ now (lent .exit) ≡ compiled (now (text .entry)) (now (lent .entry)) .lent ⌝ }
+    ensures { λ r. ⌜ now (place .exit) ≡ compiled (now (text .entry)) (now (lent .entry)) .answer .place ⌝ }
+    ensures { λ r. ⌜ now (length .exit) ≡ compiled (now (text .entry)) (now (lent .entry)) .answer .length ⌝ }
 {
     let found = verilog_read::read_text(text, lent);
     *place = found.place;
