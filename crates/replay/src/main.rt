@@ -468,6 +468,11 @@ fn do_dispatch() -> bool {
     true
 }
 
+// A buffer in hexadecimal.
+fn say_buffer(bytes: &[u8; 8193]) {
+    say_hex(bytes, 0);
+}
+
 // What a text gave, lent the first bytes of a buffer.
 fn say_text_read(text: &[u8], lent: usize) -> bool {
     let mut buffer = [170u8; 8193];
@@ -480,7 +485,7 @@ fn say_text_read(text: &[u8], lent: usize) -> bool {
     say(b" ");
     say_number(r.length as u64);
     say(b" ");
-    say_hex(&buffer, 0);
+    say_buffer(&buffer);
     say(b"\n");
     true
 }

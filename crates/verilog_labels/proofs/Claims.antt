@@ -5,7 +5,7 @@ use mathlib.Core.Bool.{Bool, true, false}
 use mathlib.Core.List.{List, [], _∷_}
 use Prim.Native.Nat.{ℕ}
 use borrow.Author.Tests.{eq-eqb}
-use lib.Dec.{leb, eqb}
+use lib.Dec.{leb}
 use lib.ListN.{length}
 use Rattle.sheet.specs.Reading as Sheet
 use Rattle.verilog_tokens.specs.Tokens.{Token, Name, tokens}
@@ -25,10 +25,12 @@ left-alone text places lengths h = by (leb (length text) 16384) h
         → (named places lengths ps fs .places ≡ places) × (named places lengths ps fs .lengths ≡ lengths)
     on ts ps [] h = absurd (h refl)
     on ts ps (f ∷ fs) h = (refl, refl)
+
     at : (ts : List Token) (r : Res Source) → derived places lengths ts r .number ≢ 0
         → (derived places lengths ts r .places ≡ places) × (derived places lengths ts r .lengths ≡ lengths)
     at ts (no n) h = (refl, refl)
     at ts (ok s rest) h = on ts (s .parts) (faults ts (s .parts)) h
+
     by : (b : Bool) → short text places lengths b .number ≢ 0
         → (short text places lengths b .places ≡ places) × (short text places lengths b .lengths ≡ lengths)
     by false h = (refl, refl)
@@ -45,10 +47,12 @@ module _ (text lent places lengths : List ℕ) where
           → Text.named lent ts ps fs .answer .number ≡ named places lengths ps fs .number
       on ts ps [] h = absurd (h refl)
       on ts ps (f ∷ fs) h = refl
+
       at : (r : Res Source) → derived places lengths (tokens text) r .number ≢ 0
           → Text.derived text lent r .answer .number ≡ derived places lengths (tokens text) r .number
       at (no n) h = refl
       at (ok s rest) h = on (tokens text) (s .parts) (faults (tokens text) (s .parts)) h
+
       by : (b : Bool) → short text places lengths b .number ≢ 0
           → Text.short text lent b .answer .number ≡ short text places lengths b .number
       by false h = refl

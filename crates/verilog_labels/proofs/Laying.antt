@@ -1,14 +1,12 @@
 -- Laws of rows: what is laid into a table, token by token. Assumes nothing.
 use mathlib.Core.Path.{_≡_, refl, sym, ap, _∙_}
-use mathlib.Core.Bool.{Bool, true, false}
-use mathlib.Core.List.{List, [], _∷_, _++_, append-assoc, append-nil}
-use Prim.Native.Nat.{ℕ, zero, suc, _+_, _-_, _<_, _≤_}
+use mathlib.Core.Bool.{true, false}
+use mathlib.Core.List.{List, [], _∷_, _++_, append-assoc}
+use Prim.Native.Nat.{ℕ, suc, _+_, _-_, _<_, _≤_}
 use native.Mathlib.Omega.{arith}
-use borrow.Author.Tests.{lt-ltb, le-ltb, ltb-true, ltb-false, eq-eqb, ne-eqb}
-use lib.Dec.{ltb, eqb}
-use lib.ListN.{length, getD, take, drop, set, drop-of-length-le, replicate, length-append, length-take, length-drop, length-set, length-replicate, getD-replicate, List·getD-append}
-use lib.Seq.{ext-getD, getD-take, getD-set-same, getD-set-other, getD-append-add, getD-append-seam, length-take-le}
-use Rattle.values.specs.Values.{pick}
+use borrow.Author.Tests.{lt-ltb, le-ltb, eq-eqb, ne-eqb}
+use lib.ListN.{length, getD, drop, set, drop-of-length-le, length-drop}
+use lib.Seq.{length-take-le}
 use Rattle.verilog_tokens.specs.declared.Class.the-variants.{Word}
 use Rattle.verilog_tokens.specs.Characters.{span, runEnd}
 use Rattle.verilog_tokens.proofs.Pieces.{run-size}
@@ -17,7 +15,6 @@ use Rattle.verilog_scan.specs.Scan.{spelledAt}
 use Rattle.verilog_names.specs.Chosen.{capped, chosen, hasRole, countOf}
 use Rattle.verilog_names.specs.Numbers.{ordered}
 use Rattle.verilog_names.proofs.Chosen.{capped-kept, here-in, here-out, chosen-step, chosen-done, chosen-few}
-use Rattle.verilog_labels.specs.Labels.{row}
 use Rattle.verilog_labels.specs.Steps.{zeros, put, laid, placesAt, lengthsAt, few}
 
 -- ---- a word's length
@@ -98,7 +95,8 @@ module _ (roles : List ℕ) (role n i : ℕ) where
       chosen-step (hasRole roles role) n i l
       ∙ ap (λ s. s ++ chosen (hasRole roles role) (n - (i + 1)) (i + 1)) (here-in (hasRole roles role) i (of-role e))
 
-  taken-out : i < n → (getD roles i 0 ≡ role → ⊥) → chosen (hasRole roles role) (n - i) i ≡ chosen (hasRole roles role) (n - (i + 1)) (i + 1)
+  taken-out : i < n → (getD roles i 0 ≡ role → ⊥)
+      → chosen (hasRole roles role) (n - i) i ≡ chosen (hasRole roles role) (n - (i + 1)) (i + 1)
   taken-out l e =
       chosen-step (hasRole roles role) n i l
       ∙ ap (λ s. s ++ chosen (hasRole roles role) (n - (i + 1)) (i + 1)) (here-out (hasRole roles role) i (of-other e))

@@ -1,29 +1,28 @@
 -- On a text's tables the steps of the code are the definition. Assumes nothing.
-use mathlib.Core.Path.{_≡_, refl, sym, ap, _∙_, subst}
-use mathlib.Core.Bool.{Bool, true, false}
+use mathlib.Core.Path.{_≡_, refl, sym, ap, _∙_}
+use mathlib.Core.Bool.{Bool, false}
 use mathlib.Core.List.{List, [], _∷_, _++_, map, append-assoc}
-use Prim.Native.Nat.{ℕ, zero, suc, _+_, _-_, _<_, _≤_}
+use Prim.Native.Nat.{ℕ, zero, suc, _+_, _<_, _≤_}
 use native.Mathlib.Omega.{arith}
-use borrow.Author.Tests.{lt-ltb, le-leb, lt-leb}
-use lib.Dec.{ltb, leb, eqb}
+use borrow.Author.Tests.{le-leb, lt-leb}
+use lib.Dec.{eqb}
 use lib.ListN.{length, getD, drop, length-replicate}
 use Rattle.values.specs.Values.{pick}
 use Rattle.verilog_tokens.specs.Tokens.{Token, Name, tokens, places}
 use Rattle.verilog_tokens.specs.Table as Table
 use Rattle.verilog_tokens.specs.Table.{kindOf, numberIn, kinds, numbers}
-use Rattle.verilog_grammar.specs.Meaning.{upTo, Kind, anInput, aRegister, aWire, Part, Source}
+use Rattle.verilog_grammar.specs.Meaning.{upTo, Part, Source}
 use Rattle.verilog_grammar.specs.Reader.{Res, ok, no, readModule}
-use Rattle.verilog_source.specs.Names.{Variable, variables, declared, driven, threads, inOrder, nameOf, numberOf, faults}
+use Rattle.verilog_source.specs.Names.{variables, declared, driven, threads, inOrder, numberOf, faults}
 use Rattle.verilog_source.specs.Compiled.{unnumbered}
 use Rattle.verilog_scan.specs.Scan.{stored, overwritten, starts}
 use Rattle.verilog_scan.proofs.Rest.{tokens-few}
 use Rattle.verilog_scan.proofs.Filling.{kinds-front}
 use Rattle.verilog_exprs.specs.Following.{Tabled}
-use Rattle.verilog_names.specs.declared.Fault.{Fault}
-use Rattle.verilog_names.specs.Chosen.{capped, here, chosen, hasRole, isDeclared}
+use Rattle.verilog_names.specs.Chosen.{capped, chosen, hasRole, isDeclared}
 use Rattle.verilog_names.specs.Faults.{faultOf}
 use Rattle.verilog_names.specs.Numbers.{ordered, numbered}
-use Rattle.verilog_names.specs.Tables.{Along, none, Scanned, Noted}
+use Rattle.verilog_names.specs.Tables.{none, Scanned, Noted}
 use Rattle.verilog_names.specs.Claims.{OfStored, SameFaults, SameNumbers, faultBy}
 use Rattle.verilog_names.proofs.Chosen.{capped-below, here-out}
 use Rattle.verilog_names.proofs.Standing.{along-append}
@@ -33,7 +32,7 @@ use Rattle.verilog_items.specs.Notes.{Notes}
 use Rattle.verilog_items.specs.Items.{readIn}
 use Rattle.verilog_items.specs.Following.{Said, ModulesFollow}
 use Rattle.verilog_items.proofs.Claims.{modules-follow}
-use Rattle.verilog_labels.specs.Labels.{Labels, told, row, placeOf, lengthOf, labelled, named, derived, short, labels}
+use Rattle.verilog_labels.specs.Labels.{Labels, told, row, placeOf, labelled, named, derived, short, labels}
 use Rattle.verilog_labels.specs.Steps.{zeros, laid, placesAt, lengthsAt, rowsIn, faultIn, notedIn, derivedIn, few, scannedIn}
 use Rattle.verilog_labels.proofs.Rowed.{zeros-at, laid-zeros}
 use Rattle.verilog_labels.proofs.Laying.{few-below}
@@ -122,10 +121,13 @@ module _ (text : List ℕ) (h : length text ≤ 16384) (room : List ℕ) (long :
     unfolding ModulesFollow unnumbered
     said = modules-follow unnumbered ts ks _ tabled (λ s. omega arith) buffer room room wide long long clear
 
-    -- The rows of the parts.
+    -- The rows of the tokens that declare variables are those of the parts.
+    abbrev laid-in : List ℕ → ℕ → Labels
+    laid-in roles n =
+        told 0 (laid (zeros 80) 0 (placesAt begun (ordered roles n))) (laid (zeros 80) 0 (lengthsAt text begun (ordered roles n)))
+
     rows-link : (ps : List Part) (roles widths : List ℕ) → Noted unnumbered ts ps roles widths
-        → told 0 (laid (zeros 80) 0 (placesAt begun (ordered roles (length ts)))) (laid (zeros 80) 0 (lengthsAt text begun (ordered roles (length ts))))
-        ≡ labelled ps
+        → laid-in roles (length ts) ≡ labelled ps
     unfolding ordered labelled inOrder
     rows-link ps roles widths n =
         let all = along-append (along-append (n .inputs) (n .registers)) (n .wires) in
@@ -136,7 +138,7 @@ module _ (text : List ℕ) (h : length text ≤ 16384) (room : List ℕ) (long :
 
     fault-link : (ps : List Part) (roles widths : List ℕ) → Noted unnumbered ts ps roles widths
         → pick (faultOf ks ids begun roles (length ts) .found) (told 43 places₀ lengths₀)
-        (told 0 (laid (zeros 80) 0 (placesAt begun (ordered roles (length ts)))) (laid (zeros 80) 0 (lengthsAt text begun (ordered roles (length ts)))))
+        (laid-in roles (length ts))
         ≡ named places₀ lengths₀ ps (faults ts ps)
     unfolding SameFaults named faultBy
     fault-link ps roles widths n =
@@ -150,8 +152,7 @@ module _ (text : List ℕ) (h : length text ≤ 16384) (room : List ℕ) (long :
     read-link : (s : Notes) (r : Res Source) → Said unnumbered ts s r
         → pick (s .text .put .ok)
         (pick (faultOf ks ids begun (s .roles) (length ts) .found) (told 43 places₀ lengths₀)
-        (told 0 (laid (zeros 80) 0 (placesAt begun (ordered (s .roles) (length ts))))
-        (laid (zeros 80) 0 (lengthsAt text begun (ordered (s .roles) (length ts))))))
+        (laid-in (s .roles) (length ts)))
         (told 42 places₀ lengths₀)
         ≡ derived places₀ lengths₀ ts r
     unfolding Said derived
@@ -164,8 +165,7 @@ module _ (text : List ℕ) (h : length text ≤ 16384) (room : List ℕ) (long :
     noted-link e =
         ap (λ m. pick (read-in .text .put .ok)
         (pick (faultOf ks ids begun (read-in .roles) m .found) (told 43 places₀ lengths₀)
-        (told 0 (laid (zeros 80) 0 (placesAt begun (ordered (read-in .roles) m)))
-        (laid (zeros 80) 0 (lengthsAt text begun (ordered (read-in .roles) m)))))
+        (laid-in (read-in .roles) m))
         (told 42 places₀ lengths₀)) e
         ∙ read-link read-in (readModule unnumbered ts) said
 

@@ -2,12 +2,11 @@
 use mathlib.Core.Path.{_≡_, refl, sym, ap, _∙_, subst}
 use mathlib.Core.Bool.{Bool, true, false}
 use mathlib.Core.List.{List, [], _∷_, map}
-use Prim.Native.Nat.{ℕ, zero, suc, _+_, _-_, _<_, _≤_}
+use Prim.Native.Nat.{ℕ, zero, suc, _+_, _<_, _≤_}
 use native.Mathlib.Omega.{arith}
 use borrow.Author.Tests.{ltb-true, ltb-false}
-use lib.Dec.{ltb, eqb}
+use lib.Dec.{ltb}
 use lib.ListN.{length, getD, drop}
-use Rattle.values.specs.Values.{pick}
 use Rattle.verilog_tokens.specs.Tokens.{Token, name, Name, Located, tokens, located}
 use Rattle.verilog_tokens.specs.Table.{kindOf, nameIn}
 use Rattle.verilog_scan.specs.Scan.{spelledAt, nameAt, gapFrom}
@@ -77,6 +76,7 @@ module _ (text begun widths : List ℕ) (placed : (t : ℕ) (n : Name) → Stand
   along-lengths none = refl
   along-lengths (next {a = t} {b = v} {xs = xs} {ys = ys} r p) =
       let e : length (spelledAt text (getD begun t 0)) ≡ length (v .named .spelled) =
-      ap (λ q. length (spelledAt text q)) (placed t (v .named) (r .named)) ∙ ap length (sym (stands-spelled text t (v .named) (r .named))) in
+      ap (λ q. length (spelledAt text q)) (placed t (v .named) (r .named))
+      ∙ ap length (sym (stands-spelled text t (v .named) (r .named))) in
       let f = along-lengths {ks = xs} {vs = ys} p in
       cc

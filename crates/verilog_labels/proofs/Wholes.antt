@@ -1,13 +1,11 @@
 -- Laws of what is made of the tables, by the tests of the code. Assumes nothing.
-use mathlib.Core.Path.{_≡_, refl, sym, _∙_, ap}
-use mathlib.Core.Bool.{Bool, true, false}
+use mathlib.Core.Path.{_≡_, sym, ap}
+use mathlib.Core.Bool.{true, false}
 use mathlib.Core.List.{List}
-use Prim.Native.Nat.{ℕ, _<_, _≤_}
-use borrow.Author.Tests.{lt-ltb, le-ltb}
+use Prim.Native.Nat.{ℕ, _≤_}
+use borrow.Author.Tests.{le-ltb}
 use lib.Dec.{ltb}
 use lib.ListN.{length}
-use Rattle.values.specs.Values.{pick}
-use Rattle.verilog_tokens.specs.Tokens.{tokens}
 use Rattle.verilog_scan.specs.Scan.{overlong, Scanned}
 use Rattle.verilog_exprs.specs.declared.Put.{Put}
 use Rattle.verilog_exprs.specs.Rows.{wrote}

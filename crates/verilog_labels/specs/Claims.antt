@@ -16,4 +16,3 @@ LeftAlone = (text places lengths : List ℕ) → labels text places lengths .num
 unfoldable pub SameNumber : Type 0
 SameNumber = (text lent places lengths : List ℕ) → length lent ≡ 8192 → labels text places lengths .number ≢ 0
     → compiled text lent .answer .number ≡ labels text places lengths .number
-

@@ -87,7 +87,8 @@ pub(crate) fn rows(
     lengths: &mut [u16; 80],
 )
     requires { ⌜ length (now text) ≤ 16384 ⌝ }
-    ensures { λ _. ⌜ now (places .exit) ≡ laid (zeros 80) 0 (placesAt (now (begun .entry)) (ordered (now (roles .entry)) (capped count))) ⌝ }
+    ensures { λ _. ⌜ now (places .exit)
+        ≡ laid (zeros 80) 0 (placesAt (now (begun .entry)) (ordered (now (roles .entry)) (capped count))) ⌝ }
     ensures { λ _. ⌜ now (lengths .exit)
         ≡ laid (zeros 80) 0 (lengthsAt (now (text .entry)) (now (begun .entry)) (ordered (now (roles .entry)) (capped count))) ⌝ }
 {

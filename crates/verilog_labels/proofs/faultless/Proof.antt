@@ -8,7 +8,8 @@ returns-2 : tie.Need-returns-2
 returns-2 c =
     let at-fault = c .before .before .before .before in
     let rows = c .rows .ensures in
-    fault-yes _ _ _ _ _ _ _ _ (at-fault .before .wide .ensures) (at-fault .first-fault .ensures) (c .before .before .before .if1 .left) (rows .0) (rows .1)
+    let left = c .before .before .before .if1 .left in
+    fault-yes _ _ _ _ _ _ _ _ (at-fault .before .wide .ensures) (at-fault .first-fault .ensures) left (rows .0) (rows .1)
 
 pub faultless-spec : {M : Type 1} → statement M
 faultless-spec =

@@ -158,12 +158,17 @@ fn limits() -> Vec<Case> {
         cases.push(case(nested("a+", count, "a", "")));
         cases.push(case(nested("a?a:", count.min(4_080), "a", "")));
     }
-    for (part, count) in [("@a ", 5_400), ("if(a)", 3_260), ("forever ", 2_000), ("begin ", 60)]
+    for unclosed in ["(", "~(", "a?", "a+("] {
+        let text = with(&format!("always b = {}", unclosed.repeat(16_300 / unclosed.len())));
+        cases.push(case(&text[..text.len() - " endmodule".len()]));
+    }
+    for (part, count) in
+        [("@a ", 5_400), ("@a", 8_100), ("if(a)", 3_260), ("forever ", 2_000), ("begin ", 60)]
     {
         let ends = if part == "begin " { " end".repeat(count) } else { String::new() };
         for count in [1, 61, 62, 63, 64, count] {
             let ends = if ends.is_empty() { String::new() } else { " end".repeat(count) };
-            cases.push(case(with(&format!("always {}b = a;{ends}", part.repeat(count)))));
+            cases.push(case(with(&format!("always {} b = a;{ends}", part.repeat(count)))));
         }
     }
     for count in [253, 254, 255, 256, 257] {

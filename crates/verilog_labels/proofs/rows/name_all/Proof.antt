@@ -1,12 +1,10 @@
 -- `verilog_labels::rows::name_all` meets its contract. The loop's invariant: what is still to be laid gives the whole.
 -- Assumes nothing.
 use borrow.Author.Needs.{needs}
-use mathlib.Core.Path.{_∙_, ap}
+use mathlib.Core.Path.{_∙_}
 use mathlib.Core.Logic.{⊎-elim}
 use Prim.Native.Nat.{_-_}
 use native.Mathlib.Omega.{arith}
-use lib.ListN.{length}
-use Rattle.verilog_scan.specs.Scan.{spelledAt}
 use Rattle.verilog_labels.proofs.Laying.{Laying, laying-first, laying-in, laying-out, laying-last}
 use Rattle.verilog_labels.proofs.rows.name_all.Statement.{statement}
 use Rattle.verilog_labels.proofs.rows.name_all.Tie as tie
@@ -30,7 +28,8 @@ loop-again c =
     let l = c .before .before .before .loop .inv in
     let h = c .before .before .loop-test .taken in
     ⊎-elim
-    (λ w. laying-in _ _ _ _ _ _ _ _ l h (w .0 .taken) (w .9 ∙ w .3 .ensures) (w .6 .ensures) (w .7 .ensures) (w .10 ∙ w .8 .ensures) (w .11))
+    (λ w. laying-in _ _ _ _ _ _ _ _ l h (w .0 .taken)
+    (w .9 ∙ w .3 .ensures) (w .6 .ensures) (w .7 .ensures) (w .10 ∙ w .8 .ensures) (w .11))
     (λ w. laying-out _ _ _ _ _ _ _ _ l h (w .0 .left) (w .1) (w .2) (w .3))
     (c .if1 .came)
 

@@ -21,8 +21,7 @@ name-all-requires-3 c κs =
     let at-second = c .before .before in
     let at-first = at-second .before .before .before in
     let at-capped = at-first .before .before .before in
-    let n = at-capped .capped .ensures in
-    (
+    let n = at-capped .capped .ensures in (
       at-capped .before .before .pre,
       (capped-kept _ _ n, second-few _ _ n (at-first .name-all .ensures .0) (at-second .name-all2 .ensures .0)),
     )
@@ -36,8 +35,7 @@ returns c =
     let d = c .name-all3 .ensures in
     let at-capped = at-first .before .before .before in
     let n = at-capped .capped .ensures in
-    let text = at-capped .before .before .args .text .now in
-    (
+    let text = at-capped .before .before .args .text .now in (
       all-places text _ _ _ n (a .0) (b .0) (a .1 .0) (b .1 .0) (d .1 .0),
       all-lengths _ _ _ _ n (a .0) (b .0) (a .1 .1) (b .1 .1) (d .1 .1),
     )
