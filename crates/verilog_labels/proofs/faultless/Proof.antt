@@ -4,6 +4,9 @@ use Rattle.verilog_labels.proofs.Wholes.{fault-no, fault-yes}
 use Rattle.verilog_labels.proofs.faultless.Statement.{statement}
 use Rattle.verilog_labels.proofs.faultless.Tie as tie
 
+returns : tie.Need-returns
+returns c = fault-no _ _ _ _ _ _ _ _ (c .before .before .wide .ensures) (c .before .first-fault .ensures) (c .if1 .taken)
+
 returns-2 : tie.Need-returns-2
 returns-2 c =
     let at-fault = c .before .before .before .before in
@@ -17,6 +20,6 @@ faultless-spec =
     (tie.spec
     (λ c κs. search needs)
     (λ c κs. search needs)
-    (λ c. fault-no _ _ _ _ _ _ _ _ (c .before .before .wide .ensures) (c .before .first-fault .ensures) (c .if1 .taken))
+    returns
     (λ c κs. search needs)
     returns-2)
