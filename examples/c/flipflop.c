@@ -124,7 +124,8 @@ static void from_verilog(void) {
     size_t place, length;
     const uint8_t *bytes = (const uint8_t *)text;
     accepted("read_text", walbryts_read_text(bytes, sizeof text - 1, lent, sizeof lent, &place, &length));
-    printf("Verilog: %s", length == sizeof sheet && memcmp(lent, sheet, length) == 0 ? "the same sheet" : "another sheet");
+    bool same = length == sizeof sheet && memcmp(lent, sheet, length) == 0;
+    printf("Verilog: %s", same ? "the same sheet" : "another sheet");
     accepted("names", walbryts_names(bytes, sizeof text - 1, places, lengths));
     for (size_t v = 0; v < WALBRYTS_VARIABLES && lengths[v] > 0; v++) {
         printf("%s %.*s", v == 0 ? ", variables" : "", lengths[v], text + places[v]);
