@@ -40,8 +40,13 @@ module _ (b : ℕ) (e : isLetter b ≡ true) where
   letter-no-space : isSpace b ≡ false
   unfolding isSpace isNewline
   letter-no-space =
-      rw (letter-not 32 (omega arith), letter-not 9 (omega arith), letter-not 12 (omega arith), letter-not 10 (omega arith),
-      letter-not 13 (omega arith))
+      rw (
+        letter-not 32 (omega arith),
+        letter-not 9 (omega arith),
+        letter-not 12 (omega arith),
+        letter-not 10 (omega arith),
+        letter-not 13 (omega arith),
+      )
 
   letter-class : inClass Word b ≡ true
   unfolding inClass isNamed

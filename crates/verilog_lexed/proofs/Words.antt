@@ -289,4 +289,3 @@ module _ {s : List ℕ} {k : From} (h : Reads s k) where
   pub module-word : Reads (ascii "module walbryts (" ++ s) (spaced "module" (names (ascii "walbryts") (blanks 1 (marks "(" k))))
   unfolding ascii marks blanks spaced between worded isLetter isBelow digitOf isNamed isSpace isNewline inClass every isKeyword isAmong keywords sameText
   module-word = module-reads (named-reads (ascii "walbryts") refl refl (ends-blank (40 ∷ s) .word) (reads-blank 32 refl (open-reads h)))
-
