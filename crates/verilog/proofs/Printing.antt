@@ -361,7 +361,8 @@ module _ (i r : ℕ) (s : List ℕ) where
         leaves-text t _ _ _ (leaves-next c l _ el)
         (both _ _ _ _ _ ea (both _ _ _ _ _ ec (both _ _ _ _ _ (leaves-puts c l _ el) ee)))
 
-    pub wait-path : (word : List ℕ) {k w : ℕ} {a b c e : Text} → k ≡ getD s (p + 1) 0 → w ≡ k → a ≡ puts t (indent n) → b ≡ puts a (ascii "@(")
+    pub wait-path : (word : List ℕ) {k w : ℕ} {a b c e : Text} → k ≡ getD s (p + 1) 0 → w ≡ k → a ≡ puts t (indent n)
+        → b ≡ puts a (ascii "@(")
         → c ≡ puts b (termsAt i r s k 0 (p + 2)) → e ≡ puts c word → left (p + 2 + 2 * w) e ≡ leaves t
         (waitAt i r s word n p)
     unfolding waitAt

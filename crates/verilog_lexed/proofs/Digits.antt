@@ -40,7 +40,8 @@ unfolding Digits digits
 are-digits zero n = Prim.tt
 are-digits (suc f) n = by (ltb n 10) refl (are-digits f (n / 10))
   where
-    by : (x : Bool) → ltb n 10 ≡ x → Digits (digits f (n / 10)) → Digits (pick x (digit n ∷ []) (digits f (n / 10) ++ (digit (n % 10) ∷ [])))
+    by : (x : Bool) → ltb n 10 ≡ x → Digits (digits f (n / 10))
+        → Digits (pick x (digit n ∷ []) (digits f (n / 10) ++ (digit (n % 10) ∷ [])))
     by true q h = (digit-is n (ltb-true n 10 q), Prim.tt)
     by false q h = digits-append (digits f (n / 10)) (digit (n % 10) ∷ []) h (digit-is (n % 10) (omega arith), Prim.tt)
 
@@ -82,7 +83,8 @@ module _ (d : ℕ) (h : Digit d) where
 
   pub digit-no-space : isSpace d ≡ false
   unfolding isSpace isNewline
-  digit-no-space = rw (not-is 32 (omega arith), not-is 9 (omega arith), not-is 12 (omega arith), not-is 10 (omega arith), not-is 13 (omega arith))
+  digit-no-space =
+      rw (not-is 32 (omega arith), not-is 9 (omega arith), not-is 12 (omega arith), not-is 10 (omega arith), not-is 13 (omega arith))
 
   pub digit-no-slash : eqb d 47 ≡ false
   digit-no-slash = not-is 47 (omega arith)

@@ -189,7 +189,8 @@ module _ (i r : ℕ) where
   terms-stop j [] s h = h
   terms-stop j (t ∷ ts) s h =
       rw (ne-eqb (j + 1) 0 (omega arith))
-      (ap (span Word) (simp append-assoc) ∙ or-ends (edgeText (t .edge) ++ (plainName i r (t .variable) ++ (termsText (plainName i r) (j + 1 + 1) ts ++ s))) .word)
+      (ap (span Word) (simp append-assoc)
+      ∙ or-ends (edgeText (t .edge) ++ (plainName i r (t .variable) ++ (termsText (plainName i r) (j + 1 + 1) ts ++ s))) .word)
 
   terms-reads : (j : ℕ) (ts : List EdgeTerm) {s : List ℕ} {k : From} → span Word s ≡ 0 → Reads s k
       → Reads (termsText (plainName i r) j ts ++ s) (termsTokens (plainName i r) j ts k)
@@ -338,7 +339,8 @@ module _ (i r : ℕ) where
 
 -- ---- the whole text
 
-module-reads : (m : Module Expr) → WellFormed m → Reads (verilogText m) (moduleTokens (plainName (m .scope .inputs) (m .scope .registers)) m nothing)
+module-reads : (m : Module Expr) → WellFormed m
+    → Reads (verilogText m) (moduleTokens (plainName (m .scope .inputs) (m .scope .registers)) m nothing)
 unfolding verilogText moduleText moduleTokens nothing
 module-reads m h =
     let c = m .scope in

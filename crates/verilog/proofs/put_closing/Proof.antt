@@ -12,8 +12,9 @@ returns c = sym (puts-nil _) ∙ ap (puts _) (sym (closing-flat _ _ _ (sym (c .b
 
 returns-2 : tie.Need-returns-2
 returns-2 c =
+    let c1 = c .before .before .before .before in
     both _ _ _ _ _ (c .before .before .put-indent .ensures) (c .put-end .ensures)
-    ∙ ap (puts _) (sym (closing-block _ _ _ (sym (c .before .before .before .before .before .is-flat .ensures) ∙ c .before .before .before .before .if1 .left)))
+    ∙ ap (puts _) (sym (closing-block _ _ _ (sym (c1 .before .is-flat .ensures) ∙ c1 .if1 .left)))
 
 pub put-closing-spec : {M : Type 1} → statement M
 put-closing-spec =

@@ -13,11 +13,15 @@ returns c = c .put-word .ensures ∙ ap (puts _) (sym (end-other _ _ (c .before 
 
 returns-2 : tie.Need-returns-2
 unfolding ascii
-returns-2 c = c .put-word2 .ensures ∙ ap (puts _) (sym (end-last _ _ (c .before .before .before .before .if1 .left) (c .before .before .before .if2 .taken)))
+returns-2 c =
+    let c1 = c .before .before .before in
+    c .put-word2 .ensures ∙ ap (puts _) (sym (end-last _ _ (c1 .before .if1 .left) (c1 .if2 .taken)))
 
 returns-3 : tie.Need-returns-3
 unfolding ascii
-returns-3 c = c .put-word3 .ensures ∙ ap (puts _) (sym (end-else _ _ (c .before .before .before .before .if1 .left) (c .before .before .before .if2 .left)))
+returns-3 c =
+    let c1 = c .before .before .before in
+    c .put-word3 .ensures ∙ ap (puts _) (sym (end-else _ _ (c1 .before .if1 .left) (c1 .if2 .left)))
 
 pub put-end-spec : {M : Type 1} → statement M
 put-end-spec =
