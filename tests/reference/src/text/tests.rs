@@ -3,6 +3,7 @@ use crate::encode::encode;
 use crate::generate;
 use crate::random::Random;
 use crate::text::{random as texts, vectors};
+use crate::verilog;
 
 fn read(text: &[u8]) -> (Answer, Vec<u8>) {
     let mut lent = vec![0xAA; LENT];
@@ -60,6 +61,30 @@ fn a_written_module_is_read_as_it_was_meant() {
         }
     }
     assert!(accepted > 1_000);
+}
+
+#[test]
+fn a_printed_module_is_read_back() {
+    let mut random = Random::new(2);
+    let mut accepted = 0;
+    for _ in 0..600 {
+        let module = generate::module(&mut random);
+        let text = verilog::text(&module);
+        if text.len() > MOST_TEXT {
+            continue;
+        }
+        let sheet = encode(&texts::meant(&module));
+        let (answer, lent) = read(text.as_bytes());
+        match sheet::read(&sheet) {
+            Ok(_) => {
+                assert_eq!((answer.number, answer.length), (0, sheet.len()), "{text}");
+                assert_eq!(&lent[..sheet.len()], sheet, "{text}");
+                accepted += 1;
+            }
+            Err(refusal) => assert_eq!(answer.number, refusal.number),
+        }
+    }
+    assert!(accepted > 300);
 }
 
 #[test]
