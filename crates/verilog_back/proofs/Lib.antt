@@ -1,1 +1,4 @@
 pub mod Returned
+pub mod Cases
+pub mod Yields
+pub mod Counted
