@@ -2,10 +2,13 @@
 -- wait that opens no sequence comes back as a sequence of the wait and an empty statement; all else is as it was.
 use mathlib.Core.Bool.{Bool, true, false, _&&_}
 use mathlib.Core.List.{List, [], _∷_, map}
+use Prim.Native.Nat.{ℕ, zero, suc, _≤_}
+use lib.ListN.{length}
 use Rattle.values.specs.Values.{pick}
 use Rattle.sheet.specs.Expression.{Expr}
 use Rattle.sheet.specs.Statement.{Stmt, empty, assign, later, sequence, ifThen, ifElse, while, forever, wait}
 use Rattle.sheet.specs.Module.{Module}
+use Rattle.encoding.specs.Encoding.{encode}
 use Rattle.pseudocode.specs.Translation.{Instr, threadCode}
 
 unfoldable pub isWait : Stmt Expr → Bool
@@ -32,6 +35,28 @@ returned (wait ts) = sequence (wait ts) empty
 
 unfoldable pub returnedModule : Module Expr → Module Expr
 returnedModule m = record { scope = m .scope; wires = m .wires; threads = map returned (m .threads) }
+
+-- ---- what is added can pass two limits: "At most 8,192 bytes", "Depth at most 64"
+
+-- Is a statement of depth at most so many?
+unfoldable pub Shallow : ℕ → Stmt Expr → Type 0
+Shallow zero b = ⊥
+Shallow (suc d) empty = Unit {0}
+Shallow (suc d) (assign t e) = Unit {0}
+Shallow (suc d) (later t e) = Unit {0}
+Shallow (suc d) (sequence a b) = Shallow d a × Shallow d b
+Shallow (suc d) (ifThen e a) = Shallow d a
+Shallow (suc d) (ifElse e a b) = Shallow d a × Shallow d b
+Shallow (suc d) (while e a) = Shallow d a
+Shallow (suc d) (forever a) = Shallow d a
+Shallow (suc d) (wait ts) = Unit {0}
+
+unfoldable pub AllShallow : List (Stmt Expr) → Type 0
+AllShallow [] = Unit {0}
+AllShallow (b ∷ bs) = Shallow 64 b × AllShallow bs
+
+unfoldable pub Fits : Module Expr → Type 0
+Fits m = (length (encode (returnedModule m)) ≤ 8192) × AllShallow (map returned (m .threads))
 
 -- Does every wait open a sequence?
 unfoldable pub opens : Stmt Expr → Bool
