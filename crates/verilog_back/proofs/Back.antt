@@ -51,8 +51,13 @@ answered : (text lent : List ℕ) (t : ModuleDeclaration) → length lent ≡ 81
     → faults (tokens text) (declaredBy t) ≡ [] → compiled text lent ≡ judged lent (sheetBy t) (read (sheetBy t))
 unfolding compiled lentRight short derived named declaredBy sheetOf sheetBy partsOf
 answered text lent t h l d f =
-    rw (eq-eqb (length lent) 8192 h, le-leb (length text) 16384 l, read-by unnumbered text t d, f,
-        read-by (numberOf (meaning unnumbered t .parts)) text t d)
+    rw (
+      eq-eqb (length lent) 8192 h,
+      le-leb (length text) 16384 l,
+      read-by unnumbered text t d,
+      f,
+      read-by (numberOf (meaning unnumbered t .parts)) text t d,
+    )
     refl
 
 -- ---- of the printed text

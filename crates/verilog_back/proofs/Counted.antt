@@ -82,7 +82,8 @@ module _ (called : ℕ → List ℕ) where
   threads-settled [] d = tt
   threads-settled (a ∷ bs) d = (within-settled a (d .0), threads-settled bs (d .1))
 
-  wires-settled : (v : ℕ) (es : List Expr) (d : Each InWire es) (xs : List Item) → SettledParts xs → SettledParts (wireTrees called v es d xs)
+  wires-settled : (v : ℕ) (es : List Expr) (d : Each InWire es) (xs : List Item) → SettledParts xs
+      → SettledParts (wireTrees called v es d xs)
   unfolding wireTrees SettledParts SettledPart Every GroupedNet Grouped
   wires-settled v [] d xs h = h
   wires-settled v (e ∷ es) d xs h = (grouped e (d .0 .1), wires-settled (v + 1) es (d .1) xs h)

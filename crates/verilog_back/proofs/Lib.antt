@@ -10,3 +10,4 @@ pub mod Plain
 pub mod Sheet
 pub mod Unique
 pub mod Back
+pub mod Samples

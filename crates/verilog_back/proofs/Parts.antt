@@ -214,10 +214,13 @@ module _ (called : ℕ → List ℕ) where
     wires-threads v [] d xs = refl
     wires-threads v (e ∷ es) d xs = wires-threads (v + 1) es (d .1) xs
 
+    -- A wire's `assign`.
+    abbrev pub drivenAt : (v : ℕ) (e : Expr) → InWire e → Driven
+    drivenAt v e d = record { target = nameAt called (d .0) v; value = exprOf index (exprTree called e (d .1)) }
+
     unfoldable pub drivenBy : (v : ℕ) (es : List Expr) → Each InWire es → List Driven
     drivenBy v [] d = []
-    drivenBy v (e ∷ es) d =
-        record { target = nameAt called (d .0 .0) v; value = exprOf index (exprTree called e (d .0 .1)) } ∷ drivenBy (v + 1) es (d .1)
+    drivenBy v (e ∷ es) d = drivenAt v e (d .0) ∷ drivenBy (v + 1) es (d .1)
 
     pub wires-driven : (v : ℕ) (es : List Expr) (d : Each InWire es) (xs : List Item) → driven (partsOf index xs) ≡ []
         → driven (partsOf index (wireTrees called v es d xs)) ≡ drivenBy v es d
@@ -232,7 +235,8 @@ module _ (called : ℕ → List ℕ) where
 
     -- ---- threads
 
-    pub threads-variables : (k : Kind) (bs : List (Stmt Expr)) (d : Each InStmt bs) → variables k (partsOf index (threadTrees called bs d)) ≡ []
+    pub threads-variables : (k : Kind) (bs : List (Stmt Expr)) (d : Each InStmt bs)
+        → variables k (partsOf index (threadTrees called bs d)) ≡ []
     unfolding threadTrees partsOf partOf variables
     threads-variables k [] d = refl
     threads-variables k (a ∷ bs) d = threads-variables k bs (d .1)
@@ -247,7 +251,8 @@ module _ (called : ℕ → List ℕ) where
     threads-driven [] d = refl
     threads-driven (a ∷ bs) d = threads-driven bs (d .1)
 
-    pub threads-count : (bs : List (Stmt Expr)) (d : Each InStmt bs) → length (threads (partsOf index (threadTrees called bs d))) ≡ length bs
+    pub threads-count : (bs : List (Stmt Expr)) (d : Each InStmt bs)
+        → length (threads (partsOf index (threadTrees called bs d))) ≡ length bs
     unfolding threadTrees partsOf partOf threads
     threads-count [] d = refl
     threads-count (a ∷ bs) d = ap suc (threads-count bs (d .1))
@@ -271,7 +276,7 @@ module _ (called : ℕ → List ℕ) where
         skipped v u t a ds (x ∷ vs) e (next f r) l m =
             let z = row-length called r in
             let q : sameText (a .target .spelled) (x .named .spelled) ≡ false =
-                rw (e, f) (different called (length (c .widths)) distinct v u (omega arith) (omega arith) (λ q. omega arith)) in
+            rw (e, f) (different called (length (c .widths)) distinct v u (omega arith) (omega arith) (λ q. omega arith)) in
             rw (q, skipped v (u + 1) t a ds vs e r (omega arith) m) refl
 
         pub wires-written : (v : ℕ) (es : List Expr) (d : Each InWire es) (vs : List Variable) → WiresFit (c .widths) v es
@@ -282,12 +287,13 @@ module _ (called : ℕ → List ℕ) where
         wires-written v [] d (x ∷ vs) t r l = let z = row-length called r in absurd (omega arith)
         wires-written v (e ∷ es) d [] t r l = let z = row-length called r in absurd (omega arith)
         wires-written v (e ∷ es) d (x ∷ vs) t (next f r) l =
-            let a : Driven = record { target = nameAt called (d .0 .0) v; value = exprOf index (exprTree called e (d .0 .1)) } in
-            rw (skipped v (v + 1) (v + length (e ∷ es)) a (drivenBy (v + 1) es (d .1)) vs refl r (omega arith) l,
-                wires-written (v + 1) es (d .1) vs (t .1) (ending (omega arith) r) (omega arith))
+            rw (
+              skipped v (v + 1) (v + length (e ∷ es)) (drivenAt v e (d .0)) (drivenBy (v + 1) es (d .1)) vs refl r (omega arith) l,
+              wires-written (v + 1) es (d .1) vs (t .1) (ending (omega arith) r) (omega arith),
+            )
             (first (x .named .spelled) f)
           where
             first : (s : List ℕ) → s ≡ called v
-                → encodeExpr (valueFor (record { target = nameAt called (d .0 .0) v; value = exprOf index (exprTree called e (d .0 .1)) } ∷ drivenBy (v + 1) es (d .1)) s) ++ encodeWires es
+                → encodeExpr (valueFor (drivenAt v e (d .0) ∷ drivenBy (v + 1) es (d .1)) s) ++ encodeWires es
                 ≡ encodeExpr e ++ encodeWires es
             first s q = unfold valueFor in rw (q, sameText-refl (called v), expr-meant called index c right 16 e _ (t .0) (d .0 .1)) refl

@@ -43,8 +43,11 @@ returned-code empty n = refl
 returned-code (assign t e) n = refl
 returned-code (later t e) n = refl
 returned-code (sequence a b) n =
-    rw (picked-size (isWait a) a (returned a) (returned-size a), picked-code (isWait a) a (returned a) n (returned-code a n),
-        returned-code b (n + size a))
+    rw (
+      picked-size (isWait a) a (returned a) (returned-size a),
+      picked-code (isWait a) a (returned a) n (returned-code a n),
+      returned-code b (n + size a),
+    )
 returned-code (ifThen e a) n = rw (returned-size a, returned-code a (n + 1))
 returned-code (ifElse e a b) n =
     rw (returned-size a, returned-size b, returned-code a (n + 1), returned-code b (n + 2 + size a))

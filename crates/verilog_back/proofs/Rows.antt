@@ -64,7 +64,8 @@ module _ (called : ℕ → List ℕ) where
     among ends m k e l h = absurd (omega arith)
     among {v} (next {m = o} {ns = ns} f r) m k e l h = by (ltb v k) refl (λ y. among r m k e y h)
       where
-        by : (t : Bool) → ltb v k ≡ t → (v + 1 ≤ k → isAmong ns m ≡ true) → pick (sameText (o .spelled) (m .spelled)) true (isAmong ns m) ≡ true
+        by : (t : Bool) → ltb v k ≡ t → (v + 1 ≤ k → isAmong ns m ≡ true)
+            → pick (sameText (o .spelled) (m .spelled)) true (isAmong ns m) ≡ true
         by true q g =
             let y = ltb-true v k q in
             let x = g (omega arith) in

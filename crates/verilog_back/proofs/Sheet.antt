@@ -31,7 +31,8 @@ module _ (called : ℕ → List ℕ) (m : Module Expr) (f : WellFormed m) (d : I
   -- The parts behind the declarations, and all parts.
   unfoldable under : (List ℕ → ℕ) → List Part
   under index =
-      partsOf index (wireTrees called (m .scope .inputs + m .scope .registers) (m .wires) (d .wires) (threadTrees called (m .threads) (d .threads)))
+      partsOf index
+      (wireTrees called (m .scope .inputs + m .scope .registers) (m .wires) (d .wires) (threadTrees called (m .threads) (d .threads)))
 
   unfoldable parts : (List ℕ → ℕ) → List Part
   parts index = declaredParts called (m .scope .inputs) (m .scope .registers) 0 (m .scope .widths) (d .widths) (under index)
@@ -64,7 +65,8 @@ module _ (called : ℕ → List ℕ) (m : Module Expr) (f : WellFormed m) (d : I
     unfolding parts
     declared-names = declared-row called (m .scope .inputs) (m .scope .registers) 0 (m .scope .widths) (d .widths) (under index) undeclared
 
-    wire-names : Row called (m .scope .inputs + m .scope .registers) (map nameOf (variables aWire (parts index))) (0 + length (m .scope .widths))
+    wire-names : Row called (m .scope .inputs + m .scope .registers) (map nameOf (variables aWire (parts index)))
+        (0 + length (m .scope .widths))
     unfolding parts
     wire-names = laid .row
 
@@ -106,7 +108,7 @@ module _ (called : ℕ → List ℕ) (m : Module Expr) (f : WellFormed m) (d : I
         let n = length (m .scope .widths) in
         let l = f .variables in
         let a = all-named called (declared (parts index)) m
-            (λ p v h. among called n distinct declared-names (nameAt called p v) v refl (omega arith) (omega arith)) f d in
+        (λ p v h. among called n distinct declared-names (nameAt called p v) v refl (omega arith) (omega arith)) f d in
         let b = no-repeats called n distinct declared-names (omega arith) in
         let g = none-missing called n distinct driven-names wire-names (omega arith) (omega arith) in
         let h = no-repeats called n distinct driven-names (omega arith) in
@@ -154,17 +156,20 @@ module _ (called : ℕ → List ℕ) (m : Module Expr) (f : WellFormed m) (d : I
       unfolding written encode returnedModule
       sheet-written =
           let c = m .scope in
-          let i : upTo 16 (length (variables anInput (parts index))) ≡ c .inputs = rw inputs-count (upTo-same 16 (c .inputs) (f .inputs .1)) in
+          let i : upTo 16 (length (variables anInput (parts index))) ≡ c .inputs =
+          rw inputs-count (upTo-same 16 (c .inputs) (f .inputs .1)) in
           let r : upTo 32 (length (variables aRegister (parts index))) ≡ c .registers =
-              rw registers-count (upTo-same 32 (c .registers) (f .registers .1)) in
-          let w : upTo 32 (length (variables aWire (parts index))) ≡ length (m .wires) = rw wires-count (upTo-same 32 (length (m .wires)) (f .wires)) in
+          rw registers-count (upTo-same 32 (c .registers) (f .registers .1)) in
+          let w : upTo 32 (length (variables aWire (parts index))) ≡ length (m .wires) =
+          rw wires-count (upTo-same 32 (length (m .wires)) (f .wires)) in
           let n = length-map (m .threads) returned in
           let k = f .threads .1 in
           let t : upTo 8 (length (threads (parts index))) ≡ length (map returned (m .threads)) =
-              rw runs-count (upTo-same 8 (length (map returned (m .threads))) (omega arith)) in
-          let a : writtenWidths (inOrder (parts index)) ≡ c .widths = rw in-order (widths-written called 0 (c .widths) (d .widths) (f .widths)) in
+          rw runs-count (upTo-same 8 (length (map returned (m .threads))) (omega arith)) in
+          let a : writtenWidths (inOrder (parts index)) ≡ c .widths =
+          rw in-order (widths-written called 0 (c .widths) (d .widths) (f .widths)) in
           let g : writtenThreads (threads (parts index)) ≡ encodeThreads (map returned (m .threads)) =
-              rw runners (threads-written called index c right bound (m .threads) (f .threaded) (d .threads)) in
+          rw runners (threads-written called index c right bound (m .threads) (f .threaded) (d .threads)) in
           rw (i, r, w, t, a, wires-bytes, g) refl
 
   -- ---- of the derivation

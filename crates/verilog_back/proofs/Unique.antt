@@ -91,12 +91,11 @@ fit-shallow c (b ∷ bs) t = (built-shallow c 64 b (t .0), fit-shallow c bs (t .
 shallow-fit : (c : Scope) (bs : List (Stmt Expr)) → ThreadsFit c bs → AllShallow (map returned bs) → ThreadsFit c (map returned bs)
 unfolding ThreadsFit AllShallow
 shallow-fit c [] t h = tt
-shallow-fit c (b ∷ bs) t h =
-    (
-      shallow-built c 64 65 (returned b) (returned-built c 64 b (t .0)) (h .0),
-      rw (returned-size b) (t .1),
-      shallow-fit c bs (t .2) (h .1),
-    )
+shallow-fit c (b ∷ bs) t h = (
+  shallow-built c 64 65 (returned b) (returned-built c 64 b (t .0)) (h .0),
+  rw (returned-size b) (t .1),
+  shallow-fit c bs (t .2) (h .1),
+)
 
 -- ---- well formed where it fits
 
@@ -148,7 +147,8 @@ unfolding ThreadsFit Built
 back-built c [] t = tt
 back-built c (b ∷ bs) t = (returned-built c 64 b (t .0), back-built c bs (t .2))
 
-same-threads : (c : Scope) (bs ds : List (Stmt Expr)) → Built c bs → Built c ds → length bs ≡ length ds → encodeThreads bs ≡ encodeThreads ds
+same-threads : (c : Scope) (bs ds : List (Stmt Expr)) → Built c bs → Built c ds → length bs ≡ length ds
+    → encodeThreads bs ≡ encodeThreads ds
     → bs ≡ ds
 unfolding Built encodeThreads
 same-threads c [] [] h l n e = refl
@@ -182,11 +182,10 @@ scope-same : (i j r q : ℕ) (ws us : List ℕ) → i ≡ j → r ≡ q → ws �
 scope-same i j r q ws us a b c = cc
 
 parted : (ws us x y : List ℕ) → length ws ≡ length us → ws ++ x ≡ us ++ y → (ws ≡ us) × (x ≡ y)
-parted ws us x y n e =
-    (
-      sym (take-at ws x (length us) n) ∙ ap (λ (l : List ℕ). take (length us) l) e ∙ take-at us y (length us) refl,
-      sym (drop-at ws x (length us) n) ∙ ap (λ (l : List ℕ). drop (length us) l) e ∙ drop-at us y (length us) refl,
-    )
+parted ws us x y n e = (
+  sym (take-at ws x (length us) n) ∙ ap (λ (l : List ℕ). take (length us) l) e ∙ take-at us y (length us) refl,
+  sym (drop-at ws x (length us) n) ∙ ap (λ (l : List ℕ). drop (length us) l) e ∙ drop-at us y (length us) refl,
+)
 
 pub only-returned : (m d : Module Expr) → WellFormed m → WellFormed d → encode d ≡ encode (returnedModule m) → d ≡ returnedModule m
 unfolding encode returnedModule
@@ -198,14 +197,14 @@ only-returned m d f g e =
     let w : length (d .wires) ≡ length (m .wires) = cc in
     let t : length (d .threads) ≡ length (map returned (m .threads)) = cc in
     let z : k .widths ++ encodeWires (d .wires) ++ encodeThreads (d .threads)
-        ≡ c .widths ++ encodeWires (m .wires) ++ encodeThreads (map returned (m .threads)) = cc in
+    ≡ c .widths ++ encodeWires (m .wires) ++ encodeThreads (map returned (m .threads)) = cc in
     let z' = rw (append-assoc (k .widths), append-assoc (c .widths)) at z in
     let a = f .variables in
     let b = g .variables in
     let p = parted (k .widths) (c .widths) _ _ (omega arith) z' in
     let same : k ≡ c = scope-same (k .inputs) (c .inputs) (k .registers) (c .registers) (k .widths) (c .widths) i r (p .0) in
     let wired : WiresFit (c .widths) (c .inputs + c .registers) (d .wires) =
-        subst (λ (z : Scope). WiresFit (z .widths) (z .inputs + z .registers) (d .wires)) same (g .wired) in
+    subst (λ (z : Scope). WiresFit (z .widths) (z .inputs + z .registers) (d .wires)) same (g .wired) in
     let built : Built c (d .threads) = subst (λ (z : Scope). Built z (d .threads)) same (fit-built k (d .threads) (g .threaded)) in
     let u = same-wires c (c .inputs + c .registers) (d .wires) (m .wires) _ _ wired (f .wired) w (p .1) in
     let v = same-threads c (d .threads) (map returned (m .threads)) built (back-built c (m .threads) (f .threaded)) t (u .1) in

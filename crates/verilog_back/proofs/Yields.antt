@@ -23,7 +23,7 @@ use Rattle.verilog.specs.Verilog.{front}
 use Rattle.verilog_tokens.specs.Tokens.{Token, terminal, name, number, known, unknown as unvalued, Name}
 use Rattle.verilog_grammar.specs.AnnexA.{mark, unarySign, binarySign, spellNumber, Primary, spell, spellPrimary, Event, spellEvent, spellControl}
 use Rattle.verilog_grammar.specs.AnnexA.{Statement, Statements, none, more, block, spellCondition, spellStatement, spellOrNull, spellAll}
-use Rattle.verilog_grammar.specs.AnnexA.{Listed, one, also, spellListed, spellName, Range, spellRange, spellNet, Item, input, reg, wire, spellDeclared, spellPart, spellParts, ModuleDeclaration, yield}
+use Rattle.verilog_grammar.specs.AnnexA.{Listed, one, also, spellListed, spellName, Range, noRange, downTo, spellRange, spellNet, Item, input, reg, wire, spellDeclared, spellPart, spellParts, ModuleDeclaration, yield}
 use Rattle.verilog_lexed.specs.Lexed.{From, blanks, marks, names, counts, values, unknowns, between, spaced, indented, signTokens, orTokens, commaTokens, edgeTokens, rangeTokens, directionTokens, ended, opened, closed, exprTokens, termTokens, termsTokens, sequenceTokens, stmtTokens, portTokens, portsTokens, wiresTokens, threadsTokens, declarationTokens, declarationsTokens, moduleTokens, nothing}
 use Rattle.verilog_back.specs.Tree.{Each, InExpr, InTerm, InWidth, InStmt, InWire, InPorts, InModule, unaryOf, binaryOf, rangeOf, nameAt, primaryTree, exprTree, termTree, termsTree, sequenceTree, alone, within, portsTree, declarationTree, threadTrees, wireTrees, declarationTrees, treeOf}
 use Rattle.verilog_back.proofs.Cases.{one-or-two, three-to-nine}
@@ -104,18 +104,20 @@ module _ (called : ℕ → List ℕ) where
       (tt, x .0 + length (ascii "'bx"), x .1)
   expr-yields ws (suc n) (unary o k a) w t rest p =
       let s = unary-sign o (t .0 .0) (t .0 .1) (exprTokens called a (marks ")" rest)) (p + length (ascii "(")) in
-      let x = expr-yields ws n a k (t .1) (marks ")" rest) (s .0) in
-      (x .0, x .1 + length (ascii ")"), ap (λ (l : List Token). mark "(" ∷ l) (s .1 ∙ ap (λ (l : List Token). terminal (unarySign (unaryOf o)) ∷ l) (x .2)))
+      let x = expr-yields ws n a k (t .1) (marks ")" rest) (s .0) in (
+        x .0,
+        x .1 + length (ascii ")"),
+        ap (λ (l : List Token). mark "(" ∷ l) (s .1 ∙ ap (λ (l : List Token). terminal (unarySign (unaryOf o)) ∷ l) (x .2)),
+      )
   expr-yields ws (suc n) (binary o k a b) w t rest p =
       let x = expr-yields ws n a k (t .1) (signTokens o (exprTokens called b (marks ")" rest))) (p + length (ascii "(")) in
       let s = binary-sign o (t .0 .0) (t .0 .1) (exprTokens called b (marks ")" rest)) (x .1) in
-      let y = expr-yields ws n b k (t .2) (marks ")" rest) (s .0) in
-      (
+      let y = expr-yields ws n b k (t .2) (marks ")" rest) (s .0) in (
         (x .0, y .0),
         y .1 + length (ascii ")"),
         ap (λ (l : List Token). mark "(" ∷ l)
-        (x .2 ∙ ap (λ (l : List Token). spellPrimary (primaryTree called a (x .0)) l)
-        (s .1 ∙ ap (λ (l : List Token). terminal (binarySign (binaryOf o)) ∷ l) (y .2))),
+            (x .2 ∙ ap (λ (l : List Token). spellPrimary (primaryTree called a (x .0)) l)
+            (s .1 ∙ ap (λ (l : List Token). terminal (binarySign (binaryOf o)) ∷ l) (y .2))),
       )
   expr-yields ws (suc n) (conditional c a b) w t rest p =
       let second = exprTokens called b (marks ")" rest) in
@@ -124,15 +126,14 @@ module _ (called : ℕ → List ℕ) where
       let s = between-at "?" first (x .1) in
       let y = expr-yields ws n a w (t .1) (between ":" second) (s .0) in
       let u = between-at ":" second (y .1) in
-      let z = expr-yields ws n b w (t .2) (marks ")" rest) (u .0) in
-      (
+      let z = expr-yields ws n b w (t .2) (marks ")" rest) (u .0) in (
         (x .0, y .0, z .0),
         z .1 + length (ascii ")"),
         ap (λ (l : List Token). mark "(" ∷ l)
-        (x .2 ∙ ap (λ (l : List Token). spellPrimary (primaryTree called c (x .0)) l)
-        (s .1 ∙ ap (λ (l : List Token). mark "?" ∷ l)
-        (y .2 ∙ ap (λ (l : List Token). spellPrimary (primaryTree called a (y .0)) l)
-        (u .1 ∙ ap (λ (l : List Token). mark ":" ∷ l) (z .2))))),
+            (x .2 ∙ ap (λ (l : List Token). spellPrimary (primaryTree called c (x .0)) l)
+            (s .1 ∙ ap (λ (l : List Token). mark "?" ∷ l)
+            (y .2 ∙ ap (λ (l : List Token). spellPrimary (primaryTree called a (y .0)) l)
+            (u .1 ∙ ap (λ (l : List Token). mark ":" ∷ l) (z .2))))),
       )
 
   -- ---- waits
@@ -161,12 +162,11 @@ module _ (called : ℕ → List ℕ) where
       let inner = edgeTokens (u .edge) (names (called (u .variable)) (termsTokens called (k + 1 + 1) ts rest)) in
       let x = term-yields (t .edge) (t .variable) (orTokens (k + 1) inner) p in
       let o = or-at k inner (x .1) in
-      let y = terms-from (k + 1) u ts rest (o .0) in
-      (
+      let y = terms-from (k + 1) u ts rest (o .0) in (
         (x .0, y .0),
         y .1,
         x .2 ∙ ap (λ (l : List Token). spellEvent (termTree called (t .edge) (nameAt called (x .0) (t .variable))) l)
-        (o .1 ∙ ap (λ (l : List Token). mark "or" ∷ l) (y .2)),
+            (o .1 ∙ ap (λ (l : List Token). mark "or" ∷ l) (y .2)),
       )
 
   terms-yields : (ts : List EdgeTerm) → 1 ≤ length ts → (rest : From) (p : ℕ)
@@ -187,12 +187,11 @@ module _ (called : ℕ → List ℕ) where
   unfolding Yields
   in-block a h k n rest p =
       let x = h k (closed n rest) p in
-      let c = closed-at n rest (x .1) in
-      (
+      let c = closed-at n rest (x .1) in (
         x .0,
         c .0,
         x .2 ∙ ap (λ (l : List Token). spellSome (within called a (x .0)) l) (c .1)
-        ∙ sym (all-some (within called a (x .0)) (rest (c .0))),
+            ∙ sym (all-some (within called a (x .0)) (rest (c .0))),
       )
 
   -- Of a first part that is one statement.
@@ -206,7 +205,8 @@ module _ (called : ℕ → List ℕ) where
       (x .0, y .0, y .1, x .2 ∙ ap (λ (l : List Token). spellSome (within called a (x .0)) l) (y .2))
 
   sequence-yields : (a b : Stmt Expr) → ((ts : List EdgeTerm) → a ≡ wait ts → 1 ≤ length ts) → Yields a → Yields b → Yields (sequence a b)
-  unfolding Yields stmtTokens sequenceTokens front within alone sequenceTree spellSome spellStatement spellControl spellOrNull indented blanks marks
+  unfolding Yields stmtTokens sequenceTokens front within alone sequenceTree spellSome spellStatement spellControl
+      spellOrNull indented blanks marks
   sequence-yields empty b w h k n rest p =
       let x = one-first empty b h k n rest p in
       ((x .0, x .1), x .2, x .3)
@@ -232,24 +232,22 @@ module _ (called : ℕ → List ℕ) where
       let inner = stmtTokens called (n + 1) (sequence a c) (closed n (stmtTokens called n b rest)) in
       let s = spaced-at "begin" inner (p + 2 * n) in
       let x = in-block (sequence a c) h (n + 1) n (stmtTokens called n b rest) (s .0) in
-      let y = k n rest (x .1) in
-      (
+      let y = k n rest (x .1) in (
         (x .0, y .0),
         y .1,
         s .1 ∙ ap (λ (l : List Token). mark "begin" ∷ l)
-        (x .2 ∙ ap (λ (l : List Token). spellAll (within called (sequence a c) (x .0)) l) (y .2)),
+            (x .2 ∙ ap (λ (l : List Token). spellAll (within called (sequence a c) (x .0)) l) (y .2)),
       )
   sequence-yields (wait ts) b w h k n rest p =
       let inner = stmtTokens called (n + 1) b (closed n rest) in
       let t = terms-yields ts (w ts refl) (opened inner) (p + 2 * n + length (ascii "@") + length (ascii "(")) in
       let o = opened-at inner (t .1) in
-      let x = in-block b k (n + 1) n rest (o .0) in
-      (
+      let x = in-block b k (n + 1) n rest (o .0) in (
         (t .0, x .0),
         x .1,
         ap (λ (l : List Token). mark "@" ∷ mark "(" ∷ l)
-        (t .2 ∙ ap (λ (l : List Token). spellEvent (termsTree called ts (t .0)) l)
-        (o .1 ∙ ap (λ (l : List Token). mark ")" ∷ mark "begin" ∷ l) (x .2))),
+            (t .2 ∙ ap (λ (l : List Token). spellEvent (termsTree called ts (t .0)) l)
+            (o .1 ∙ ap (λ (l : List Token). mark ")" ∷ mark "begin" ∷ l) (x .2))),
       )
 
   -- A condition in parentheses and a block.
@@ -262,14 +260,13 @@ module _ (called : ℕ → List ℕ) where
       let inner = stmtTokens called (n + 1) a (closed n rest) in
       let x = expr-yields ws 16 e w t (opened inner) (p + length (ascii "(")) in
       let o = opened-at inner (x .1) in
-      let y = in-block a h (n + 1) n rest (o .0) in
-      (
+      let y = in-block a h (n + 1) n rest (o .0) in (
         x .0,
         y .0,
         y .1,
         ap (λ (l : List Token). mark "(" ∷ l)
-        (x .2 ∙ ap (λ (l : List Token). spellPrimary (primaryTree called e (x .0)) l)
-        (o .1 ∙ ap (λ (l : List Token). mark ")" ∷ mark "begin" ∷ l) (y .2))),
+            (x .2 ∙ ap (λ (l : List Token). spellPrimary (primaryTree called e (x .0)) l)
+            (o .1 ∙ ap (λ (l : List Token). mark ")" ∷ mark "begin" ∷ l) (y .2))),
       )
 
   -- A target, its sign, and an expression.
@@ -280,13 +277,12 @@ module _ (called : ℕ → List ℕ) where
   assigned s ws e w t v rest p =
       let b = between-at s (exprTokens called e (ended rest)) (p + length (called v)) in
       let x = expr-yields ws 16 e w t (ended rest) (b .0) in
-      let u = ended-at rest (x .1) in
-      (
+      let u = ended-at rest (x .1) in (
         x .0,
         u .0,
         ap (λ (l : List Token). name (nameAt called p v) ∷ l)
-        (b .1 ∙ ap (λ (l : List Token). mark s ∷ l)
-        (x .2 ∙ ap (λ (l : List Token). spellPrimary (primaryTree called e (x .0)) l) (u .1))),
+            (b .1 ∙ ap (λ (l : List Token). mark s ∷ l)
+            (x .2 ∙ ap (λ (l : List Token). spellPrimary (primaryTree called e (x .0)) l) (u .1))),
       )
 
   wait-terms : (c : Scope) (k : ℕ) (a : Stmt Expr) → WellBuilt c k a → (ts : List EdgeTerm) → a ≡ wait ts → 1 ≤ length ts
@@ -298,16 +294,16 @@ module _ (called : ℕ → List ℕ) where
   unfolding Yields stmtTokens within spellSome spellStatement spellControl spellOrNull indented blanks marks
   wait-yields ts h n rest p =
       let x = terms-yields ts h (marks ")" (ended rest)) (p + 2 * n + length (ascii "@") + length (ascii "(")) in
-      let u = ended-at rest (x .1 + length (ascii ")")) in
-      (
+      let u = ended-at rest (x .1 + length (ascii ")")) in (
         x .0,
         u .0,
         ap (λ (l : List Token). mark "@" ∷ mark "(" ∷ l)
-        (x .2 ∙ ap (λ (l : List Token). spellEvent (termsTree called ts (x .0)) (mark ")" ∷ l)) (u .1)),
+            (x .2 ∙ ap (λ (l : List Token). spellEvent (termsTree called ts (x .0)) (mark ")" ∷ l)) (u .1)),
       )
 
   stmt-yields : (c : Scope) (k : ℕ) (a : Stmt Expr) → WellBuilt c k a → Yields a
-  unfolding WellBuilt IsAssignment Yields stmtTokens within spellSome spellStatement spellControl spellOrNull spellAll spell indented blanks closed
+  unfolding WellBuilt IsAssignment Yields stmtTokens within spellSome spellStatement spellControl spellOrNull spellAll spell
+      indented blanks closed
   stmt-yields c zero a t n rest p = absurd t
   stmt-yields c (suc k) empty t n rest p =
       let s = spaced-at "begin" (spaced "end" rest) (p + 2 * n) in
@@ -332,13 +328,12 @@ module _ (called : ℕ → List ℕ) where
       let x = guarded (c .widths) e (t .0 .0) (t .0 .1) a (stmt-yields c k a (t .1)) n other (s .0) in
       let y = spaced-at "else" (spaced "begin" last) (x .2) in
       let z = spaced-at "begin" last (y .0) in
-      let u = in-block b (stmt-yields c k b (t .2)) (n + 1) n rest (z .0) in
-      (
+      let u = in-block b (stmt-yields c k b (t .2)) (n + 1) n rest (z .0) in (
         (x .0, x .1, u .0),
         u .1,
         s .1 ∙ ap (λ (l : List Token). mark "if" ∷ l)
-        (x .3 ∙ ap (λ (l : List Token). spellCondition (exprTree called e (x .0)) (mark "begin" ∷ spellAll (within called a (x .1)) l))
-        (y .1 ∙ ap (λ (l : List Token). mark "else" ∷ l) (z .1 ∙ ap (λ (l : List Token). mark "begin" ∷ l) (u .2)))),
+            (x .3 ∙ ap (λ (l : List Token). spellCondition (exprTree called e (x .0)) (mark "begin" ∷ spellAll (within called a (x .1)) l))
+            (y .1 ∙ ap (λ (l : List Token). mark "else" ∷ l) (z .1 ∙ ap (λ (l : List Token). mark "begin" ∷ l) (u .2)))),
       )
   stmt-yields c (suc k) (while e a) t n rest p =
       let s = spaced-at "while" (marks "(" (exprTokens called e (opened (stmtTokens called (n + 1) a (closed n rest))))) (p + 2 * n) in
@@ -348,8 +343,7 @@ module _ (called : ℕ → List ℕ) where
       let inner = stmtTokens called (n + 1) a (closed n rest) in
       let s = spaced-at "forever" (spaced "begin" inner) (p + 2 * n) in
       let u = spaced-at "begin" inner (s .0) in
-      let x = in-block a (stmt-yields c k a t) (n + 1) n rest (u .0) in
-      (
+      let x = in-block a (stmt-yields c k a t) (n + 1) n rest (u .0) in (
         x .0,
         x .1,
         s .1 ∙ ap (λ (l : List Token). mark "forever" ∷ l) (u .1 ∙ ap (λ (l : List Token). mark "begin" ∷ l) (x .2)),
@@ -369,8 +363,7 @@ module _ (called : ℕ → List ℕ) where
   ports-from zero v rest p = ((p, tt), p + length (called v), refl)
   ports-from (suc n) v rest p =
       let c = comma-at v (names (called (v + 1)) (portsTokens called n (v + 1 + 1) rest)) (p + length (called v)) in
-      let x = ports-from n (v + 1) rest (c .0) in
-      (
+      let x = ports-from n (v + 1) rest (c .0) in (
         (p, x .0),
         x .1,
         ap (λ (l : List Token). name (nameAt called p v) ∷ l) (c .1 ∙ ap (λ (l : List Token). mark "," ∷ l) (x .2)),
@@ -389,18 +382,18 @@ module _ (called : ℕ → List ℕ) where
   range-yields w h rest p = by (eqb w 1) refl
     where
       long : 1 ≤ w - 1 → (q : ℕ) × (marks "[" (counts (w - 1) (marks ":" (counts 0 (spaced "]" rest)))) p
-          ≡ spellRange (Rattle.verilog_grammar.specs.AnnexA.downTo true (w - 1) false) (rest q))
+          ≡ spellRange (downTo true (w - 1) false) (rest q))
       long k =
           let x = counted-at (w - 1) k (marks ":" (counts 0 (spaced "]" rest))) (p + length (ascii "[")) in
-          let y = spaced-at "]" rest (x .0 + length (ascii ":") + length (decimal 0)) in
-          (
+          let y = spaced-at "]" rest (x .0 + length (ascii ":") + length (decimal 0)) in (
             y .0,
             ap (λ (l : List Token). mark "[" ∷ l)
-            (x .1 ∙ ap (λ (l : List Token). number true (w - 1) ∷ mark ":" ∷ number false 0 ∷ l) (y .1)),
+                (x .1 ∙ ap (λ (l : List Token). number true (w - 1) ∷ mark ":" ∷ number false 0 ∷ l) (y .1)),
           )
+
       by : (t : Bool) → eqb w 1 ≡ t
           → (q : ℕ) × (pick t rest (marks "[" (counts (w - 1) (marks ":" (counts 0 (spaced "]" rest))))) p
-          ≡ spellRange (pick t Rattle.verilog_grammar.specs.AnnexA.noRange (Rattle.verilog_grammar.specs.AnnexA.downTo true (w - 1) false)) (rest q))
+          ≡ spellRange (pick t noRange (downTo true (w - 1) false)) (rest q))
       by true e = (p, refl)
       by false e = long (let z = eqb-false w 1 e in some-more w h z)
         where
@@ -417,23 +410,24 @@ module _ (called : ℕ → List ℕ) where
   declared s w h v rest p =
       let x = spaced-at s (rangeTokens w (names (called v) (ended rest))) p in
       let y = range-yields w h (names (called v) (ended rest)) (x .0) in
-      let z = ended-at rest (y .0 + length (called v)) in
-      (
+      let z = ended-at rest (y .0 + length (called v)) in (
         y .0,
         z .0,
         x .1 ∙ ap (λ (l : List Token). mark s ∷ l)
-        (y .1 ∙ ap (λ (l : List Token). spellRange (rangeOf w) (name (nameAt called (y .0) v) ∷ l)) (z .1)),
+            (y .1 ∙ ap (λ (l : List Token). spellRange (rangeOf w) (name (nameAt called (y .0) v) ∷ l)) (z .1)),
       )
 
   declaration-yields : (i r v w : ℕ) → 1 ≤ w → (rest : From) (p : ℕ)
-      → (d : ℕ) × (q : ℕ) × (declarationTokens called i r v w rest p ≡ spellPart (declarationTree called i r v w (nameAt called d v)) (rest q))
+      → (d : ℕ) × (q : ℕ) × (declarationTokens called i r v w rest p
+      ≡ spellPart (declarationTree called i r v w (nameAt called d v)) (rest q))
   unfolding declarationTokens directionTokens declarationTree indented blanks spellPart
   declaration-yields i r v w h rest p = by (ltb v i) (ltb v (i + r))
     where
+      inner : From
+      inner = rangeTokens w (names (called v) (ended rest))
+
       by : (x y : Bool)
-          → (d : ℕ) × (q : ℕ) × (pick x (spaced "input" (rangeTokens w (names (called v) (ended rest))))
-          (pick y (spaced "reg" (rangeTokens w (names (called v) (ended rest)))) (spaced "wire" (rangeTokens w (names (called v) (ended rest)))))
-          (p + 2 * 1)
+          → (d : ℕ) × (q : ℕ) × (pick x (spaced "input" inner) (pick y (spaced "reg" inner) (spaced "wire" inner)) (p + 2 * 1)
           ≡ spellPart (pick x (input (rangeOf w) (one (nameAt called d v)))
           (pick y (reg (rangeOf w) (one (nameAt called d v))) (wire (rangeOf w) (one (nameAt called d v))))) (rest q))
       by true y = declared "input" w h v rest (p + 2 * 1)
@@ -447,8 +441,7 @@ module _ (called : ℕ → List ℕ) where
   declarations-yield i r v [] h rest p = (tt, p, λ xs e. e)
   declarations-yield i r v (w ∷ ws) h rest p =
       let x = declaration-yields i r v w (h .0 .0) (declarationsTokens called i r (v + 1) ws rest) p in
-      let y = declarations-yield i r (v + 1) ws (h .1) rest (x .1) in
-      (
+      let y = declarations-yield i r (v + 1) ws (h .1) rest (x .1) in (
         (x .0, y .0),
         y .1,
         λ xs e. x .2 ∙ ap (λ (l : List Token). spellPart (declarationTree called i r v w (nameAt called (x .0) v)) l) (y .2 xs e),
@@ -466,11 +459,11 @@ module _ (called : ℕ → List ℕ) where
       let s = spaced-at "assign" (names (called v) (between "=" (exprTokens called e (ended after)))) (p + 2 * 1) in
       let x = assigned "=" us e _ (h .0) v after (s .0) in
       let y = wires-yield us (v + 1) es (h .1) rest (x .1) in
-      (
+      let n = nameAt called (s .0) v in (
         ((s .0, x .0), y .0),
         y .1,
         λ xs q. s .1 ∙ ap (λ (l : List Token). mark "assign" ∷ l)
-        (x .2 ∙ ap (λ (l : List Token). name (nameAt called (s .0) v) ∷ mark "=" ∷ spellPrimary (primaryTree called e (x .0)) (mark ";" ∷ l)) (y .2 xs q)),
+            (x .2 ∙ ap (λ (l : List Token). name n ∷ mark "=" ∷ spellPrimary (primaryTree called e (x .0)) (mark ";" ∷ l)) (y .2 xs q)),
       )
 
   -- ---- threads
@@ -484,12 +477,11 @@ module _ (called : ℕ → List ℕ) where
       let s = spaced-at "always" (spaced "begin" (stmtTokens called 2 a (closed 1 after))) (p + 2 * 1) in
       let u = spaced-at "begin" (stmtTokens called 2 a (closed 1 after)) (s .0) in
       let x = in-block a (stmt-yields c 64 a (h .0)) 2 1 after (u .0) in
-      let y = threads-yield c bs (h .2) (x .1) in
-      (
+      let y = threads-yield c bs (h .2) (x .1) in (
         (x .0, y .0),
         s .1 ∙ ap (λ (l : List Token). mark "always" ∷ l)
-        (u .1 ∙ ap (λ (l : List Token). mark "begin" ∷ l)
-        (x .2 ∙ ap (λ (l : List Token). spellAll (within called a (x .0)) l) (y .1))),
+            (u .1 ∙ ap (λ (l : List Token). mark "begin" ∷ l)
+            (x .2 ∙ ap (λ (l : List Token). spellAll (within called a (x .0)) l) (y .1))),
       )
 
   -- ---- the module
@@ -503,15 +495,15 @@ module _ (called : ℕ → List ℕ) where
       let items = declarationsTokens called (c .inputs) (c .registers) 0 (c .widths) wires in
       let inner = portsTokens called (c .inputs) 0 (marks ")" (ended items)) in
       let s = spaced-at "module" (names (ascii "walbryts") (blanks 1 (marks "(" inner))) 0 in
-      let x = ports-yields (c .inputs) (f .inputs .0) (marks ")" (ended items)) (s .0 + length (ascii "walbryts") + 1 + length (ascii "(")) in
+      let x = ports-yields (c .inputs) (f .inputs .0) (marks ")" (ended items))
+      (s .0 + length (ascii "walbryts") + 1 + length (ascii "(")) in
       let u = ended-at items (x .1 + length (ascii ")")) in
       let a = declarations-yield (c .inputs) (c .registers) 0 (c .widths) (f .widths) wires (u .0) in
       let b = wires-yield (c .widths) (c .inputs + c .registers) (m .wires) (f .wired) threads (a .1) in
       let t = threads-yield c (m .threads) (f .threaded) (b .1) in
-      let e = a .2 _ (b .2 _ (t .1)) in
-      (
+      let e = a .2 _ (b .2 _ (t .1)) in (
         record { title = s .0; ports = x .0; widths = a .0; wires = b .0; threads = t .0 },
         s .1 ∙ ap (λ (l : List Token). mark "module" ∷ name (record { place = s .0; spelled = ascii "walbryts" }) ∷ mark "(" ∷ l)
-        (x .2 ∙ ap (λ (l : List Token). spellListed spellName (portsTree called (c .inputs) 0 (x .0)) (mark ")" ∷ l))
-        (u .1 ∙ ap (λ (l : List Token). mark ";" ∷ l) e)),
+            (x .2 ∙ ap (λ (l : List Token). spellListed spellName (portsTree called (c .inputs) 0 (x .0)) (mark ")" ∷ l))
+            (u .1 ∙ ap (λ (l : List Token). mark ";" ∷ l) e)),
       )
