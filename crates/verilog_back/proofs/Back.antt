@@ -29,6 +29,7 @@ use Rattle.verilog_source.specs.Claims.{Derives, declaredBy, sheetBy}
 use Rattle.verilog_source.proofs.Bytes.{sheet-bytes}
 use Rattle.verilog_lexed.specs.Lexed.{tokensOf}
 use Rattle.verilog_lexed.specs.Claims.{PrintedTokens}
+use Rattle.verilog_lexed.proofs.Lexed.{printed-tokens}
 use Rattle.verilog_back.specs.Returned.{returnedModule, Fits, allOpen, codeOf}
 use Rattle.verilog_back.specs.Tree.{InModule, treeOf}
 use Rattle.verilog_back.specs.Claims.{ReadsBack, Accepts, OnlyFits, SameCode, SameSheet}
@@ -76,29 +77,28 @@ plain-names m f u v a b e =
     let n = few m f in
     plain-distinct (m .scope .inputs) (m .scope .registers) u v (omega arith) (omega arith) e
 
-module _ (printed : PrintedTokens) where
-  reads-module : (lent : List ℕ) (m : Module Expr) → WellFormed m → length lent ≡ 8192 → length (verilogText m) ≤ 16384
-      → compiled (verilogText m) lent ≡ judged lent (encode (returnedModule m)) (read (encode (returnedModule m)))
-  unfolding PrintedTokens tokensOf
-  reads-module lent m f h l =
-      let called = plainName (m .scope .inputs) (m .scope .registers) in
-      let y = module-yields called m f in
-      let t = treeOf called m (y .0) in
-      let e : yield t ≡ tokens (verilogText m) = sym (printed m f ∙ y .1) in
-      let g : faults (tokens (verilogText m)) (declaredBy t) ≡ [] = rw (← e) (tree-faultless called m f (y .0) (plain-names m f)) in
-      let a = answered (verilogText m) lent t h l (record { counts = tree-counts called m (y .0); yields = e }) g in
-      rw (tree-sheet called m f (y .0) (plain-names m f)) at a
+reads-module : (lent : List ℕ) (m : Module Expr) → WellFormed m → length lent ≡ 8192 → length (verilogText m) ≤ 16384
+    → compiled (verilogText m) lent ≡ judged lent (encode (returnedModule m)) (read (encode (returnedModule m)))
+unfolding PrintedTokens tokensOf
+reads-module lent m f h l =
+    let called = plainName (m .scope .inputs) (m .scope .registers) in
+    let y = module-yields called m f in
+    let t = treeOf called m (y .0) in
+    let e : yield t ≡ tokens (verilogText m) = sym (printed-tokens m f ∙ y .1) in
+    let g : faults (tokens (verilogText m)) (declaredBy t) ≡ [] = rw (← e) (tree-faultless called m f (y .0) (plain-names m f)) in
+    let a = answered (verilogText m) lent t h l (record { counts = tree-counts called m (y .0); yields = e }) g in
+    rw (tree-sheet called m f (y .0) (plain-names m f)) at a
 
-  pub reads-back : ReadsBack
-  unfolding ReadsBack
-  reads-back s lent m b r h l = reads-module lent m (read-encode s b r .0) h l
+pub reads-back : ReadsBack
+unfolding ReadsBack
+reads-back s lent m b r h l = reads-module lent m (read-encode s b r .0) h l
 
-  pub same-sheet : SameSheet
-  unfolding SameSheet judged
-  same-sheet s lent m b r h l o =
-      let w = read-encode s b r in
-      let e : encode (returnedModule m) ≡ s = ap encode (module-kept m o) ∙ w .1 in
-      reads-module lent m (w .0) h l ∙ rw (e, r) refl
+pub same-sheet : SameSheet
+unfolding SameSheet judged
+same-sheet s lent m b r h l o =
+    let w = read-encode s b r in
+    let e : encode (returnedModule m) ≡ s = ap encode (module-kept m o) ∙ w .1 in
+    reads-module lent m (w .0) h l ∙ rw (e, r) refl
 
 -- ---- of the sheet that comes back
 
