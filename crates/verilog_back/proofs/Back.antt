@@ -1,11 +1,9 @@
 -- The claims of specs/Claims.antt.
 -- Assumes nothing.
 use mathlib.Core.Path.{_≡_, refl, sym, ap, _∙_}
-use mathlib.Core.Bool.{Bool, true, false}
-use mathlib.Core.List.{List, [], _∷_}
-use Prim.Native.Nat.{ℕ, _+_, _≤_, _<_}
+use mathlib.Core.List.{List, []}
+use Prim.Native.Nat.{ℕ, _≤_, _<_}
 use native.Mathlib.Omega.{arith}
-use lib.Dec.{leb, eqb}
 use lib.ListN.{length}
 use borrow.Author.Tests.{eq-eqb, le-leb}
 use Rattle.sheet.specs.Reading as Sheet
@@ -17,28 +15,29 @@ use Rattle.encoding.proofs.Bytes.{all-bytes}
 use Rattle.encoding.proofs.Encoding.{read-encode, encode-read}
 use Rattle.naming.specs.Naming.{plainName}
 use Rattle.verilog.specs.Verilog.{verilogText}
-use Rattle.verilog_tokens.specs.Tokens.{Token, tokens}
+use Rattle.verilog_tokens.specs.Tokens.{tokens}
 use Rattle.verilog_grammar.specs.AnnexA.{ModuleDeclaration, yield}
-use Rattle.verilog_grammar.specs.Meaning.{Source, meaning}
+use Rattle.verilog_grammar.specs.Meaning.{meaning}
 use Rattle.verilog_grammar.specs.Reader.{ok, readModule}
 use Rattle.verilog_grammar.specs.Claims.{AllDerived}
 use Rattle.verilog_grammar.proofs.Module.{all-derived}
 use Rattle.verilog_source.specs.Names.{numberOf, faults}
-use Rattle.verilog_source.specs.Compiled.{accepted, unnumbered, partsOf, sheetOf, judged, named, derived, short, lentRight, compiled}
+use Rattle.verilog_source.specs.Compiled.{unnumbered, partsOf, sheetOf, judged, named, derived, short, lentRight, compiled}
 use Rattle.verilog_source.specs.Claims.{Derives, declaredBy, sheetBy}
 use Rattle.verilog_source.proofs.Bytes.{sheet-bytes}
 use Rattle.verilog_lexed.specs.Lexed.{tokensOf}
 use Rattle.verilog_lexed.specs.Claims.{PrintedTokens}
 use Rattle.verilog_lexed.proofs.Lexed.{printed-tokens}
-use Rattle.verilog_back.specs.Returned.{returnedModule, Fits, allOpen, codeOf}
-use Rattle.verilog_back.specs.Tree.{InModule, treeOf}
-use Rattle.verilog_back.specs.Claims.{ReadsBack, Accepts, OnlyFits, SameCode, SameSheet}
+use Rattle.verilog_back.specs.Returned.{returnedModule}
+use Rattle.verilog_back.specs.Tree.{treeOf}
+use Rattle.verilog_back.specs.Claims.{ReadsBack, Accepts, OnlyFits, TooLong, TooDeep, SameCode, SameSheet}
 use Rattle.verilog_back.proofs.Returned.{same-code, module-kept}
 use Rattle.verilog_back.proofs.Yields.{module-yields}
 use Rattle.verilog_back.proofs.Counted.{tree-counts}
 use Rattle.verilog_back.proofs.Plain.{plain-distinct}
 use Rattle.verilog_back.proofs.Sheet.{tree-faultless, tree-sheet}
 use Rattle.verilog_back.proofs.Unique.{fits-formed, only-returned, read-fits}
+use Rattle.verilog_back.proofs.Limits.{too-long, too-deep}
 
 -- ---- a text with a derivation whose names have no fault has the answer of its sheet
 
@@ -120,6 +119,14 @@ only-fits s m d b r h =
     let e = only-returned m d f (g .0) (g .1) in
     let w : WellFormed (returnedModule m) = rw e at (g .0) in
     (read-fits m w, e)
+
+pub long-refused : TooLong
+unfolding TooLong
+long-refused m h = too-long (encode (returnedModule m)) h
+
+pub deep-refused : TooDeep
+unfolding TooDeep
+deep-refused s m n p b r h e = too-deep m (read-encode s b r .0) h n p e
 
 pub same-pseudocode : SameCode
 unfolding SameCode

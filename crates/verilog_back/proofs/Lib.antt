@@ -9,5 +9,6 @@ pub mod Parts
 pub mod Plain
 pub mod Sheet
 pub mod Unique
+pub mod Limits
 pub mod Back
 pub mod Samples

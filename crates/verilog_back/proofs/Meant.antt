@@ -1,27 +1,24 @@
 -- The bytes of what the derivation's expressions and statements mean, where each name has its variable's number.
 -- Assumes nothing.
-use mathlib.Core.Path.{_≡_, refl, ap, _∙_}
-use mathlib.Core.Bool.{Bool, true, false}
-use mathlib.Core.List.{List, [], _∷_, _++_, map}
-use Prim.Native.Nat.{ℕ, zero, suc, _+_, _%_, _^_, _≤_, _<_}
+use mathlib.Core.Path.{_≡_, refl}
+use mathlib.Core.List.{List, [], _∷_}
+use Prim.Native.Nat.{ℕ, zero, suc, _+_, _^_, _≤_, _<_}
 use native.Mathlib.Nat.{mod-eq-of-lt}
 use native.Mathlib.Omega.{arith}
-use lib.Dec.{leb}
 use lib.ListN.{length}
 use borrow.Author.Tests.{le-leb}
-use Rattle.values.specs.Values.{pick}
 use Rattle.values.specs.declared.Edge.{Edge}
 use Rattle.values.specs.declared.Edge.the-variants.{Change, Posedge, Negedge}
 use Rattle.sheet.specs.declared.EdgeTerm.{EdgeTerm}
 use Rattle.sheet.specs.Expression.{Expr, variable, constant, unknown, unary, binary, conditional}
 use Rattle.sheet.specs.Statement.{Stmt, empty, assign as assigns, later, sequence, ifThen, ifElse, while, forever, wait, Scope}
-use Rattle.encoding.specs.Encoding.{encodeExpr, encodeTerms, encodeStmt}
+use Rattle.encoding.specs.Encoding.{encodeExpr, encodeStmt}
 use Rattle.encoding.specs.WellFormed.{WellTyped, IsTarget, IsAssignment, PairsFit, WellBuilt}
 use Rattle.verilog_grammar.specs.AnnexA.{Statement, Statements, none, more}
-use Rattle.verilog_grammar.specs.Meaning.{upTo, cut, numberExpr, unaryNumber, binaryNumber, nested, blockOf, exprOf, primaryOf, termOf, termsOf, controlOf, stmtOf, orNullOf, stmtsOf}
+use Rattle.verilog_grammar.specs.Meaning.{upTo, cut, numberExpr, nested, blockOf, exprOf, primaryOf, termOf, termsOf, controlOf, stmtOf, orNullOf, stmtsOf}
 use Rattle.verilog_source.specs.Written.{writtenStmt}
 use Rattle.verilog_back.specs.Returned.{isWait, returned}
-use Rattle.verilog_back.specs.Tree.{Each, InExpr, InTerm, InStmt, unaryOf, binaryOf, nameAt, primaryTree, termTree, termsTree, sequenceTree, alone, within}
+use Rattle.verilog_back.specs.Tree.{Each, InExpr, InTerm, InStmt, nameAt, primaryTree, termTree, termsTree, sequenceTree, alone, within}
 use Rattle.verilog_back.proofs.Cases.{unary-number, binary-number}
 
 pub upTo-same : (most n : ℕ) → n ≤ most → upTo most n ≡ n

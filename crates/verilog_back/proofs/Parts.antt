@@ -1,9 +1,9 @@
 -- What the derivation's parts declare, drive and run: the variables in their order, the wires' expressions, the threads.
 -- Assumes nothing.
-use mathlib.Core.Path.{_≡_, refl, sym, ap, _∙_}
+use mathlib.Core.Path.{_≡_, refl, ap}
 use mathlib.Core.Bool.{Bool, true, false}
 use mathlib.Core.List.{List, [], _∷_, _++_, map}
-use Prim.Native.Nat.{ℕ, zero, suc, _+_, _-_, _≤_, _<_}
+use Prim.Native.Nat.{ℕ, suc, _+_, _-_, _≤_, _<_}
 use native.Mathlib.Omega.{arith}
 use lib.Dec.{ltb, eqb}
 use lib.ListN.{length}
@@ -11,17 +11,17 @@ use borrow.Author.Tests.{lt-ltb, le-ltb, ltb-true, ltb-false, eqb-true}
 use Rattle.values.specs.Values.{pick}
 use Rattle.sheet.specs.Expression.{Expr}
 use Rattle.sheet.specs.Statement.{Stmt, Scope}
-use Rattle.encoding.specs.Encoding.{encodeExpr, encodeStmt, encodeWires, encodeThreads}
-use Rattle.encoding.specs.WellFormed.{Between, AreWidths, WellBuilt, WiresFit, ThreadsFit}
+use Rattle.encoding.specs.Encoding.{encodeExpr, encodeWires, encodeThreads}
+use Rattle.encoding.specs.WellFormed.{AreWidths, WiresFit, ThreadsFit}
 use Rattle.naming.specs.Naming.{sameText}
 use Rattle.naming.proofs.Naming.{sameText-refl}
 use Rattle.verilog_tokens.specs.Tokens.{Name}
 use Rattle.verilog_grammar.specs.AnnexA.{Item, input, reg, wire, one, noRange, downTo}
-use Rattle.verilog_grammar.specs.Meaning.{Kind, anInput, aRegister, aWire, Driven, Part, declares, drives, runs, widthOf, listOf, same, exprOf, stmtOf, drivenOf, partOf, partsOf}
+use Rattle.verilog_grammar.specs.Meaning.{Kind, anInput, aRegister, aWire, Driven, Part, declares, widthOf, listOf, exprOf, stmtOf, drivenOf, partOf, partsOf}
 use Rattle.verilog_source.specs.Names.{Variable, kindNumber, ofWidth, variables, declared, driven, threads, nameOf, targetOf}
-use Rattle.verilog_source.specs.Written.{writtenStmt, writtenThreads, writtenWidths, valueFor, writtenWires}
+use Rattle.verilog_source.specs.Written.{writtenThreads, writtenWidths, valueFor, writtenWires}
 use Rattle.verilog_back.specs.Returned.{returned}
-use Rattle.verilog_back.specs.Tree.{Each, InWidth, InStmt, InWire, rangeOf, nameAt, exprTree, within, declarationTree, threadTrees, wireTrees, declarationTrees}
+use Rattle.verilog_back.specs.Tree.{Each, InWidth, InStmt, InWire, rangeOf, nameAt, exprTree, declarationTree, threadTrees, wireTrees, declarationTrees}
 use Rattle.verilog_back.proofs.Meant.{upTo-same, expr-meant, thread-meant}
 use Rattle.verilog_back.proofs.Rows.{Row, ends, next, row-length, different}
 

@@ -1,8 +1,8 @@
 -- What comes back has the same pseudo-code, and is the module itself where every wait opens a sequence.
 -- Assumes nothing.
-use mathlib.Core.Path.{_≡_, refl, ap, _∙_}
-use mathlib.Core.Bool.{Bool, true, false, _&&_}
-use mathlib.Core.List.{List, [], _∷_, _++_, map, append-nil}
+use mathlib.Core.Path.{_≡_, refl}
+use mathlib.Core.Bool.{Bool, true, false}
+use mathlib.Core.List.{List, [], _∷_, map}
 use Prim.Native.Nat.{ℕ, _+_}
 use native.Mathlib.Omega.{arith}
 use Rattle.values.specs.Values.{pick}
@@ -10,7 +10,7 @@ use Rattle.sheet.specs.Expression.{Expr}
 use Rattle.sheet.specs.Statement.{Stmt, empty, assign, later, sequence, ifThen, ifElse, while, forever, wait, size}
 use Rattle.sheet.specs.Module.{Module}
 use Rattle.encoding.proofs.Statements.{and-both}
-use Rattle.pseudocode.specs.Translation.{Instr, wait!, set!, later!, go, ifnot, translate, threadCode}
+use Rattle.pseudocode.specs.Translation.{translate, threadCode}
 use Rattle.verilog_back.specs.Returned.{isWait, returned, returnedModule, opens, allOpen, codeOf}
 
 -- ---- sizes

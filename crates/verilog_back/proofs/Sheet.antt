@@ -1,9 +1,8 @@
 -- The sheet of the derivation is the encoding of what comes back, and its names have no fault.
 -- Assumes nothing.
 use mathlib.Core.Path.{_≡_, refl, sym, ap, _∙_}
-use mathlib.Core.Bool.{Bool, true, false}
-use mathlib.Core.List.{List, [], _∷_, _++_, map}
-use Prim.Native.Nat.{ℕ, zero, suc, _+_, _≤_, _<_}
+use mathlib.Core.List.{List, [], map}
+use Prim.Native.Nat.{ℕ, _+_, _≤_, _<_}
 use native.Mathlib.Omega.{arith}
 use lib.ListN.{length, length-map}
 use Rattle.sheet.specs.Expression.{Expr}
@@ -11,16 +10,15 @@ use Rattle.sheet.specs.Statement.{Stmt}
 use Rattle.sheet.specs.Module.{Module}
 use Rattle.encoding.specs.Encoding.{encodeWires, encodeThreads, encode}
 use Rattle.encoding.specs.WellFormed.{WellFormed}
-use Rattle.verilog_tokens.specs.Tokens.{Name}
 use Rattle.verilog_tokens.specs.Table.{placeOf}
-use Rattle.verilog_grammar.specs.AnnexA.{ModuleDeclaration, yield}
+use Rattle.verilog_grammar.specs.AnnexA.{yield}
 use Rattle.verilog_grammar.specs.Meaning.{upTo, Kind, anInput, aRegister, aWire, Part, partsOf, meaning}
-use Rattle.verilog_source.specs.Names.{Variable, variables, declared, driven, threads, inOrder, nameOf, numberOf, isAmong, missing, repeated, used, targetOf, faults}
+use Rattle.verilog_source.specs.Names.{variables, declared, driven, threads, inOrder, nameOf, numberOf, targetOf, faults}
 use Rattle.verilog_source.specs.Written.{writtenThreads, writtenWidths, writtenWires, written}
 use Rattle.verilog_source.specs.Compiled.{unnumbered}
 use Rattle.verilog_source.specs.Claims.{declaredBy, sheetBy}
 use Rattle.verilog_back.specs.Returned.{returned, returnedModule}
-use Rattle.verilog_back.specs.Tree.{Each, InModule, nameAt, threadTrees, wireTrees, treeOf}
+use Rattle.verilog_back.specs.Tree.{InModule, nameAt, threadTrees, wireTrees, treeOf}
 use Rattle.verilog_back.proofs.Meant.{upTo-same}
 use Rattle.verilog_back.proofs.Rows.{Row, row-length, place-in, among, no-repeats, none-missing}
 use Rattle.verilog_back.proofs.Used.{all-named}

@@ -3,13 +3,13 @@
 use mathlib.Core.Path.{_≡_, refl, sym, ap, subst, _∙_}
 use mathlib.Core.Bool.{Bool, true, false}
 use mathlib.Core.List.{List, [], _∷_, _++_, map, append-assoc, append-cancel-left}
-use Prim.Native.Nat.{ℕ, zero, suc, _+_, _≤_}
+use Prim.Native.Nat.{ℕ, zero, suc, _+_}
 use native.Mathlib.Omega.{arith}
 use lib.ListN.{length, take, drop, length-map}
 use lib.Seq.{take-at, drop-at}
 use Rattle.values.specs.Values.{pick}
 use Rattle.sheet.specs.Expression.{Expr, tree}
-use Rattle.sheet.specs.Statement.{Stmt, empty, assign, later, sequence, ifThen, ifElse, while, forever, wait, size, Scope, Body}
+use Rattle.sheet.specs.Statement.{Stmt, empty, assign, later, sequence, ifThen, ifElse, while, forever, wait, Scope, Body}
 use Rattle.sheet.specs.Module.{Module, Listed}
 use Rattle.sheet.proofs.Reading.{ok-injective}
 use Rattle.sheet.proofs.Statements.{accept-stmt}
@@ -40,7 +40,7 @@ picked-built : (c : Scope) (k : ℕ) (t : Bool) (a b : Stmt Expr) → WellBuilt 
 picked-built c k true a b h l = h
 picked-built c k false a b h l = l
 
-returned-built : (c : Scope) (k : ℕ) (a : Stmt Expr) → WellBuilt c k a → WellBuilt c (suc k) (returned a)
+pub returned-built : (c : Scope) (k : ℕ) (a : Stmt Expr) → WellBuilt c k a → WellBuilt c (suc k) (returned a)
 unfolding WellBuilt returned
 returned-built c zero a t = absurd t
 returned-built c (suc k) empty t = tt

@@ -8,7 +8,7 @@ use Prim.Native.String.{String}
 use native.Mathlib.Omega.{arith}
 use lib.Dec.{ltb, eqb}
 use lib.ListN.{length}
-use borrow.Author.Tests.{eqb-true, eqb-false, ne-eqb}
+use borrow.Author.Tests.{eqb-false, ne-eqb}
 use Rattle.values.specs.Values.{pick}
 use Rattle.values.specs.declared.Edge.{Edge}
 use Rattle.values.specs.declared.Edge.the-variants.{Change, Posedge, Negedge}
@@ -16,14 +16,14 @@ use Rattle.sheet.specs.declared.EdgeTerm.{EdgeTerm}
 use Rattle.sheet.specs.Expression.{Expr, variable, constant, unknown, unary, binary, conditional}
 use Rattle.sheet.specs.Statement.{Stmt, empty, assign as assigns, later, sequence, ifThen, ifElse, while, forever, wait, Scope}
 use Rattle.sheet.specs.Module.{Module}
-use Rattle.encoding.specs.WellFormed.{Between, WellTyped, IsAssignment, WellBuilt, AreWidths, WiresFit, ThreadsFit, WellFormed}
+use Rattle.encoding.specs.WellFormed.{WellTyped, IsAssignment, WellBuilt, AreWidths, WiresFit, ThreadsFit, WellFormed}
 use Rattle.writing.specs.Ascii.{ascii}
 use Rattle.writing.specs.Numbers.{decimal}
 use Rattle.verilog.specs.Verilog.{front}
-use Rattle.verilog_tokens.specs.Tokens.{Token, terminal, name, number, known, unknown as unvalued, Name}
-use Rattle.verilog_grammar.specs.AnnexA.{mark, unarySign, binarySign, spellNumber, Primary, spell, spellPrimary, Event, spellEvent, spellControl}
-use Rattle.verilog_grammar.specs.AnnexA.{Statement, Statements, none, more, block, spellCondition, spellStatement, spellOrNull, spellAll}
-use Rattle.verilog_grammar.specs.AnnexA.{Listed, one, also, spellListed, spellName, Range, noRange, downTo, spellRange, spellNet, Item, input, reg, wire, spellDeclared, spellPart, spellParts, ModuleDeclaration, yield}
+use Rattle.verilog_tokens.specs.Tokens.{Token, terminal, name, number}
+use Rattle.verilog_grammar.specs.AnnexA.{mark, unarySign, binarySign, spellNumber, spell, spellPrimary, spellEvent, spellControl}
+use Rattle.verilog_grammar.specs.AnnexA.{Statements, none, more, spellCondition, spellStatement, spellOrNull, spellAll}
+use Rattle.verilog_grammar.specs.AnnexA.{one, spellListed, spellName, noRange, downTo, spellRange, spellNet, Item, input, reg, wire, spellDeclared, spellPart, spellParts, yield}
 use Rattle.verilog_lexed.specs.Lexed.{From, blanks, marks, names, counts, values, unknowns, between, spaced, indented, signTokens, orTokens, commaTokens, edgeTokens, rangeTokens, directionTokens, ended, opened, closed, exprTokens, termTokens, termsTokens, sequenceTokens, stmtTokens, portTokens, portsTokens, wiresTokens, threadsTokens, declarationTokens, declarationsTokens, moduleTokens, nothing}
 use Rattle.verilog_back.specs.Tree.{Each, InExpr, InTerm, InWidth, InStmt, InWire, InPorts, InModule, unaryOf, binaryOf, rangeOf, nameAt, primaryTree, exprTree, termTree, termsTree, sequenceTree, alone, within, portsTree, declarationTree, threadTrees, wireTrees, declarationTrees, treeOf}
 use Rattle.verilog_back.proofs.Cases.{one-or-two, three-to-nine}

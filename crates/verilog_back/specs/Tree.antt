@@ -1,7 +1,7 @@
 -- The derivation of the printed module (verilog/specs/Verilog.antt) by Annex A (verilog_grammar/specs/AnnexA.antt).
 -- A name's token holds its place in the text, so a tree is built over the places of its names.
-use mathlib.Core.Bool.{Bool, true, false}
-use mathlib.Core.List.{List, [], _∷_, _++_}
+use mathlib.Core.Bool.{true, false}
+use mathlib.Core.List.{List, [], _∷_}
 use Prim.Native.Nat.{ℕ, zero, suc, _+_, _-_}
 use lib.Dec.{ltb}
 use Rattle.values.specs.Values.{pick, _is_then_else_}
