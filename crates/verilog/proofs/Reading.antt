@@ -24,7 +24,7 @@ use Rattle.writing.specs.Buffer.{Text, filled, puts}
 use Rattle.naming.specs.Naming.{plainName}
 use Rattle.signs.specs.Signs.{sign, operands, lead}
 use Rattle.signs.proofs.Signs.{operands-one, operands-two, lead-first, lead-last}
-use Rattle.verilog.specs.Verilog.{_&_, indent, Front, waiting, nesting, single, front, exprText, termText, termsText, sequenceText, stmtText, wiresText, threadsText, declarationsText, moduleText, verilogText, answer, printed, verilogOf}
+use Rattle.verilog.specs.Verilog.{_&_, indent, waiting, nesting, single, front, exprText, termText, termsText, sequenceText, stmtText, wiresText, threadsText, declarationsText, moduleText, verilogText, answer, printed, verilogOf}
 use Rattle.verilog.specs.Printing.{Shown, shown, behind, operandsAt, wordAt, shapeOf, bodiesOf, flat, innerLevel, endAt, closingAt, shownAt, termAt, termsAt, assignAt, conditionAt, waitAt, headingAt, formAt, stmtAt, declarationsAt, wireAt, wiresAt, threadAt, threadsAt, moduleAt}
 use Rattle.verilog.proofs.Printing as Printing
 

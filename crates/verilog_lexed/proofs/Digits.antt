@@ -4,7 +4,7 @@ use mathlib.Core.Bool.{Bool, true, false, not, _&&_, false≢true}
 use mathlib.Core.List.{List, [], _∷_, _++_}
 use Prim.Native.Nat.{ℕ, zero, suc, _+_, _-_, _*_, _/_, _%_, _^_, _≤_, _<_}
 use native.Mathlib.Omega.{arith}
-use borrow.Author.Tests.{lt-ltb, le-ltb, ltb-true, ltb-false, eqb-true, eqb-false, eq-eqb, ne-eqb}
+use borrow.Author.Tests.{lt-ltb, ltb-true, ltb-false, eqb-true, eqb-false, eq-eqb, ne-eqb}
 use lib.Dec.{ltb, eqb}
 use lib.ListN.{length, length-append}
 use Rattle.values.specs.Values.{pick}
@@ -13,9 +13,9 @@ use Rattle.hextext.proofs.Steps.{digit-decimal}
 use Rattle.writing.specs.Numbers.{digit, digits, decimal}
 use Rattle.writing.proofs.Numbers as Written
 use Rattle.verilog_tokens.specs.declared.Class.{Class}
-use Rattle.verilog_tokens.specs.declared.Class.the-variants.{Space, Word, Decimal, Binary}
+use Rattle.verilog_tokens.specs.declared.Class.the-variants.{Word, Decimal}
 use Rattle.verilog_tokens.specs.Characters.{isNewline, isSpace, isLetter, isBelow, isX, isUnderscore, isNamed, inClass, span, every, withDigit, numeralFrom, numeral}
-use Rattle.verilog_tokens.specs.Tokens.{Token, number, known, isKnown, opensZero, numberToken, valueToken}
+use Rattle.verilog_tokens.specs.Tokens.{number, known, isKnown, opensZero, numberToken, valueToken}
 
 -- ---- digits
 

@@ -1,12 +1,11 @@
 -- The printed module has the tokens that specs/Lexed.antt gives it: part by part, each in front of what follows. Assumes nothing.
-use mathlib.Core.Path.{_≡_, refl, sym, ap, _∙_}
+use mathlib.Core.Path.{_≡_, refl, ap, _∙_}
 use mathlib.Core.Bool.{Bool, true, false}
 use mathlib.Core.List.{List, [], _∷_, _++_, append-assoc, append-nil}
-use Prim.Native.Nat.{ℕ, zero, suc, _+_, _-_, _*_, _^_, _≤_, _<_}
+use Prim.Native.Nat.{ℕ, zero, suc, _+_, _-_, _^_, _≤_, _<_}
 use native.Mathlib.Omega.{arith}
 use borrow.Author.Tests.{eqb-true, eqb-false, ne-eqb}
 use lib.Dec.{ltb, eqb}
-use lib.ListN.{length}
 use lib.Pow.{pow-mono}
 use Rattle.values.specs.Values.{pick}
 use Rattle.values.specs.declared.Edge.{Edge}
@@ -22,18 +21,13 @@ use Rattle.writing.specs.Numbers.{decimal}
 use Rattle.naming.specs.Naming.{plainName}
 use Rattle.signs.specs.Signs.{sign, constantText, unknownText}
 use Rattle.verilog.specs.Verilog.{indent, before, edgeText, rangeText, directionText, Front, waiting, nesting, single, front, exprText, termText, termsText, sequenceText, stmtText, portText, portsText, wiresText, threadsText, declarationText, declarationsText, moduleText, verilogText}
-use Rattle.verilog_tokens.specs.declared.Class.the-variants.{Word, Decimal, Binary}
+use Rattle.verilog_tokens.specs.declared.Class.the-variants.{Word, Decimal}
 use Rattle.verilog_tokens.specs.Characters.{span}
-use Rattle.verilog_tokens.specs.Tokens.{tokens}
 use Rattle.verilog_lexed.specs.Lexed.{From, marks, counts, spaced, between, signTokens, orTokens, commaTokens, edgeTokens, rangeTokens, directionTokens, closed, exprTokens, termTokens, termsTokens, sequenceTokens, stmtTokens, portTokens, portsTokens, wiresTokens, threadsTokens, declarationTokens, declarationsTokens, moduleTokens, nothing, tokensOf}
 use Rattle.verilog_lexed.specs.Claims.{PrintedTokens, ReadTokens}
-use Rattle.verilog_lexed.proofs.Steps.{Reads, reads-none, reads-tokens}
+use Rattle.verilog_lexed.proofs.Steps.{Reads, reads-from, reads-none, reads-tokens}
 use Rattle.verilog_lexed.proofs.Pieces.{name-reads, count-reads, value-reads, unknown-reads}
 use Rattle.verilog_lexed.proofs.Words
-
--- The same text in other words.
-from : {s t : List ℕ} {k : From} → Reads t k → s ≡ t → Reads s k
-from h e = rw e h
 
 -- ---- by cases on a number
 
@@ -146,23 +140,23 @@ module _ (i r : ℕ) where
   expr-reads ws zero e w h g x = absurd h
   expr-reads ws (suc d) (variable v) w h g x = name-reads i r v (g .word) x
   expr-reads ws (suc d) (constant j v) w h g x =
-      from (count-reads j (narrow j (h .0)) (value-stops _) (value-reads v (small j v (h .0) (h .1)) (g .decimal) x))
+      reads-from (count-reads j (narrow j (h .0)) (value-stops _) (value-reads v (small j v (h .0) (h .1)) (g .decimal) x))
       (simp append-assoc)
   expr-reads ws (suc d) (unknown j) w h g x =
-      from (count-reads j (narrow j (h .0)) (unknown-stops _) (unknown-reads (g .binary) x)) (simp append-assoc)
+      reads-from (count-reads j (narrow j (h .0)) (unknown-stops _) (unknown-reads (g .binary) x)) (simp append-assoc)
   expr-reads ws (suc d) (unary o j a) w h g x =
-      from
+      reads-from
       (Words.open-reads (unary-reads _ _ o (h .0)
       (expr-reads ws d a j (h .1) (close-ends _) (Words.close-reads x))))
       (simp append-assoc)
   expr-reads ws (suc d) (binary o j a b) w h g x =
-      from
+      reads-from
       (Words.open-reads (expr-reads ws d a j (h .1) (binary-ends _ o (h .0))
       (binary-reads _ _ o (h .0)
       (expr-reads ws d b j (h .2) (close-ends _) (Words.close-reads x)))))
       (simp append-assoc)
   expr-reads ws (suc d) (conditional c a b) w h g x =
-      from
+      reads-from
       (Words.open-reads (expr-reads ws d c (h .0 .0) (h .0 .1) (ask-ends _)
       (Words.ask-reads (expr-reads ws d a w (h .1) (otherwise-ends _)
       (Words.otherwise-reads (expr-reads ws d b w (h .2) (close-ends _) (Words.close-reads x)))))))
@@ -197,7 +191,7 @@ module _ (i r : ℕ) where
   unfolding termsText termText termsTokens termTokens
   terms-reads j [] h x = x
   terms-reads j (t ∷ ts) {s} h x =
-      from
+      reads-from
       (or-reads j (edge-reads (t .edge) (name-reads i r (t .variable) (terms-stop j ts s h) (terms-reads (j + 1) ts h x))))
       (simp append-assoc)
 
@@ -216,51 +210,51 @@ module _ (i r : ℕ) where
       → Prints (sequenceText (plainName i r) n f a b) (sequenceTokens (plainName i r) n f x y)
   unfolding sequenceText sequenceTokens
   sequence-reads n (waiting ts) a b x y f g s k h =
-      from
+      reads-from
       (Words.indent-reads n (Words.at-word (terms-reads 0 ts (opened-ends _ .word)
       (Words.opened-word (g (n + 1) _ _ (closed-reads n h))))))
       (simp append-assoc)
   sequence-reads n nesting a b x y f g s k h =
-      from (Words.indent-reads n (Words.begin-line-reads (f (n + 1) _ _ (closed-reads n (g n s k h))))) (simp append-assoc)
-  sequence-reads n single a b x y f g s k h = from (f n _ _ (g n s k h)) (simp append-assoc)
+      reads-from (Words.indent-reads n (Words.begin-line-reads (f (n + 1) _ _ (closed-reads n (g n s k h))))) (simp append-assoc)
+  sequence-reads n single a b x y f g s k h = reads-from (f n _ _ (g n s k h)) (simp append-assoc)
 
   stmt-reads : (c : Scope) (d : ℕ) (b : Stmt Expr) → WellBuilt c d b → (n : ℕ)
       → Prints (stmtText (plainName i r) n b) (stmtTokens (plainName i r) n b)
   unfolding WellBuilt IsAssignment stmtText stmtTokens
   stmt-reads c zero b h n s k x = absurd h
-  stmt-reads c (suc d) empty h n s k x = from (Words.indent-reads n (Words.empty-word x)) (simp append-assoc)
+  stmt-reads c (suc d) empty h n s k x = reads-from (Words.indent-reads n (Words.empty-word x)) (simp append-assoc)
   stmt-reads c (suc d) (assign t e) h n s k x =
-      from
+      reads-from
       (Words.indent-reads n (name-reads i r t (becomes-ends _ .word) (Words.becomes-reads
       (expr-reads (c .widths) 16 e _ (h .1) (semicolon-ends _) (Words.ended-word x)))))
       (simp append-assoc)
   stmt-reads c (suc d) (later t e) h n s k x =
-      from
+      reads-from
       (Words.indent-reads n (name-reads i r t (later-ends _ .word) (Words.later-reads
       (expr-reads (c .widths) 16 e _ (h .1) (semicolon-ends _) (Words.ended-word x)))))
       (simp append-assoc)
   stmt-reads c (suc d) (sequence a b) h n s k x =
       sequence-reads n (front a) _ _ _ _ (λ l. stmt-reads c d a (h .0) l) (λ l. stmt-reads c d b (h .1) l) s k x
   stmt-reads c (suc d) (ifThen e a) h n s k x =
-      from
+      reads-from
       (Words.indent-reads n (Words.if-word (expr-reads (c .widths) 16 e (h .0 .0) (h .0 .1) (opened-ends _)
       (Words.opened-word (stmt-reads c d a (h .1) (n + 1) _ _ (closed-reads n x))))))
       (simp append-assoc)
   stmt-reads c (suc d) (ifElse e a b) h n s k x =
-      from
+      reads-from
       (Words.indent-reads n (Words.if-word (expr-reads (c .widths) 16 e (h .0 .0) (h .0 .1) (opened-ends _)
       (Words.opened-word (stmt-reads c d a (h .1) (n + 1) _ _ (Words.indent-reads n (Words.else-word
       (stmt-reads c d b (h .2) (n + 1) _ _ (closed-reads n x)))))))))
       (simp append-assoc)
   stmt-reads c (suc d) (while e a) h n s k x =
-      from
+      reads-from
       (Words.indent-reads n (Words.while-word (expr-reads (c .widths) 16 e (h .0 .0) (h .0 .1) (opened-ends _)
       (Words.opened-word (stmt-reads c d a (h .1) (n + 1) _ _ (closed-reads n x))))))
       (simp append-assoc)
   stmt-reads c (suc d) (forever a) h n s k x =
-      from (Words.indent-reads n (Words.forever-word (stmt-reads c d a h (n + 1) _ _ (closed-reads n x)))) (simp append-assoc)
+      reads-from (Words.indent-reads n (Words.forever-word (stmt-reads c d a h (n + 1) _ _ (closed-reads n x)))) (simp append-assoc)
   stmt-reads c (suc d) (wait ts) h n s k x =
-      from (Words.indent-reads n (Words.at-word (terms-reads 0 ts (wait-ends _ .word) (Words.wait-word x)))) (simp append-assoc)
+      reads-from (Words.indent-reads n (Words.at-word (terms-reads 0 ts (wait-ends _ .word) (Words.wait-word x)))) (simp append-assoc)
 
   -- ---- the module's parts
 
@@ -284,14 +278,14 @@ module _ (i r : ℕ) where
   unfolding portsText portText portsTokens portTokens
   ports-reads zero v h x = x
   ports-reads (suc n) v {s} h x =
-      from (comma-reads v (name-reads i r v (ports-stop n v s h) (ports-reads n (v + 1) h x))) (simp append-assoc)
+      reads-from (comma-reads v (name-reads i r v (ports-stop n v s h) (ports-reads n (v + 1) h x))) (simp append-assoc)
 
   wires-reads : (ws : List ℕ) (v : ℕ) (es : List Expr) → WiresFit ws v es
       → Prints (wiresText (plainName i r) v es) (wiresTokens (plainName i r) v es)
   unfolding WiresFit wiresText wiresTokens
   wires-reads ws v [] h s k x = x
   wires-reads ws v (e ∷ es) h s k x =
-      from
+      reads-from
       (Words.assign-word (name-reads i r v (becomes-ends _ .word) (Words.becomes-reads
       (expr-reads ws 16 e _ (h .0) (semicolon-ends _) (Words.ended-word (wires-reads ws (v + 1) es (h .1) s k x))))))
       (simp append-assoc)
@@ -301,7 +295,7 @@ module _ (i r : ℕ) where
   unfolding ThreadsFit threadsText threadsTokens
   threads-reads c [] h s k x = x
   threads-reads c (b ∷ bs) h s k x =
-      from
+      reads-from
       (Words.always-word (stmt-reads c 64 b (h .0) 2 _ _ (Words.thread-end (threads-reads c bs (h .2) s k x))))
       (simp append-assoc)
 
@@ -323,7 +317,7 @@ module _ (i r : ℕ) where
           (pick t k (marks "[" (counts (w - 1) (marks ":" (counts 0 (spaced "]" k))))))
       by true = h
       by false =
-          from
+          reads-from
           (Words.bracket-reads (count-reads (w - 1) (omega (arith, narrow w b)) (range-stops _) (Words.range-word h)))
           (simp append-assoc)
 
@@ -332,7 +326,7 @@ module _ (i r : ℕ) where
   unfolding AreWidths declarationsText declarationText declarationsTokens declarationTokens
   declarations-reads v [] h s k x = x
   declarations-reads v (w ∷ ws) h s k x =
-      from
+      reads-from
       (Words.blanks-word (direction-reads v (range-reads w (h .0) (name-reads i r v (semicolon-ends _ .word)
       (Words.ended-word (declarations-reads (v + 1) ws (h .1) s k x))))))
       (simp append-assoc)
@@ -346,7 +340,7 @@ module-reads m h =
     let c = m .scope in
     let i = c .inputs in
     let r = c .registers in
-    from
+    reads-from
     (Words.module-word (ports-reads i r i 0 (wait-ends _ .word) (Words.wait-word
     (declarations-reads i r 0 (c .widths) (h .widths) _ _
     (wires-reads i r (c .widths) (i + r) (m .wires) (h .wired) _ _

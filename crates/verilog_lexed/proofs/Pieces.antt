@@ -1,25 +1,25 @@
 -- A piece of the printed text in front of others: a keyword or a sign, a name, a number, a constant. Assumes nothing.
-use mathlib.Core.Path.{_≡_, refl, sym, ap, _∙_}
+use mathlib.Core.Path.{_≡_, refl, ap, _∙_}
 use mathlib.Core.Bool.{Bool, true, false, not, _&&_, false≢true}
 use mathlib.Core.List.{List, [], _∷_, _++_}
-use Prim.Native.Nat.{ℕ, zero, suc, _+_, _^_, _≤_, _<_}
+use Prim.Native.Nat.{ℕ, suc, _+_, _^_, _≤_, _<_}
 use native.Mathlib.Omega.{arith}
-use borrow.Author.Tests.{ne-eqb, ltb-true, ltb-false, le-ltb}
+use borrow.Author.Tests.{ne-eqb, ltb-false}
 use lib.Dec.{ltb, eqb}
 use lib.ListN.{length, take, drop}
 use lib.Seq.{take-append-seam}
 use Rattle.values.specs.Values.{pick}
 use Rattle.hextext.specs.Characters.{digitOf}
-use Rattle.writing.specs.Ascii.{ascii, byte}
+use Rattle.writing.specs.Ascii.{ascii}
 use Rattle.writing.specs.Numbers.{decimal}
 use Rattle.naming.specs.Naming.{plainMark, plainNumber, plainName, sameText}
 use Rattle.verilog_tokens.specs.declared.Class.the-variants.{Space, Word, Decimal, Binary}
-use Rattle.verilog_tokens.specs.Characters.{isNewline, isSpace, isLetter, isBelow, isX, isNamed, isUnderscore, isDigit, inClass, span, every, numeral}
+use Rattle.verilog_tokens.specs.Characters.{isNewline, isSpace, isLetter, isBelow, isX, isNamed, isUnderscore, isDigit, inClass, span, every}
 use Rattle.verilog_tokens.specs.Words.{keywords, isAmong, isKeyword, signs, firstOf}
 use Rattle.verilog_tokens.specs.Tokens as T
-use Rattle.verilog_tokens.specs.Tokens.{Token, terminal, name, number, known, lexeme, wordToken, word, numberToken, unsigned, baseOf, radixOf, decimalDigits, digitsIn, isKnown, isUnknown, valueToken, valueBehind, value, based, signToken, sign, Opening, opensSign, opening, tokenBy, goesOn}
-use Rattle.verilog_lexed.specs.Lexed.{From, blanks, marks, names, counts, values, unknowns, spaced, between}
-use Rattle.verilog_lexed.proofs.Steps.{Reads, reads-by, reads-as, reads-blank, reads-token}
+use Rattle.verilog_tokens.specs.Tokens.{Token, terminal, name, known, lexeme, wordToken, word, numberToken, unsigned, baseOf, radixOf, decimalDigits, digitsIn, isKnown, isUnknown, valueToken, valueBehind, value, based, signToken, sign, opensSign, opening, tokenBy, goesOn}
+use Rattle.verilog_lexed.specs.Lexed.{From, blanks, names, counts, values, unknowns}
+use Rattle.verilog_lexed.proofs.Steps.{Reads, reads-as, reads-blank, reads-token}
 use Rattle.verilog_lexed.proofs.Digits.{Digit, Digits, decimal-digits, decimal-some, digit-below, digit-no-letter, digit-no-space, digit-no-slash, digit-no-x, digit-decimal-class, digit-word-class, span-run, every-digit, number-decimal, value-decimal}
 
 -- ---- words

@@ -1,13 +1,12 @@
 -- The tokens of a text, from any place on: a blank in front of a text, and a token in front of it. Assumes nothing.
-use mathlib.Core.Path.{_≡_, refl, sym, ap, _∙_}
-use mathlib.Core.Bool.{Bool, true, false}
+use mathlib.Core.Path.{_≡_, refl, ap, _∙_}
+use mathlib.Core.Bool.{true, false}
 use mathlib.Core.List.{List, [], _∷_, _++_, map}
 use Prim.Native.Nat.{ℕ, zero, suc, _+_, _<_}
 use native.Mathlib.Omega.{arith}
 use lib.Dec.{eqb}
 use lib.ListN.{length, drop, replicate, length-append}
 use lib.Seq.{drop-append-seam}
-use Rattle.values.specs.Values.{pick}
 use Rattle.verilog_tokens.specs.declared.Class.the-variants.{Space}
 use Rattle.verilog_tokens.specs.Characters.{isSpace, inClass, span}
 use Rattle.verilog_tokens.specs.Tokens.{Token, Lexeme, lexeme, Located, either, comment, blank, onwards, gaps, gap, opening, tokenBy, goesOn, andThen, fromToken, fromGap, located, tokens}
@@ -21,8 +20,9 @@ tokenIn l = l .token
 pub record Reads (s : List ℕ) (k : From) : Type 0 where
   pub on : (f p : ℕ) → length s < f → map tokenIn (fromGap f p s) ≡ k p
 
-pub reads-by : {s t : List ℕ} {k : From} → s ≡ t → Reads t k → Reads s k
-reads-by {s} {t} {k} e h = rw e h
+-- The same text in other words, the same tokens in other words.
+pub reads-from : {s t : List ℕ} {k : From} → Reads t k → s ≡ t → Reads s k
+reads-from h e = rw e h
 
 pub reads-as : {s : List ℕ} {j k : From} → ((p : ℕ) → j p ≡ k p) → Reads s j → Reads s k
 reads-as e h = record { on = λ f p l. h .on f p l ∙ e p }

@@ -1,6 +1,4 @@
 -- `verilog::is_flat` meets its contract. Assumes nothing.
-use mathlib.Core.Path.{sym, ap, _∙_}
-use borrow.Author.Tests.{ne-eqb}
 use Rattle.verilog.specs.Printing.{flat}
 use Rattle.verilog.proofs.Printing.{flat-other}
 use Rattle.verilog.proofs.is_flat.Statement.{statement}
