@@ -1,10 +1,10 @@
 /*
  * Walbryts for C: the functions of the proved static library libexports.a.
  *
- * A sheet is one module as bytes; every call takes it as a pointer and a length, and may be handed any bytes at all. A
- * call gives document 01's number, 0 where nothing was refused. A refused call alters nothing: every lent byte and word
- * is as it was. What a call tells beside its number (a place, a length, how many were accepted, a word) is its answer,
- * and is told in any case. Every call ends.
+ * A sheet is one module as bytes, or comes from one in Verilog; every call takes it, or the text, as a pointer and a
+ * length, and may be handed any bytes at all. A call gives document 01's number, 0 where nothing was refused. A refused
+ * call alters nothing: every lent byte and word is as it was. What a call tells beside its number (a place, a length,
+ * how many were accepted, a word) is its answer, and is told in any case. Every call ends.
  *
  * No pointer may be NULL, also with the length 0; what a call writes may not overlap what it reads. A flag (bool) is 0
  * or 1. Nothing is kept between calls: they may run in several threads at once, on arrays of their own.
@@ -24,6 +24,11 @@ extern "C" {
 #endif
 
 /* ---- lengths */
+
+#define WALBRYTS_VERILOG 16384 /* bytes of the longest Verilog text that is read */
+#define WALBRYTS_SHEET 8192    /* bytes of the longest sheet, and of the buffer for a text's sheet */
+#define WALBRYTS_VARIABLES 80  /* variables of a sheet, at most */
+#define WALBRYTS_STACK 8388608 /* bytes of stack that reading a text needs at most */
 
 #define WALBRYTS_TEXT 65536 /* bytes of the buffer for a listing; no listing is longer */
 #define WALBRYTS_STATE 641  /* bytes of a saved state */
@@ -56,6 +61,27 @@ extern "C" {
 #define WALBRYTS_SPENT 1    /* as many choices ran as were allowed, and it isn't quiet */
 #define WALBRYTS_STOPPED 2  /* at a choice, by the number that the call gives */
 #define WALBRYTS_REFUSED 3  /* the call was refused, by the number that it gives */
+
+/* ---- Verilog text */
+
+/* The sheet of one module in Verilog: ports by name; input, reg and wire; assign and always; the statements and
+ * operators that a sheet has, and case. It goes to the front of lent[WALBRYTS_SHEET], with zeros behind it; *length
+ * takes its length, 0 where the text is refused; *place takes the byte at which a refusal was met, 0 where there is
+ * none. Gives 0, or 23 where lent_len is another; 41 for a text of over WALBRYTS_VERILOG bytes; 42 for one that isn't
+ * such a module; 43 for a name that is undeclared or declared twice, or a wire without exactly one assign (places in
+ * the text); then 1 to 11 for the sheet that it gives (places in that sheet).
+ *
+ * Reading goes as deep as the text nests, and its tables lie on the stack: call it with a stack of WALBRYTS_STACK
+ * bytes. (Measured: 0.6 MB for a usual text; 2.8 MB for 8,191 parentheses or 8,100 @a, 1.5 MB for 4,090 ?: or 3,260 if
+ * in one text; 4.9 MB for 16,349 parentheses that are never closed.) A usual text of 16,384 bytes takes some 4 ms; one
+ * with a chain of thousands of operands, or with thousands of names, up to some seconds. */
+uint8_t walbryts_read_text(const uint8_t *text, size_t text_len, uint8_t *lent, size_t lent_len, size_t *place,
+                           size_t *length);
+
+/* Where the variables of such a text are declared: places[n] takes the place in the text of the name that declares
+ * variable n, lengths[n] the name's length, both 0 for numbers that no variable has; WALBRYTS_VARIABLES of each. Gives
+ * 0, or 41 to 43 as above; refused, both arrays stay. Needs as much stack. */
+uint8_t walbryts_names(const uint8_t *text, size_t text_len, uint16_t *places, uint16_t *lengths);
 
 /* ---- the sheet */
 

@@ -1,5 +1,6 @@
 /*
- * Document 01's flip-flop from C: read, listed, run by events and by expressions, saved, loaded, and refused.
+ * Document 01's flip-flop from C: read from Verilog and as a sheet, listed, run by events and by expressions, saved,
+ * loaded, and refused.
  *
  *   cc -std=c11 -Wall -Wextra -Iinclude examples/c/flipflop.c target/staticlib/libexports.a -o flipflop
  */
@@ -113,7 +114,28 @@ static void by_expressions(void) {
     printf("\n");
 }
 
+/* The same flip-flop in Verilog, its sheet and its variables' names. */
+static void from_verilog(void) {
+    static const char text[] = "module flipflop (clk, d); input clk; input [7:0] d; reg [7:0] q;\n"
+                               "always @(posedge clk) q <= d;\n"
+                               "endmodule\n";
+    static uint8_t lent[WALBRYTS_SHEET];
+    uint16_t places[WALBRYTS_VARIABLES], lengths[WALBRYTS_VARIABLES];
+    size_t place, length;
+    const uint8_t *bytes = (const uint8_t *)text;
+    accepted("read_text", walbryts_read_text(bytes, sizeof text - 1, lent, sizeof lent, &place, &length));
+    bool same = length == sizeof sheet && memcmp(lent, sheet, length) == 0;
+    printf("Verilog: %s", same ? "the same sheet" : "another sheet");
+    accepted("names", walbryts_names(bytes, sizeof text - 1, places, lengths));
+    for (size_t v = 0; v < WALBRYTS_VARIABLES && lengths[v] > 0; v++) {
+        printf("%s %.*s", v == 0 ? ", variables" : "", lengths[v], text + places[v]);
+    }
+    uint8_t number = walbryts_read_text(bytes, 27, lent, sizeof lent, &place, &length);
+    printf("\nits first 27 bytes: refused %u at byte %zu\n", number, place);
+}
+
 int main(void) {
+    from_verilog();
     list();
     by_events();
     by_rows();

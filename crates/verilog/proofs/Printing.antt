@@ -18,7 +18,7 @@ use Rattle.writing.proofs.Buffer.{both, puts-nil, puts-append}
 use Rattle.naming.specs.Naming.{plainName}
 use Rattle.signs.specs.Signs.{operands, lead, constantText, unknownText}
 use Rattle.verilog.specs.Verilog.{_&_, indent, before, edgeText, rangeText, directionText, portText, portsText, declarationText}
-use Rattle.verilog.specs.Printing.{Shown, shown, behind, Left, left, leaves, operandsAt, wordAt, bodiesOf, innerLevel, closingAt, bodiesAt, nodeAt, shownAt, termAt, termsAt, assignAt, conditionAt, waitAt, headingAt, formAt, stmtAt, declarationsAt, wireAt, wiresAt, threadAt, threadsAt, moduleAt}
+use Rattle.verilog.specs.Printing.{Shown, shown, behind, Left, left, leaves, operandsAt, wordAt, shapeOf, bodiesOf, flat, innerLevel, endAt, closingAt, bodiesAt, nodeAt, shownAt, termAt, termsAt, assignAt, conditionAt, waitAt, headingAt, formAt, stmtAt, declarationsAt, wireAt, wiresAt, threadAt, threadsAt, moduleAt}
 
 -- ---- leaves
 
@@ -78,22 +78,38 @@ module _ (i r v : ℕ) where
   unfolding directionText
   direction-input h = simp (lt-ltb v i h)
 
-  pub direction-register : i ≤ v → v < i + r → directionText i r v ≡ ascii "output reg "
+  pub direction-register : i ≤ v → v < i + r → directionText i r v ≡ ascii "reg "
   unfolding directionText
   direction-register h l = simp (le-ltb v i h, lt-ltb v (i + r) l)
 
-  pub direction-wire : i ≤ v → i + r ≤ v → directionText i r v ≡ ascii "output wire "
+  pub direction-wire : i ≤ v → i + r ≤ v → directionText i r v ≡ ascii "wire "
   unfolding directionText
   direction-wire h l = simp (le-ltb v i h, le-ltb v (i + r) l)
 
-module _ (m k n : ℕ) where
-  pub closing-else : (m ≡ 0x0C → ⊥) → k ≡ 2 → closingAt m k n ≡ (indent n & ascii "end else begin\n")
-  unfolding closingAt
-  closing-else h e = rw e (simp (ne-eqb m 0x0C h))
+module _ (m k : ℕ) where
+  pub flat-other : (m ≡ 0x0C → ⊥) → (m ≡ 0x2C → ⊥) → false ≡ flat m k
+  unfolding flat
+  flat-other h l = simp (ne-eqb m 0x0C h, ne-eqb m 0x2C l)
 
-  pub closing-end : (m ≡ 0x0C → ⊥) → (k ≡ 2 → ⊥) → closingAt m k n ≡ (indent n & ascii "end\n")
+  pub end-other : (m ≡ 0x0E → ⊥) → endAt m k ≡ ascii "end\n"
+  unfolding endAt
+  end-other h = simp (ne-eqb m 0x0E h)
+
+  pub end-last : m ≡ 0x0E → (k ≡ 2 → ⊥) → endAt m k ≡ ascii "end\n"
+  unfolding endAt
+  end-last e h = rw e (simp (ne-eqb k 2 h))
+
+  pub end-else : m ≡ 0x0E → k ≡ 2 → endAt m k ≡ ascii "end else begin\n"
+  unfolding endAt
+  end-else e h = rw (e, h)
+
+  pub closing-flat : (n : ℕ) → flat m k ≡ true → closingAt m k n ≡ []
   unfolding closingAt
-  closing-end h e = simp (ne-eqb m 0x0C h, ne-eqb k 2 e)
+  closing-flat n e = rw e
+
+  pub closing-block : (n : ℕ) → flat m k ≡ false → closingAt m k n ≡ (indent n & endAt m k)
+  unfolding closingAt
+  closing-block n e = rw e
 
 pub word-path : (n p : ℕ) (t : Text) (word : List ℕ) {a e : Text} → a ≡ puts t (indent n) → e ≡ puts a word
     → left (p + 1) e ≡ leaves t (wordAt word n p)
@@ -150,46 +166,58 @@ module _ (stmt : ℕ → ℕ → Shown) (m n : ℕ) where
   unfolding bodiesAt
   bodies-none k p e = rw e
 
-  pub bodies-more : (k p l : ℕ) → (k ≡ 0 → ⊥) → l ≡ innerLevel m n
+  pub bodies-more : (k p l : ℕ) → (k ≡ 0 → ⊥) → l ≡ innerLevel m k n
       → bodiesAt stmt m n k p ≡ behind (stmt l p .text ++ closingAt m k n) (bodiesAt stmt m n (k - 1) (stmt l p .next))
   unfolding bodiesAt
   bodies-more zero p l h e = absurd (h refl)
   bodies-more (suc k) p l h e = rw (sub-one, e)
 
-  bodies-suc : (k p : ℕ) {a : Shown} → stmt (innerLevel m n) p ≡ a
+  bodies-suc : (k p : ℕ) {a : Shown} → stmt (innerLevel m (suc k) n) p ≡ a
       → bodiesAt stmt m n (suc k) p ≡ behind (a .text ++ closingAt m (suc k) n) (bodiesAt stmt m n k (a .next))
   unfolding bodiesAt
   bodies-suc k p e = ap (λ (x : Shown). behind (x .text ++ closingAt m (suc k) n) (bodiesAt stmt m n k (x .next))) e
 
-  pub bodies-one : (p : ℕ) {q : ℕ} {t : List ℕ} → stmt (innerLevel m n) p ≡ shown q t
+  pub bodies-one : (p : ℕ) {q : ℕ} {t : List ℕ} → stmt (innerLevel m 1 n) p ≡ shown q t
       → bodiesAt stmt m n 1 p ≡ shown q (t ++ closingAt m 1 n)
   unfolding bodiesAt behind
   bodies-one p {q} {t} e = bodies-suc 0 p e ∙ ap (shown q) (append-nil (t ++ closingAt m 1 n))
 
-  pub bodies-two : (p : ℕ) {q x : ℕ} {t u : List ℕ} → stmt (innerLevel m n) p ≡ shown q t → stmt (innerLevel m n) q ≡ shown x u
+  pub bodies-two : (p : ℕ) {q x : ℕ} {t u : List ℕ} → stmt (innerLevel m 2 n) p ≡ shown q t → stmt (innerLevel m 1 n) q ≡ shown x u
       → bodiesAt stmt m n 2 p ≡ shown x ((t ++ closingAt m 2 n) ++ (u ++ closingAt m 1 n))
   unfolding behind
   bodies-two p {q} {t = t} e f = bodies-suc 1 p e ∙ ap (behind (t ++ closingAt m 2 n)) (bodies-one q f)
 
 pub bodies-few : (m : ℕ) → bodiesOf m ≤ 2
 unfolding bodiesOf
-bodies-few m = few (eqb m 0x0C) (eqb m 0x06) (eqb m 0x0E) (eqb m 0x46) (eqb m 0x44)
+bodies-few m = few (eqb m 0x0C) (eqb m 0x1C) (eqb m 0x2C) (eqb m 0x06) (eqb m 0x0E) (eqb m 0x46) (eqb m 0x44)
   where
-    few : (a b c d e : Bool) → pick a 2 (pick b 1 (pick c 2 (pick d 1 (pick e 1 0)))) ≤ 2
-    few true b c d e = omega arith
-    few false true c d e = omega arith
-    few false false true d e = omega arith
-    few false false false true e = omega arith
-    few false false false false true = omega arith
-    few false false false false false = omega arith
+    few : (a b c d e f g : Bool) → pick a 2 (pick b 1 (pick c 2 (pick d 1 (pick e 2 (pick f 1 (pick g 1 0)))))) ≤ 2
+    few true b c d e f g = omega arith
+    few false true c d e f g = omega arith
+    few false false true d e f g = omega arith
+    few false false false true e f g = omega arith
+    few false false false false true f g = omega arith
+    few false false false false false true g = omega arith
+    few false false false false false false true = omega arith
+    few false false false false false false false = omega arith
 
-pub inner-most : (m n : ℕ) → innerLevel m n ≤ n + 1
+pub inner-most : (m k n : ℕ) → innerLevel m k n ≤ n + 1
 unfolding innerLevel
-inner-most m n = by (eqb m 0x0C)
+inner-most m k n = by (flat m k)
   where
     by : (a : Bool) → pick a n (n + 1) ≤ n + 1
     by true = omega arith
     by false = omega arith
+
+-- ---- shapes
+
+pub shape-map : (m b : ℕ) → (m ≡ 0x0C → ⊥) → m ≡ shapeOf m b
+unfolding shapeOf
+shape-map m b h = simp (ne-eqb m 0x0C h)
+
+pub shape-single : (m b : ℕ) → m ≡ 0x0C → (b ≡ 0x10 → ⊥) → (b ≡ 0x0C → ⊥) → 0x0C ≡ shapeOf m b
+unfolding shapeOf
+shape-single m b e h l = rw e (simp (ne-eqb b 0x10 h, ne-eqb b 0x0C l))
 
 -- ---- the parts of a sheet
 
@@ -249,7 +277,7 @@ module _ (i r : ℕ) (s : List ℕ) where
   -- ---- headingAt
 
   module _ (n p m : ℕ) where
-    pub heading-empty : m ≡ 0x00 → headingAt i r s n p m ≡ wordAt (ascii ";\n") n p
+    pub heading-empty : m ≡ 0x00 → headingAt i r s n p m ≡ wordAt (ascii "begin end\n") n p
     unfolding headingAt
     heading-empty e = rw e
 
@@ -264,6 +292,14 @@ module _ (i r : ℕ) (s : List ℕ) where
     pub heading-sequence : m ≡ 0x0C → headingAt i r s n p m ≡ shown (p + 1) []
     unfolding headingAt
     heading-sequence e = rw e
+
+    pub heading-opening : m ≡ 0x1C → headingAt i r s n p m ≡ waitAt i r s (ascii ") begin\n") n (p + 1)
+    unfolding headingAt
+    heading-opening e = rw e
+
+    pub heading-nesting : m ≡ 0x2C → headingAt i r s n p m ≡ wordAt (ascii "begin\n") n p
+    unfolding headingAt
+    heading-nesting e = rw e
 
     pub heading-if : m ≡ 0x06 → headingAt i r s n p m ≡ conditionAt i r s (ascii "if (") n p
     unfolding headingAt
@@ -281,15 +317,27 @@ module _ (i r : ℕ) (s : List ℕ) where
     unfolding headingAt
     heading-forever e = rw e
 
-    pub heading-wait : m ≡ 0x10 → headingAt i r s n p m ≡ waitAt i r s n p
+    pub heading-wait : m ≡ 0x10 → headingAt i r s n p m ≡ waitAt i r s (ascii ");\n") n p
     unfolding headingAt
     heading-wait e = rw e
 
-    pub heading-other : (m ≡ 0x00 → ⊥) → (m ≡ 0x03 → ⊥) → (m ≡ 0x23 → ⊥) → (m ≡ 0x0C → ⊥) → (m ≡ 0x06 → ⊥) → (m ≡ 0x0E → ⊥)
-        → (m ≡ 0x46 → ⊥) → (m ≡ 0x44 → ⊥) → (m ≡ 0x10 → ⊥) → headingAt i r s n p m ≡ shown p []
+    pub heading-other : (m ≡ 0x00 → ⊥) → (m ≡ 0x03 → ⊥) → (m ≡ 0x23 → ⊥) → (m ≡ 0x0C → ⊥) → (m ≡ 0x1C → ⊥) → (m ≡ 0x2C → ⊥)
+        → (m ≡ 0x06 → ⊥) → (m ≡ 0x0E → ⊥) → (m ≡ 0x46 → ⊥) → (m ≡ 0x44 → ⊥) → (m ≡ 0x10 → ⊥) → headingAt i r s n p m ≡ shown p []
     unfolding headingAt
-    heading-other a b c d e f g h j =
-        simp (ne-eqb m _ a, ne-eqb m _ b, ne-eqb m _ c, ne-eqb m _ d, ne-eqb m _ e, ne-eqb m _ f, ne-eqb m _ g, ne-eqb m _ h, ne-eqb m _ j)
+    heading-other a b c d x y e f g h j =
+        simp (
+          ne-eqb m _ a,
+          ne-eqb m _ b,
+          ne-eqb m _ c,
+          ne-eqb m _ d,
+          ne-eqb m _ x,
+          ne-eqb m _ y,
+          ne-eqb m _ e,
+          ne-eqb m _ f,
+          ne-eqb m _ g,
+          ne-eqb m _ h,
+          ne-eqb m _ j,
+        )
 
   -- ---- the forms, from what the code's calls give
 
@@ -313,11 +361,12 @@ module _ (i r : ℕ) (s : List ℕ) where
         leaves-text t _ _ _ (leaves-next c l _ el)
         (both _ _ _ _ _ ea (both _ _ _ _ _ ec (both _ _ _ _ _ (leaves-puts c l _ el) ee)))
 
-    pub wait-path : {k w : ℕ} {a b c e : Text} → k ≡ getD s (p + 1) 0 → w ≡ k → a ≡ puts t (indent n) → b ≡ puts a (ascii "@(")
-        → c ≡ puts b (termsAt i r s k 0 (p + 2)) → e ≡ puts c (ascii ");\n") → left (p + 2 + 2 * w) e ≡ leaves t
-        (waitAt i r s n p)
+    pub wait-path : (word : List ℕ) {k w : ℕ} {a b c e : Text} → k ≡ getD s (p + 1) 0 → w ≡ k → a ≡ puts t (indent n)
+        → b ≡ puts a (ascii "@(")
+        → c ≡ puts b (termsAt i r s k 0 (p + 2)) → e ≡ puts c word → left (p + 2 + 2 * w) e ≡ leaves t
+        (waitAt i r s word n p)
     unfolding waitAt
-    wait-path {b = b} ek ew ea eb ec ee =
+    wait-path word {b = b} ek ew ea eb ec ee =
         leaves-text t _ _ _ (ap (λ (x : ℕ). p + 2 + 2 * x) (ew ∙ ek))
         (both _ _ _ _ _ ea (both _ _ _ _ _ eb (both _ _ _ _ _ (ec ∙ ap (λ (x : ℕ). puts b (termsAt i r s x 0 (p + 2))) ek) ee)))
 
@@ -332,17 +381,25 @@ module _ (i r : ℕ) (s : List ℕ) where
   stmt-end zero n p h = refl
   stmt-end (suc d) n p h = simp (le-ltb p (length s) h)
 
-  pub stmt-suc : (d n p m : ℕ) → p < length s → m ≡ getD s p 0 → stmtAt i r s (suc d) n p ≡ formAt i r s (stmtAt i r s d) n p m
+  pub stmt-suc : (d n p m : ℕ) → p < length s → m ≡ shapeOf (getD s p 0) (getD s (p + 1) 0)
+      → stmtAt i r s (suc d) n p ≡ formAt i r s (stmtAt i r s d) n p m
   unfolding stmtAt
   stmt-suc d n p m h e = rw e (simp (lt-ltb p (length s) h))
 
-  pub stmt-form : (d n p m : ℕ) → (d ≡ 0 → ⊥) → p < length s → m ≡ getD s p 0
+  -- A statement that is no sequence.
+  pub stmt-map : (d n p m : ℕ) → p < length s → m ≡ getD s p 0 → (m ≡ 0x0C → ⊥)
+      → stmtAt i r s (suc d) n p ≡ formAt i r s (stmtAt i r s d) n p m
+  stmt-map d n p m h e k =
+      stmt-suc d n p m h (shape-map m (getD s (p + 1) 0) k ∙ ap (λ (x : ℕ). shapeOf x (getD s (p + 1) 0)) e)
+
+  pub stmt-form : (d n p m : ℕ) → (d ≡ 0 → ⊥) → p < length s → m ≡ shapeOf (getD s p 0) (getD s (p + 1) 0)
       → stmtAt i r s d n p ≡ formAt i r s (stmtAt i r s (d - 1)) n p m
   stmt-form zero n p m z h e = absurd (z refl)
   stmt-form (suc d) n p m z h e = rw sub-one (stmt-suc d n p m h e)
 
   -- Heading and bodies printed one after the other.
-  pub form-path : (d n p m k : ℕ) (t : Text) {h l : Left} → (d ≡ 0 → ⊥) → p < length s → m ≡ getD s p 0 → k ≡ bodiesOf m
+  pub form-path : (d n p m k : ℕ) (t : Text) {h l : Left} → (d ≡ 0 → ⊥) → p < length s
+      → m ≡ shapeOf (getD s p 0) (getD s (p + 1) 0) → k ≡ bodiesOf m
       → h ≡ leaves t (headingAt i r s n p m) → l ≡ leaves (h .text) (bodiesAt (stmtAt i r s (d - 1)) m n k (h .next))
       → l ≡ leaves t (stmtAt i r s d n p)
   unfolding formAt
@@ -416,19 +473,19 @@ module _ (i r : ℕ) (s : List ℕ) where
       leaves-text t _ _ _ (leaves-next a l _ el) (both _ _ _ _ _ ea (both _ _ _ _ _ (leaves-puts a l _ el) ee))
 
   -- The module's parts printed one after the other.
-  pub module-path : (w t f n x : ℕ) (a : Text) {b c d e z : Text} {k l : Left} → f ≡ i + r → n ≡ i + r + w → x ≡ w
-      → b ≡ puts a (ascii "module walbryts (") → c ≡ puts b (portsText (plainName i r) n 0) → d ≡ puts c (ascii ");\n")
+  pub module-path : (w t f n x v : ℕ) (a : Text) {b c d e z : Text} {k l : Left} → f ≡ i + r → n ≡ i + r + w → x ≡ w → v ≡ i
+      → b ≡ puts a (ascii "module walbryts (") → c ≡ puts b (portsText (plainName i r) v 0) → d ≡ puts c (ascii ");\n")
       → e ≡ puts d (declarationsAt i r s n 0) → k ≡ leaves e (wiresAt i r s x f (4 + n)) → l ≡ leaves (k .text)
       (threadsAt i r s t (k .next))
       → z ≡ puts (l .text) (ascii "endmodule\n") → z ≡ puts a (moduleAt i r s w t)
   unfolding moduleAt
-  module-path w t f n x a {b = b} {d = d} {e = e} {k = k} {l = l} ef en ex eb ec ed ee ek el ez =
+  module-path w t f n x v a {b = b} {d = d} {e = e} {k = k} {l = l} ef en ex ev eb ec ed ee ek el ez =
       let q = wiresAt i r s w (i + r) (4 + (i + r + w)) in
       let wires : k ≡ leaves e q = ek ∙ (λ j. leaves e (wiresAt i r s (ex j) (ef j) (4 + en j))) in
       let rest : l .text ≡ puts (k .text) (threadsAt i r s t (q .next) .text) = leaves-puts (k .text) l _ el ∙ ap
       (λ (p : ℕ). puts (k .text) (threadsAt i r s t p .text)) (leaves-next e k q wires) in
       both _ _ _ _ _ eb
-      (both _ _ _ _ _ (ec ∙ ap (λ (m : ℕ). puts b (portsText (plainName i r) m 0)) en)
+      (both _ _ _ _ _ (ec ∙ ap (λ (m : ℕ). puts b (portsText (plainName i r) m 0)) ev)
       (both _ _ _ _ _ ed
       (both _ _ _ _ _ (ee ∙ ap (λ (m : ℕ). puts d (declarationsAt i r s m 0)) en)
       (both _ _ _ _ _ (leaves-puts e k q wires) (both _ _ _ _ _ rest ez)))))

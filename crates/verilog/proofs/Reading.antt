@@ -3,7 +3,7 @@ use mathlib.Core.Path.{_≡_, refl, sym, ap, _∙_}
 use Prim.Native.Nat.{ℕ, zero, suc, _+_, _*_, _≤_, _<_}
 use native.Mathlib.Omega.{arith}
 use mathlib.Core.List.{List, _∷_, _++_, append-nil, append-assoc}
-use lib.ListN.{length, getD, take, drop, length-take, length-drop, length-map}
+use lib.ListN.{length, getD, take, drop, length-map}
 use lib.Seq.{drop-cons}
 use lib.Dec.{leb, eqb}
 use Rattle.sheet.specs.declared.EdgeTerm.{EdgeTerm}
@@ -24,8 +24,8 @@ use Rattle.writing.specs.Buffer.{Text, filled, puts}
 use Rattle.naming.specs.Naming.{plainName}
 use Rattle.signs.specs.Signs.{sign, operands, lead}
 use Rattle.signs.proofs.Signs.{operands-one, operands-two, lead-first, lead-last}
-use Rattle.verilog.specs.Verilog.{_&_, indent, exprText, termText, termsText, stmtText, wiresText, threadsText, declarationsText, moduleText, verilogText, answer, printed, verilogOf}
-use Rattle.verilog.specs.Printing.{Shown, shown, behind, operandsAt, wordAt, bodiesOf, innerLevel, closingAt, shownAt, termAt, termsAt, assignAt, conditionAt, waitAt, headingAt, formAt, stmtAt, declarationsAt, wireAt, wiresAt, threadAt, threadsAt, moduleAt}
+use Rattle.verilog.specs.Verilog.{_&_, indent, waiting, nesting, single, front, exprText, termText, termsText, sequenceText, stmtText, wiresText, threadsText, declarationsText, moduleText, verilogText, answer, printed, verilogOf}
+use Rattle.verilog.specs.Printing.{Shown, shown, behind, operandsAt, wordAt, shapeOf, bodiesOf, flat, innerLevel, endAt, closingAt, shownAt, termAt, termsAt, assignAt, conditionAt, waitAt, headingAt, formAt, stmtAt, declarationsAt, wireAt, wiresAt, threadAt, threadsAt, moduleAt}
 use Rattle.verilog.proofs.Printing as Printing
 
 -- ---- a statement by its heading and its bodies
@@ -38,15 +38,15 @@ module _ (i r : ℕ) (s : List ℕ) (stmt : ℕ → ℕ → Shown) (n p m : ℕ)
       (ap (λ (x : Shown). behind h x) (Printing.bodies-none stmt m n 0 q refl) ∙ ap (shown q) (append-nil h))
 
   -- With one.
-  form-one : {q x : ℕ} {h t : List ℕ} → headingAt i r s n p m ≡ shown q h → bodiesOf m ≡ 1 → stmt (innerLevel m n) q ≡ shown x t
+  form-one : {q x : ℕ} {h t : List ℕ} → headingAt i r s n p m ≡ shown q h → bodiesOf m ≡ 1 → stmt (innerLevel m 1 n) q ≡ shown x t
       → formAt i r s stmt n p m ≡ shown x (h ++ (t ++ closingAt m 1 n))
   unfolding formAt behind
   form-one {q} {h = h} e k f = rw (e, k) (ap (λ (x : Shown). behind h x) (Printing.bodies-one stmt m n q f))
 
   -- With two.
   form-two : {q x y : ℕ} {h t u : List ℕ} → headingAt i r s n p m ≡ shown q h → bodiesOf m ≡ 2
-      → stmt (innerLevel m n) q ≡ shown x t
-      → stmt (innerLevel m n) x ≡ shown y u
+      → stmt (innerLevel m 2 n) q ≡ shown x t
+      → stmt (innerLevel m 1 n) x ≡ shown y u
       → formAt i r s stmt n p m ≡ shown y (h ++ ((t ++ closingAt m 2 n) ++ (u ++ closingAt m 1 n)))
   unfolding formAt behind
   form-two {q} {h = h} e k f g = rw (e, k) (ap (λ (x : Shown). behind h x) (Printing.bodies-two stmt m n q f g))
@@ -139,51 +139,100 @@ module _ (i r : ℕ) (c : Scope) (s : List ℕ) where
         (tree-shown (p + 2) h)
         ∙ ap (λ (x : ℕ). shown (e .next) (indent n & plainName i r x & sign & exprText (plainName i r) (e .item) & ascii ";\n")) v
 
-  wait-reads : (n p : ℕ) {k : ℕ} {ts : List EdgeTerm} → getD s (p + 1) 0 ≡ k → ReadsTerms (c .widths) s k (p + 2) ts
-      → waitAt i r s n p ≡ shown (p + 2 + 2 * k) (indent n & ascii "@(" & termsText (plainName i r) 0 ts & ascii ");\n")
+  wait-reads : (word : List ℕ) (n p : ℕ) {k : ℕ} {ts : List EdgeTerm} → getD s (p + 1) 0 ≡ k → ReadsTerms (c .widths) s k (p + 2) ts
+      → waitAt i r s word n p ≡ shown (p + 2 + 2 * k) (indent n & ascii "@(" & termsText (plainName i r) 0 ts & word)
   unfolding waitAt
-  wait-reads n p e ts = rw (e, terms-reads i r ts 0) refl
+  wait-reads word n p e ts = rw (e, terms-reads i r ts 0) refl
+
+  -- ---- sequences, by their first part
+
+  data Fronted (p : ℕ) (a : Body Expr) : Type 0 where
+    is-wait : {k : ℕ} {ts : List EdgeTerm} → getD s p 0 ≡ 0x10 → getD s (p + 1) 0 ≡ k → ReadsTerms (c .widths) s k (p + 2) ts
+        → front (a .stmt) ≡ waiting ts → p + 2 + 2 * k ≡ a .next → Fronted p a
+    is-sequence : getD s p 0 ≡ 0x0C → front (a .stmt) ≡ nesting → Fronted p a
+    is-single : (getD s p 0 ≡ 0x10 → ⊥) → (getD s p 0 ≡ 0x0C → ⊥) → front (a .stmt) ≡ single → Fronted p a
+
+  front-reads : {d p : ℕ} {a : Body Expr} → ReadsStmt (tree s) c s d p a → Fronted p a
+  unfolding front
+  front-reads (an-empty l m) = is-single (omega arith) (omega arith) refl
+  front-reads (an-assign l m t g e w) = is-single (omega arith) (omega arith) refl
+  front-reads (a-later l m t g e w) = is-single (omega arith) (omega arith) refl
+  front-reads (a-sequence l m x y) = is-sequence m refl
+  front-reads (an-if l m e x) = is-single (omega arith) (omega arith) refl
+  front-reads (an-if-else l m e x y) = is-single (omega arith) (omega arith) refl
+  front-reads (a-while l m e x) = is-single (omega arith) (omega arith) refl
+  front-reads (a-forever l m x) = is-single (omega arith) (omega arith) refl
+  front-reads (a-wait m w ts f) = is-wait m (w .same) ts refl refl
+
+  shape-of : (p k : ℕ) → getD s p 0 ≡ 0x0C → getD s (p + 1) 0 ≡ k → shapeOf 0x0C k ≡ shapeOf (getD s p 0) (getD s (p + 1) 0)
+  shape-of p k m e = rw (e, m)
+
+  module _ (d n p : ℕ) (a b : Body Expr) (l : p < length s) (m : getD s p 0 ≡ 0x0C) where
+    sequence-reads : Fronted (p + 1) a
+        → ((l : ℕ) → stmtAt i r s d l (p + 1) ≡ shown (a .next) (stmtText (plainName i r) l (a .stmt)))
+        → ((l : ℕ) → stmtAt i r s d l (a .next) ≡ shown (b .next) (stmtText (plainName i r) l (b .stmt)))
+        → stmtAt i r s (suc d) n p ≡ shown (b .next)
+        (sequenceText (plainName i r) n (front (a .stmt)) (λ l. stmtText (plainName i r) l (a .stmt))
+        (λ l. stmtText (plainName i r) l (b .stmt)))
+    unfolding sequenceText bodiesOf innerLevel flat closingAt endAt shapeOf
+    sequence-reads (is-wait {k} {ts} g h u f e) x y =
+        rw f
+        (Printing.stmt-suc i r s d n p 0x1C l (shape-of p 0x10 m g)
+        ∙ form-one i r s _ n p 0x1C
+        (Printing.heading-opening i r s n p 0x1C refl ∙ wait-reads (ascii ") begin\n") n (p + 1) h u
+        ∙ ap (λ (q : ℕ). shown q (indent n & ascii "@(" & termsText (plainName i r) 0 ts & ascii ") begin\n")) e)
+        refl (y (n + 1))
+        ∙ simp append-assoc)
+    sequence-reads (is-sequence g f) x y =
+        rw f
+        (Printing.stmt-suc i r s d n p 0x2C l (shape-of p 0x0C m g)
+        ∙ form-two i r s _ n p 0x2C (Printing.heading-nesting i r s n p 0x2C refl ∙ word-shown n p (ascii "begin\n")) refl
+        (x (n + 1)) (y n)
+        ∙ simp (append-nil, append-assoc))
+    sequence-reads (is-single g h f) x y =
+        rw f
+        (Printing.stmt-suc i r s d n p 0x0C l (Printing.shape-single _ _ m g h)
+        ∙ form-two i r s _ n p 0x0C (Printing.heading-sequence i r s n p 0x0C refl) refl (x n) (y n)
+        ∙ simp append-nil)
 
   pub stmt-reads : {d p : ℕ} {b : Body Expr} → ReadsStmt (tree s) c s d p b → (n : ℕ)
       → stmtAt i r s d n p ≡ shown (b .next) (stmtText (plainName i r) n (b .stmt))
-  unfolding stmtText bodiesOf innerLevel closingAt
+  unfolding stmtText bodiesOf innerLevel flat closingAt endAt
   stmt-reads {p = p} (an-empty {d = d} l m) n =
-      Printing.stmt-suc i r s d n p 0x00 l (sym m) ∙ form-none i r s _ n p 0x00
-      (Printing.heading-empty i r s n p 0x00 refl ∙ word-shown n p (ascii ";\n")) refl
+      Printing.stmt-map i r s d n p 0x00 l (sym m) (omega arith) ∙ form-none i r s _ n p 0x00
+      (Printing.heading-empty i r s n p 0x00 refl ∙ word-shown n p (ascii "begin end\n")) refl
   stmt-reads {p = p} (an-assign {d = d} l m t g e w) n =
-      Printing.stmt-suc i r s d n p 0x03 (omega arith) (sym m)
+      Printing.stmt-map i r s d n p 0x03 (omega arith) (sym m) (omega arith)
       ∙ form-none i r s _ n p 0x03 (Printing.heading-assign i r s n p 0x03 refl ∙ assign-reads n p (ascii " = ") t e) refl
   stmt-reads {p = p} (a-later {d = d} l m t g e w) n =
-      Printing.stmt-suc i r s d n p 0x23 (omega arith) (sym m)
+      Printing.stmt-map i r s d n p 0x23 (omega arith) (sym m) (omega arith)
       ∙ form-none i r s _ n p 0x23 (Printing.heading-later i r s n p 0x23 refl ∙ assign-reads n p (ascii " <= ") t e) refl
-  stmt-reads {p = p} (a-sequence {d = d} {b = b} l m x y) n =
-      Printing.stmt-suc i r s d n p 0x0C l (sym m)
-      ∙ form-two i r s _ n p 0x0C (Printing.heading-sequence i r s n p 0x0C refl) refl (stmt-reads x n) (stmt-reads y n)
-      ∙ simp append-nil
+  stmt-reads {p = p} (a-sequence {d = d} {a = a} {b = b} l m x y) n =
+      sequence-reads d n p a b l m (front-reads x) (λ k. stmt-reads x k) (λ k. stmt-reads y k)
   stmt-reads {p = p} (an-if {d = d} l m e x) n =
-      Printing.stmt-suc i r s d n p 0x06 l (sym m)
+      Printing.stmt-map i r s d n p 0x06 l (sym m) (omega arith)
       ∙ form-one i r s _ n p 0x06 (Printing.heading-if i r s n p 0x06 refl ∙ condition-reads n p (ascii "if (") e) refl
       (stmt-reads x (n + 1))
       ∙ simp append-assoc
   stmt-reads {p = p} (an-if-else {d = d} l m e x y) n =
-      Printing.stmt-suc i r s d n p 0x0E l (sym m)
+      Printing.stmt-map i r s d n p 0x0E l (sym m) (omega arith)
       ∙ form-two i r s _ n p 0x0E (Printing.heading-if-else i r s n p 0x0E refl ∙ condition-reads n p (ascii "if (") e) refl
       (stmt-reads x (n + 1)) (stmt-reads y (n + 1))
       ∙ simp append-assoc
   stmt-reads {p = p} (a-while {d = d} l m e x) n =
-      Printing.stmt-suc i r s d n p 0x46 l (sym m)
+      Printing.stmt-map i r s d n p 0x46 l (sym m) (omega arith)
       ∙ form-one i r s _ n p 0x46 (Printing.heading-while i r s n p 0x46 refl ∙ condition-reads n p (ascii "while (") e) refl
       (stmt-reads x (n + 1))
       ∙ simp append-assoc
   stmt-reads {p = p} (a-forever {d = d} l m x) n =
-      Printing.stmt-suc i r s d n p 0x44 l (sym m)
+      Printing.stmt-map i r s d n p 0x44 l (sym m) (omega arith)
       ∙ form-one i r s _ n p 0x44 (Printing.heading-forever i r s n p 0x44 refl ∙ word-shown n p (ascii "forever begin\n")) refl
       (stmt-reads x (n + 1))
       ∙ simp append-assoc
   stmt-reads {p = p} (a-wait {d = d} {n = k} {ts = vs} m w ts f) n =
       let b = w .below in
-      Printing.stmt-suc i r s d n p 0x10 (omega arith) (sym m)
-      ∙ form-none i r s _ n p 0x10 (Printing.heading-wait i r s n p 0x10 refl ∙ wait-reads n p (w .same) ts) refl
+      Printing.stmt-map i r s d n p 0x10 (omega arith) (sym m) (omega arith)
+      ∙ form-none i r s _ n p 0x10 (Printing.heading-wait i r s n p 0x10 refl ∙ wait-reads (ascii ");\n") n p (w .same) ts) refl
 
   -- ---- wires and threads
 
@@ -263,7 +312,6 @@ module-reads s h =
     let widths : c .widths ≡ take n (drop 4 s) = ap (λ (g : Head). g .scope .widths) (y .same) in
     let next : hd .0 .next ≡ 4 + n = ap (λ (g : Head). g .next) (y .same) in
     let b = y .inside in
-    let many : length (c .widths) ≡ n = ap length widths ∙ simp (length-take, length-drop) (omega arith) in
     let wires : wiresAt (c .inputs) (c .registers) s (hd .0 .wires) (c .inputs + c .registers) (4 + n) ≡ shown (es .0 .next)
     (wiresText (plainName (c .inputs) (c .registers)) (c .inputs + c .registers) (es .0 .items)) =
     ap (wiresAt (c .inputs) (c .registers) s (hd .0 .wires) (c .inputs + c .registers)) (sym next)
@@ -273,7 +321,7 @@ module-reads s h =
     (c .inputs) (c .registers) 0 (c .widths) =
     declarations-reads (c .inputs) (c .registers) s n 0 (omega arith) ∙ ap
     (declarationsText (plainName (c .inputs) (c .registers)) (c .inputs) (c .registers) 0) (sym widths) in
-    rw (← ok-injective (z .1)) (rw (← w, ← t) (rw (many, declared, wires, threads) refl))
+    rw (← ok-injective (z .1)) (rw (← w, ← t) (rw (declared, wires, threads) refl))
 
 -- ---- what the call gives, by the answer of reading
 

@@ -13,7 +13,7 @@ use Rattle.writing.specs.Ascii.{ascii, byte}
 use Rattle.writing.specs.Numbers.{digits, decimal}
 use Rattle.naming.specs.Naming.{plainMark, plainNumber, plainName}
 use Rattle.signs.specs.Signs.{sign, constantText, unknownText}
-use Rattle.verilog.specs.Verilog.{indent, before, edgeText, rangeText, directionText, exprText, termText, termsText, stmtText, portText, portsText, wiresText, threadsText, declarationText, declarationsText, moduleText, verilogText}
+use Rattle.verilog.specs.Verilog.{indent, before, edgeText, rangeText, directionText, front, exprText, termText, termsText, sequenceText, stmtText, portText, portsText, wiresText, threadsText, declarationText, declarationsText, moduleText, verilogText}
 
 -- Lines, each ended by a line feed.
 unfoldable pub lines : List String → List ℕ
@@ -63,71 +63,82 @@ widest =
     0x01 ∷ 0x01 ∷ 0x00 ∷ 0x02 ∷ 0x01 ∷ 0x20 ∷ 0x0C ∷ 0x10 ∷ 0x01 ∷ 0x01 ∷ 0x00 ∷ 0x23 ∷ 0x01 ∷ 0x0C ∷ 0x20 ∷ 0xFF ∷
     0xFF ∷ 0xFF ∷ 0xFF ∷ 0x44 ∷ 0x10 ∷ 0x01 ∷ 0x00 ∷ 0x01 ∷ []
 
+-- A sequence in front of another, an empty statement, and a wait that opens no sequence.
+abbrev pub nested : List ℕ
+nested =
+    0x01 ∷ 0x01 ∷ 0x00 ∷ 0x01 ∷ 0x01 ∷ 0x01 ∷ 0x0C ∷ 0x0C ∷ 0x23 ∷ 0x01 ∷ 0x02 ∷ 0x00 ∷ 0x00 ∷ 0x10 ∷ 0x01 ∷ 0x01 ∷
+    0x00 ∷ []
+
 -- ---- what is printed
 
 pub samples :
     (textOf (read flipFlop) ≡
     lines
-    ("module walbryts (i0, i1, r0);"
+    ("module walbryts (i0, i1);"
     ∷ "  input i0;"
     ∷ "  input [7:0] i1;"
-    ∷ "  output reg [7:0] r0;"
+    ∷ "  reg [7:0] r0;"
     ∷ "  always begin"
-    ∷ "    @(posedge i0);"
-    ∷ "    r0 <= i1;"
+    ∷ "    @(posedge i0) begin"
+    ∷ "      r0 <= i1;"
+    ∷ "    end"
     ∷ "  end"
     ∷ "endmodule"
     ∷ []))
     × (textOf (read watchdog) ≡
     lines
-    ("module walbryts (i0, i1, i2, i3, i4, r0, r1, r2, r3, w0, w1);"
+    ("module walbryts (i0, i1, i2, i3, i4);"
     ∷ "  input i0;"
     ∷ "  input i1;"
     ∷ "  input [11:0] i2;"
     ∷ "  input [7:0] i3;"
     ∷ "  input i4;"
-    ∷ "  output reg [11:0] r0;"
-    ∷ "  output reg [7:0] r1;"
-    ∷ "  output reg r2;"
-    ∷ "  output reg [15:0] r3;"
-    ∷ "  output wire w0;"
-    ∷ "  output wire w1;"
+    ∷ "  reg [11:0] r0;"
+    ∷ "  reg [7:0] r1;"
+    ∷ "  reg r2;"
+    ∷ "  reg [15:0] r3;"
+    ∷ "  wire w0;"
+    ∷ "  wire w1;"
     ∷ "  assign w0 = (i2 == r0);"
     ∷ "  assign w1 = (r1 == i3);"
     ∷ "  always begin"
-    ∷ "    @(posedge i0);"
-    ∷ "    if (i1) begin"
-    ∷ "      r0 <= 12'd0;"
-    ∷ "      r1 <= 8'd0;"
-    ∷ "      r2 <= 1'd0;"
-    ∷ "    end else begin"
-    ∷ "      r0 <= i2;"
-    ∷ "      if (w0) begin"
-    ∷ "        r1 <= 8'd1;"
-    ∷ "        @(posedge i0);"
-    ∷ "        while ((w0 & ((!i1) & (!w1)))) begin"
-    ∷ "          r1 <= (r1 + 8'd1);"
-    ∷ "          @(posedge i0);"
-    ∷ "        end"
-    ∷ "        if (w1) begin"
-    ∷ "          r2 <= 1'd1;"
-    ∷ "          @(posedge i0);"
-    ∷ "          while (((!i4) & (!i1))) begin"
-    ∷ "            @(posedge i0);"
-    ∷ "          end"
-    ∷ "          r2 <= 1'd0;"
-    ∷ "        end"
+    ∷ "    @(posedge i0) begin"
+    ∷ "      if (i1) begin"
+    ∷ "        r0 <= 12'd0;"
     ∷ "        r1 <= 8'd0;"
+    ∷ "        r2 <= 1'd0;"
+    ∷ "      end else begin"
+    ∷ "        r0 <= i2;"
+    ∷ "        if (w0) begin"
+    ∷ "          r1 <= 8'd1;"
+    ∷ "          @(posedge i0) begin"
+    ∷ "            while ((w0 & ((!i1) & (!w1)))) begin"
+    ∷ "              r1 <= (r1 + 8'd1);"
+    ∷ "              @(posedge i0);"
+    ∷ "            end"
+    ∷ "            if (w1) begin"
+    ∷ "              r2 <= 1'd1;"
+    ∷ "              @(posedge i0) begin"
+    ∷ "                while (((!i4) & (!i1))) begin"
+    ∷ "                  @(posedge i0);"
+    ∷ "                end"
+    ∷ "                r2 <= 1'd0;"
+    ∷ "              end"
+    ∷ "            end"
+    ∷ "            r1 <= 8'd0;"
+    ∷ "          end"
+    ∷ "        end"
     ∷ "      end"
     ∷ "    end"
     ∷ "  end"
     ∷ "  always begin"
-    ∷ "    @(posedge i0);"
-    ∷ "    if (i1) begin"
-    ∷ "      r3 <= 16'd0;"
-    ∷ "    end else begin"
-    ∷ "      if (r2) begin"
-    ∷ "        r3 <= (r3 + 16'd1);"
+    ∷ "    @(posedge i0) begin"
+    ∷ "      if (i1) begin"
+    ∷ "        r3 <= 16'd0;"
+    ∷ "      end else begin"
+    ∷ "        if (r2) begin"
+    ∷ "          r3 <= (r3 + 16'd1);"
+    ∷ "        end"
     ∷ "      end"
     ∷ "    end"
     ∷ "  end"
@@ -135,27 +146,29 @@ pub samples :
     ∷ []))
     × (textOf (read mixture) ≡
     lines
-    ("module walbryts (i0, i1, r0);"
+    ("module walbryts (i0, i1);"
     ∷ "  input i0;"
     ∷ "  input [7:0] i1;"
-    ∷ "  output reg [7:0] r0;"
+    ∷ "  reg [7:0] r0;"
     ∷ "  always begin"
-    ∷ "    @(negedge i0 or i1);"
-    ∷ "    r0 = (i1 + 8'd5);"
-    ∷ "    if (i0) begin"
-    ∷ "      r0 = (i0 ? (~r0) : 8'bx);"
+    ∷ "    @(negedge i0 or i1) begin"
+    ∷ "      r0 = (i1 + 8'd5);"
+    ∷ "      if (i0) begin"
+    ∷ "        r0 = (i0 ? (~r0) : 8'bx);"
+    ∷ "      end"
     ∷ "    end"
     ∷ "  end"
     ∷ "endmodule"
     ∷ []))
     × (textOf (read widest) ≡
     lines
-    ("module walbryts (i0, r0);"
+    ("module walbryts (i0);"
     ∷ "  input i0;"
-    ∷ "  output reg [31:0] r0;"
+    ∷ "  reg [31:0] r0;"
     ∷ "  always begin"
-    ∷ "    @(posedge i0);"
-    ∷ "    r0 <= 32'd4294967295;"
+    ∷ "    @(posedge i0) begin"
+    ∷ "      r0 <= 32'd4294967295;"
+    ∷ "    end"
     ∷ "  end"
     ∷ "  always begin"
     ∷ "    forever begin"
@@ -164,5 +177,19 @@ pub samples :
     ∷ "  end"
     ∷ "endmodule"
     ∷ []))
-unfolding edgeOf unaryWidth binaryWidth byteAt within word wordOf wordAt kindOf variableAt node readExpr tree size isRegister readTerms narrow narrowAll formOf assignment form readStmt readWidths readHead readWires readThreads readSheet read ascii digits decimal plainMark plainNumber plainName sign constantText unknownText indent before edgeText rangeText directionText exprText termText termsText stmtText portText portsText wiresText threadsText declarationText declarationsText moduleText verilogText lines textOf
-samples = (refl, refl, refl, refl)
+    × (textOf (read nested) ≡
+    lines
+    ("module walbryts (i0);"
+    ∷ "  input i0;"
+    ∷ "  reg r0;"
+    ∷ "  always begin"
+    ∷ "    begin"
+    ∷ "      r0 <= i0;"
+    ∷ "      begin end"
+    ∷ "    end"
+    ∷ "    @(posedge i0);"
+    ∷ "  end"
+    ∷ "endmodule"
+    ∷ []))
+unfolding edgeOf unaryWidth binaryWidth byteAt within word wordOf wordAt kindOf variableAt node readExpr tree size isRegister readTerms narrow narrowAll formOf assignment form readStmt readWidths readHead readWires readThreads readSheet read ascii digits decimal plainMark plainNumber plainName sign constantText unknownText indent before edgeText rangeText directionText front exprText termText termsText sequenceText stmtText portText portsText wiresText threadsText declarationText declarationsText moduleText verilogText lines textOf
+samples = (refl, refl, refl, refl, refl)

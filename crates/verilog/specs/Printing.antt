@@ -2,7 +2,8 @@
 use Prim.Native.Nat.{ℕ, zero, suc, _+_, _*_}
 use mathlib.Core.List.{List, [], _++_}
 use lib.ListN.{length, getD}
-use lib.Dec.{ltb}
+use lib.Dec.{ltb, eqb}
+use mathlib.Core.Bool.{Bool, true, false}
 use Rattle.values.specs.Values.{pick, _is_then_else_}
 use Rattle.values.specs.Edges.{edgeOf}
 use Rattle.sheet.specs.Reading.{wordOf}
@@ -57,32 +58,44 @@ wordAt word n p = shown (p + 1) (indent n & word)
 
 -- ---- bodies
 
--- How many bodies a map has: "2 and 3 statements".
+-- How a statement is printed, by its map and the byte after it: a sequence whose first part is a wait as 1Ch, one whose first part is a
+-- sequence as 2Ch, any other statement as its map.
+unfoldable pub shapeOf : ℕ → ℕ → ℕ
+shapeOf m b = m is 0x0C then (b is 0x10 then 0x1C else b is 0x0C then 0x2C else 0x0C) else m
+
+-- How many bodies a shape has: "2 and 3 statements". The wait of 1Ch is no body.
 unfoldable pub bodiesOf : ℕ → ℕ
 bodiesOf m =
     m is 0x0C then 2 else
+    m is 0x1C then 1 else
+    m is 0x2C then 2 else
     m is 0x06 then 1 else
     m is 0x0E then 2 else
     m is 0x46 then 1 else
     m is 0x44 then 1 else
     0
 
+-- Does a body stand without a block of its own, when k bodies were still to come? Both of a sequence do, and the last of 2Ch.
+unfoldable pub flat : ℕ → ℕ → Bool
+flat m k = m is 0x0C then true else m is 0x2C then eqb k 1 else false
+
 -- The level of a body.
-unfoldable pub innerLevel : ℕ → ℕ → ℕ
-innerLevel m n = m is 0x0C then n else n + 1
+unfoldable pub innerLevel : ℕ → ℕ → ℕ → ℕ
+innerLevel m k n = pick (flat m k) n (n + 1)
 
--- What stands behind a body, when k bodies were still to come.
+-- The end of a block, when k bodies of its statement were still to come.
+unfoldable pub endAt : ℕ → ℕ → List ℕ
+endAt m k = m is 0x0E then (k is 2 then ascii "end else begin\n" else ascii "end\n") else ascii "end\n"
+
+-- What stands behind a body.
 unfoldable pub closingAt : ℕ → ℕ → ℕ → List ℕ
-closingAt m k n =
-    m is 0x0C then [] else
-    k is 2 then indent n & ascii "end else begin\n" else
-    indent n & ascii "end\n"
+closingAt m k n = pick (flat m k) [] (indent n & endAt m k)
 
--- k bodies of a statement with map m, n levels in. `stmt` shows the statement at a level and a place.
+-- k bodies of a statement with shape m, n levels in. `stmt` shows the statement at a level and a place.
 unfoldable pub bodiesAt : (ℕ → ℕ → Shown) → ℕ → ℕ → ℕ → ℕ → Shown
 bodiesAt stmt m n zero p = shown p []
 bodiesAt stmt m n (suc k) p =
-    let a = stmt (innerLevel m n) p in
+    let a = stmt (innerLevel m (suc k) n) p in
     behind (a .text ++ closingAt m (suc k) n) (bodiesAt stmt m n k (a .next))
 
 -- ---- the parts of a sheet s with i inputs and r registers
@@ -126,27 +139,29 @@ module _ (i r : ℕ) (s : List ℕ) where
       let e = shownAt 16 (p + 1) in
       shown (e .next) (indent n & word & e .text & ascii ") begin\n")
 
-  -- A wait whose map stands at p.
-  unfoldable pub waitAt : ℕ → ℕ → Shown
-  waitAt n p =
+  -- A wait whose map stands at p, and a word behind it.
+  unfoldable pub waitAt : List ℕ → ℕ → ℕ → Shown
+  waitAt word n p =
       let k = getD s (p + 1) 0 in
-      shown (p + 2 + 2 * k) (indent n & ascii "@(" & termsAt k 0 (p + 2) & ascii ");\n")
+      shown (p + 2 + 2 * k) (indent n & ascii "@(" & termsAt k 0 (p + 2) & word)
 
-  -- What stands in front of a statement's first body: of a statement without a body all of it. Its map m stands at p.
+  -- What stands in front of a statement's first body: of a statement without a body all of it. It stands at p, its shape is m.
   unfoldable pub headingAt : ℕ → ℕ → ℕ → Shown
   headingAt n p m =
-      m is 0x00 then wordAt (ascii ";\n") n p else
+      m is 0x00 then wordAt (ascii "begin end\n") n p else
       m is 0x03 then assignAt (ascii " = ") n p else
       m is 0x23 then assignAt (ascii " <= ") n p else
       m is 0x0C then shown (p + 1) [] else
+      m is 0x1C then waitAt (ascii ") begin\n") n (p + 1) else
+      m is 0x2C then wordAt (ascii "begin\n") n p else
       m is 0x06 then conditionAt (ascii "if (") n p else
       m is 0x0E then conditionAt (ascii "if (") n p else
       m is 0x46 then conditionAt (ascii "while (") n p else
       m is 0x44 then wordAt (ascii "forever begin\n") n p else
-      m is 0x10 then waitAt n p else
+      m is 0x10 then waitAt (ascii ");\n") n p else
       shown p []
 
-  -- The statement at p, n levels in, whose map is m.
+  -- The statement at p, n levels in, whose shape is m.
   unfoldable pub formAt : (ℕ → ℕ → Shown) → ℕ → ℕ → ℕ → Shown
   formAt stmt n p m =
       let h = headingAt n p m in
@@ -155,7 +170,7 @@ module _ (i r : ℕ) (s : List ℕ) where
   -- With so many levels left; nothing past the sheet's end.
   unfoldable pub stmtAt : ℕ → ℕ → ℕ → Shown
   stmtAt zero n p = shown p []
-  stmtAt (suc d) n p = pick (ltb p (length s)) (formAt (stmtAt d) n p (getD s p 0)) (shown p [])
+  stmtAt (suc d) n p = pick (ltb p (length s)) (formAt (stmtAt d) n p (shapeOf (getD s p 0) (getD s (p + 1) 0))) (shown p [])
 
   -- ---- the module's parts
 
@@ -191,7 +206,7 @@ module _ (i r : ℕ) (s : List ℕ) where
   moduleAt w t =
       let n = i + r + w in
       let es = wiresAt w (i + r) (4 + n) in
-      ascii "module walbryts (" & portsText (plainName i r) n 0 & ascii ");\n"
+      ascii "module walbryts (" & portsText (plainName i r) i 0 & ascii ");\n"
       & declarationsAt n 0
       & es .text
       & threadsAt t (es .next) .text

@@ -1,4 +1,11 @@
--- The module as Verilog text.
+-- The module as Verilog text. It is text of the language that document 02's request [1] names, so that it can be read back: "simple names
+-- declared by `input`, `reg` or `wire` with `[n:0]` or no range, sized constants known or all x", with the inputs as its ports.
+--
+-- Blocks. A statement is printed as one or more statements of a block, by what the request makes of them: "A `begin` block nests to the
+-- right, an empty one or a bare `;` is 00h, `@` and what follows are a sequence". So what follows a wait stands in a block behind its
+-- `@`, a sequence that is the first part of another stands in a block of its own, and the empty statement is an empty block (in a
+-- block Annex A has no bare `;`). Read back, the text gives the same statement, but for a wait that opens no sequence: `@(..);` is the
+-- sequence of the wait and the empty statement.
 --
 -- Widths. Verilog works an operand out at the widest width of its surroundings (IEEE 1364, expression bit lengths), document 01 at
 -- its own. The two agree, since nothing in a sheet that was read is narrower than its surroundings: operands of 3 to 9 and both
@@ -13,7 +20,7 @@
 -- A thread that can come round without a wait is text that Icarus refuses or never leaves; extraction refuses it too (17).
 use Prim.Native.Nat.{ℕ, zero, suc, _+_, _-_, _*_}
 use mathlib.Core.List.{List, [], _∷_, _++_}
-use lib.ListN.{length, replicate}
+use lib.ListN.{replicate}
 use lib.Dec.{ltb}
 use Rattle.values.specs.Values.{pick, _is_then_else_}
 use Rattle.values.specs.declared.Edge.{Edge}
@@ -56,8 +63,26 @@ rangeText w = w is 1 then [] else ascii "[" & decimal (w - 1) & ascii ":0] "
 unfoldable pub directionText : ℕ → ℕ → ℕ → List ℕ
 directionText i r v =
     pick (ltb v i) (ascii "input ")
-    (pick (ltb v (i + r)) (ascii "output reg ")
-    (ascii "output wire "))
+    (pick (ltb v (i + r)) (ascii "reg ")
+    (ascii "wire "))
+
+-- ---- how a sequence is printed, by its first part: a wait, a sequence or any other statement
+
+pub data Front : Type 0 where
+  waiting : List EdgeTerm → Front
+  nesting : Front
+  single : Front
+
+unfoldable pub front : Stmt Expr → Front
+front empty = single
+front (assign t e) = single
+front (later t e) = single
+front (sequence a b) = nesting
+front (ifThen e a) = single
+front (ifElse e a b) = single
+front (while e a) = single
+front (forever a) = single
+front (wait ts) = waiting ts
 
 -- name gives a variable's name.
 module _ (name : ℕ → List ℕ) where
@@ -82,13 +107,26 @@ module _ (name : ℕ → List ℕ) where
   termsText k [] = []
   termsText k (t ∷ ts) = termText k t & termsText (k + 1) ts
 
-  -- ---- statements, n levels in. The parts of a sequence stand in one block; every other body has a block of its own.
+  -- ---- statements, n levels in, as they stand in a block; every body of theirs has a block of its own
+
+  -- A sequence of two statements, which are printed so.
+  unfoldable pub sequenceText : ℕ → Front → (ℕ → List ℕ) → (ℕ → List ℕ) → List ℕ
+  sequenceText n (waiting ts) a b =
+      indent n & ascii "@(" & termsText 0 ts & ascii ") begin\n"
+      & b (n + 1)
+      & indent n & ascii "end\n"
+  sequenceText n nesting a b =
+      indent n & ascii "begin\n"
+      & a (n + 1)
+      & indent n & ascii "end\n"
+      & b n
+  sequenceText n single a b = a n & b n
 
   unfoldable pub stmtText : ℕ → Stmt Expr → List ℕ
-  stmtText n empty = indent n & ascii ";\n"
+  stmtText n empty = indent n & ascii "begin end\n"
   stmtText n (assign t e) = indent n & name t & ascii " = " & exprText e & ascii ";\n"
   stmtText n (later t e) = indent n & name t & ascii " <= " & exprText e & ascii ";\n"
-  stmtText n (sequence a b) = stmtText n a & stmtText n b
+  stmtText n (sequence a b) = sequenceText n (front a) (λ l. stmtText l a) (λ l. stmtText l b)
   stmtText n (ifThen e a) =
       indent n & ascii "if (" & exprText e & ascii ") begin\n"
       & stmtText (n + 1) a
@@ -141,7 +179,7 @@ module _ (name : ℕ → List ℕ) where
   unfoldable pub moduleText : Module Expr → List ℕ
   moduleText m =
       let c = m .scope in
-      ascii "module walbryts (" & portsText (length (c .widths)) 0 & ascii ");\n"
+      ascii "module walbryts (" & portsText (c .inputs) 0 & ascii ");\n"
       & declarationsText (c .inputs) (c .registers) 0 (c .widths)
       & wiresText (c .inputs + c .registers) (m .wires)
       & threadsText (m .threads)

@@ -15,7 +15,8 @@ ghost use Rattle.writing.specs.Buffer.{filled, puts};
 ghost use Rattle.naming.specs.Naming.{plainName};
 ghost use Rattle.verilog.specs.Verilog.{indent, before, edgeText, directionText, rangeText, portsText, declarationText};
 ghost use Rattle.verilog.specs.Verilog.{portText, answer, verilogOf};
-ghost use Rattle.verilog.specs.Printing.{told, leaves, operandsAt, wordAt, bodiesOf, innerLevel, closingAt, bodiesAt};
+ghost use Rattle.verilog.specs.Printing.{told, leaves, operandsAt, wordAt, shapeOf, bodiesOf, flat, innerLevel, endAt};
+ghost use Rattle.verilog.specs.Printing.{closingAt, bodiesAt};
 ghost use Rattle.verilog.specs.Printing.{shownAt, termAt, termsAt, assignAt, conditionAt, waitAt, headingAt, stmtAt};
 ghost use Rattle.verilog.specs.Printing.{declarationsAt, wireAt, wiresAt, threadAt, threadsAt, moduleAt};
 
@@ -246,25 +247,26 @@ fn print_condition(
     }
 }
 
-// A wait whose map stands at `at`.
+// A wait whose map stands at `at`, and a word behind it.
 fn print_wait(
     sheet: &[u8],
     at: usize,
+    word: &[u8],
     level: u8,
     inputs: u8,
     registers: u8,
     text: &mut [u8; 65536],
     pos: usize,
 ) -> Printed
-    requires { ⌜ at < length (now sheet) ⌝ }
+    requires { ⌜ at < length (now sheet) + 1 ⌝ }
     ensures { λ r. ⌜ told r (now (text .exit)) ≡ leaves (filled (now (text .entry)) pos)
-        (waitAt inputs registers (now (sheet .entry)) level at) ⌝ }
+        (waitAt inputs registers (now (sheet .entry)) (now (word .entry)) level at) ⌝ }
 {
     let n = byte_at(sheet, at + 1);
     let p = put_indent(level, text, pos);
     let q = put_word(b"@(", text, p);
     let w = put_terms(sheet, at + 2, n, inputs, registers, text, q);
-    let end = put_word(b");\n", text, w);
+    let end = put_word(word, text, w);
     Printed {
         next: at + 2 + 2 * wide(n),
         pos: end,
@@ -285,11 +287,11 @@ fn print_word(word: &[u8], at: usize, level: u8, text: &mut [u8; 65536], pos: us
     }
 }
 
-// What stands in front of the first body of the statement whose map stands at `at`.
+// What stands in front of the first body of the statement at `at`, by its shape.
 fn print_heading(
     sheet: &[u8],
     at: usize,
-    map: u8,
+    shape: u8,
     level: u8,
     inputs: u8,
     registers: u8,
@@ -298,28 +300,55 @@ fn print_heading(
 ) -> Printed
     requires { ⌜ at < length (now sheet) ⌝ }
     ensures { λ r. ⌜ told r (now (text .exit)) ≡ leaves (filled (now (text .entry)) pos)
-        (headingAt inputs registers (now (sheet .entry)) level at map) ⌝ }
+        (headingAt inputs registers (now (sheet .entry)) level at shape) ⌝ }
 {
-    match map {
-        0x00 => print_word(b";\n", at, level, text, pos),
+    match shape {
+        0x00 => print_word(b"begin end\n", at, level, text, pos),
         0x03 => print_assign(sheet, at, b" = ", level, inputs, registers, text, pos),
         0x23 => print_assign(sheet, at, b" <= ", level, inputs, registers, text, pos),
         0x0C => Printed { next: at + 1, pos },
+        0x1C => print_wait(
+            sheet,
+            at + 1,
+            b") begin\n",
+            level,
+            inputs,
+            registers,
+            text,
+            pos,
+        ),
+        0x2C => print_word(b"begin\n", at, level, text, pos),
         0x06 => print_condition(sheet, at, b"if (", level, inputs, registers, text, pos),
         0x0E => print_condition(sheet, at, b"if (", level, inputs, registers, text, pos),
         0x46 => print_condition(sheet, at, b"while (", level, inputs, registers, text, pos),
         0x44 => print_word(b"forever begin\n", at, level, text, pos),
-        0x10 => print_wait(sheet, at, level, inputs, registers, text, pos),
+        0x10 => print_wait(sheet, at, b");\n", level, inputs, registers, text, pos),
         _ => Printed { next: at, pos },
     }
 }
 
-// How many bodies a map has.
-fn bodies_of(map: u8) -> u8
-    ensures { λ r. ⌜ r ≡ bodiesOf map ⌝ }
+// How a statement is printed, by its map and the byte after it.
+fn shape_of(map: u8, first: u8) -> u8
+    ensures { λ r. ⌜ r ≡ shapeOf map first ⌝ }
 {
-    match map {
+    if map != 0x0C {
+        return map;
+    }
+    match first {
+        0x10 => 0x1C,
+        0x0C => 0x2C,
+        _ => 0x0C,
+    }
+}
+
+// How many bodies a shape has.
+fn bodies_of(shape: u8) -> u8
+    ensures { λ r. ⌜ r ≡ bodiesOf shape ⌝ }
+{
+    match shape {
         0x0C => 2,
+        0x1C => 1,
+        0x2C => 2,
         0x06 => 1,
         0x0E => 2,
         0x46 => 1,
@@ -328,26 +357,49 @@ fn bodies_of(map: u8) -> u8
     }
 }
 
-// The level of a body.
-fn inner_level(map: u8, level: u8) -> u8
-    requires { ⌜ level < 255 ⌝ }
-    ensures { λ r. ⌜ r ≡ innerLevel map level ⌝ }
+// Does a body stand without a block of its own, when `k` bodies were still to come?
+fn is_flat(shape: u8, k: u8) -> bool
+    ensures { λ r. ⌜ r ≡ flat shape k ⌝ }
 {
-    if map == 0x0C { level } else { level + 1 }
+    if shape == 0x0C {
+        return true;
+    }
+    if shape == 0x2C {
+        return k == 1;
+    }
+    false
 }
 
-// What stands behind a body, when `k` bodies were still to come.
-fn put_closing(map: u8, k: u8, level: u8, text: &mut [u8; 65536], pos: usize) -> usize
-    ensures { λ r. ⌜ filled (now (text .exit)) r ≡ puts (filled (now (text .entry)) pos) (closingAt map k level) ⌝ }
+// The level of a body.
+fn inner_level(shape: u8, k: u8, level: u8) -> u8
+    requires { ⌜ level < 255 ⌝ }
+    ensures { λ r. ⌜ r ≡ innerLevel shape k level ⌝ }
 {
-    if map == 0x0C {
+    if is_flat(shape, k) { level } else { level + 1 }
+}
+
+// The end of a block, when `k` bodies of its statement were still to come.
+fn put_end(shape: u8, k: u8, text: &mut [u8; 65536], pos: usize) -> usize
+    ensures { λ r. ⌜ filled (now (text .exit)) r ≡ puts (filled (now (text .entry)) pos) (endAt shape k) ⌝ }
+{
+    if shape != 0x0E {
+        return put_word(b"end\n", text, pos);
+    }
+    if k != 2 {
+        return put_word(b"end\n", text, pos);
+    }
+    put_word(b"end else begin\n", text, pos)
+}
+
+// What stands behind a body.
+fn put_closing(shape: u8, k: u8, level: u8, text: &mut [u8; 65536], pos: usize) -> usize
+    ensures { λ r. ⌜ filled (now (text .exit)) r ≡ puts (filled (now (text .entry)) pos) (closingAt shape k level) ⌝ }
+{
+    if is_flat(shape, k) {
         return pos;
     }
     let p = put_indent(level, text, pos);
-    if k == 2 {
-        return put_word(b"end else begin\n", text, p);
-    }
-    put_word(b"end\n", text, p)
+    put_end(shape, k, text, p)
 }
 
 // `k` bodies of a statement, the first at a place.
@@ -356,7 +408,7 @@ fn print_bodies(
     at: usize,
     depth: u8,
     k: u8,
-    map: u8,
+    shape: u8,
     level: u8,
     inputs: u8,
     registers: u8,
@@ -365,21 +417,21 @@ fn print_bodies(
 ) -> Printed
     requires { ⌜ level + depth < 128 ⌝ }
     ensures { λ r. ⌜ told r (now (text .exit)) ≡ leaves (filled (now (text .entry)) pos)
-        (bodiesAt (stmtAt inputs registers (now (sheet .entry)) depth) map level k at) ⌝ }
+        (bodiesAt (stmtAt inputs registers (now (sheet .entry)) depth) shape level k at) ⌝ }
 {
     if k == 0 {
         return Printed { next: at, pos };
     }
-    let inner = inner_level(map, level);
+    let inner = inner_level(shape, k, level);
     let a = print_stmt(sheet, at, depth, inner, inputs, registers, text, pos);
     let next = a.next;
-    let p = put_closing(map, k, level, text, a.pos);
+    let p = put_closing(shape, k, level, text, a.pos);
     print_bodies(
         sheet,
         next,
         depth,
         k - 1,
-        map,
+        shape,
         level,
         inputs,
         registers,
@@ -410,16 +462,18 @@ fn print_stmt(
         return Printed { next: at, pos };
     }
     let map = byte_at(sheet, at);
-    let h = print_heading(sheet, at, map, level, inputs, registers, text, pos);
+    let first = byte_at(sheet, at + 1);
+    let shape = shape_of(map, first);
+    let h = print_heading(sheet, at, shape, level, inputs, registers, text, pos);
     let next = h.next;
     let p = h.pos;
-    let k = bodies_of(map);
+    let k = bodies_of(shape);
     print_bodies(
         sheet,
         next,
         depth - 1,
         k,
-        map,
+        shape,
         level,
         inputs,
         registers,
@@ -439,9 +493,9 @@ fn put_direction(inputs: u8, registers: u8, v: usize, text: &mut [u8; 65536], po
         return put_word(b"input ", text, pos);
     }
     if v < wide(inputs) + wide(registers) {
-        return put_word(b"output reg ", text, pos);
+        return put_word(b"reg ", text, pos);
     }
-    put_word(b"output wire ", text, pos)
+    put_word(b"wire ", text, pos)
 }
 
 // One less, 0 for 0.
@@ -640,7 +694,7 @@ fn print_module(
     let first = wide(inputs) + wide(registers);
     let n = first + wide(wires);
     let a = put_word(b"module walbryts (", text, 0);
-    let b = put_ports(n, inputs, registers, text, a);
+    let b = put_ports(wide(inputs), inputs, registers, text, a);
     let c = put_word(b");\n", text, b);
     let d = put_declarations(sheet, n, inputs, registers, text, c);
     let w = print_wires(sheet, 4 + n, wide(wires), first, inputs, registers, text, d);

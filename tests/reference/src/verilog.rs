@@ -2,7 +2,8 @@
 //!
 //! Inputs are i0 (the clock) and up, registers r0 and up, wires w0 and up. A thread is an `always`
 //! of its statement. Operands have the widths that a sheet's rules ask for, so that Verilog's
-//! rules on the sizes of expressions add nothing.
+//! rules on the sizes of expressions add nothing. The text has only forms that the text reader
+//! takes, and its blocks stand as they are read back.
 
 use std::fmt::{self, Display, Formatter, Write};
 
@@ -11,7 +12,7 @@ use crate::module::{Edge, Expr, Module, Operator, Stmt, Term, Variable};
 /// The name of the module.
 pub const NAME: &str = "walbryts";
 
-/// The module, with all its variables as ports.
+/// The module, with its inputs as ports.
 pub fn text(module: &Module) -> String {
     let mut printer = Printer { module, text: String::new() };
     printer.module().expect("text takes all that is written");
@@ -87,13 +88,13 @@ impl<'a> Printer<'a> {
         let module = self.module;
         let first_wire = module.inputs + module.registers;
         let variables = first_wire + module.wires.len() as u8;
-        let ports: Vec<String> = (0..variables).map(|v| self.name(v).to_string()).collect();
+        let ports: Vec<String> = (0..module.inputs).map(|v| self.name(v).to_string()).collect();
         writeln!(self.text, "module {NAME} ({});", ports.join(", "))?;
         for v in 0..variables {
             let kind = match v {
                 _ if v < module.inputs => "input",
-                _ if v < first_wire => "output reg",
-                _ => "output wire",
+                _ if v < first_wire => "reg",
+                _ => "wire",
             };
             let range = match module.widths[usize::from(v)] {
                 1 => String::new(),
@@ -125,7 +126,7 @@ impl<'a> Printer<'a> {
 
     fn stmt(&mut self, s: &'a Stmt, depth: usize) -> fmt::Result {
         match s {
-            Stmt::Empty => self.line(depth, ";"),
+            Stmt::Empty => self.line(depth, "begin end"),
             Stmt::Set(target, value) => {
                 let (target, value) = (self.name(*target), self.infix(value));
                 self.line(depth, format_args!("{target} = {value};"))
@@ -134,10 +135,7 @@ impl<'a> Printer<'a> {
                 let (target, value) = (self.name(*target), self.infix(value));
                 self.line(depth, format_args!("{target} <= {value};"))
             }
-            Stmt::Sequence(first, second) => {
-                self.stmt(first, depth)?;
-                self.stmt(second, depth)
-            }
+            Stmt::Sequence(first, second) => self.sequence(first, second, depth),
             Stmt::If(condition, body) => {
                 self.block(format!("if ({})", self.infix(condition)), body, depth)
             }
@@ -150,11 +148,29 @@ impl<'a> Printer<'a> {
                 self.block(format!("while ({})", self.infix(condition)), body, depth)
             }
             Stmt::Forever(body) => self.block("forever".into(), body, depth),
-            Stmt::Wait(terms) => {
-                let terms: Vec<String> = terms.iter().map(|term| self.term(term)).collect();
-                self.line(depth, format_args!("@({});", terms.join(" or ")))
-            }
+            Stmt::Wait(terms) => self.line(depth, format_args!("@({});", self.terms(terms))),
         }
+    }
+
+    /// What follows a wait stands in its block, and a sequence in front in a block of its own.
+    fn sequence(&mut self, first: &'a Stmt, second: &'a Stmt, depth: usize) -> fmt::Result {
+        match first {
+            Stmt::Wait(terms) => {
+                return self.block(format!("@({})", self.terms(terms)), second, depth);
+            }
+            Stmt::Sequence(..) => {
+                self.line(depth, "begin")?;
+                self.stmt(first, depth + 1)?;
+                self.line(depth, "end")?;
+            }
+            _ => self.stmt(first, depth)?,
+        }
+        self.stmt(second, depth)
+    }
+
+    fn terms(&self, terms: &[Term]) -> String {
+        let terms: Vec<String> = terms.iter().map(|term| self.term(term)).collect();
+        terms.join(" or ")
     }
 
     fn term(&self, term: &Term) -> String {

@@ -12,12 +12,14 @@ use Rattle.verilog.proofs.+print_bodies+print_stmt.Lts-print_stmt as pr
 use Rattle.sheet.proofs.byte_at.Reads as byte-at-reads
 use Rattle.verilog.proofs.inner_level.Reads as inner-level-reads
 use Rattle.verilog.proofs.put_closing.Reads as put-closing-reads
+use Rattle.verilog.proofs.shape_of.Reads as shape-of-reads
 use Rattle.verilog.proofs.print_heading.Reads as print-heading-reads
 use Rattle.verilog.proofs.bodies_of.Reads as bodies-of-reads
+use mathlib.Core.Path.{_∙_}
 use native.Mathlib.Omega.{arith}
 use borrow.Author.Needs.{needs}
 use Rattle.writing.proofs.Buffer.{both}
-use Rattle.verilog.specs.Printing.{stmtAt}
+use Rattle.verilog.specs.Printing.{shapeOf, stmtAt}
 use Rattle.verilog.proofs.Printing
 use Rattle.verilog.proofs.+print_bodies+print_stmt.{statement}
 use Rattle.verilog.proofs.+print_bodies+print_stmt.Tie.{close}
@@ -58,6 +60,8 @@ abbrev print-stmt-calls : ℕ → print-stmt-lts.Claims
 print-stmt-calls t = (
   byte-at-reads.Asked,
   byte-at-reads.Learnt,
+  shape-of-reads.Asked,
+  shape-of-reads.Learnt,
   print-heading-reads.Asked,
   print-heading-reads.Learnt,
   bodies-of-reads.Asked,
@@ -70,13 +74,13 @@ print-bodies-returns : (t : ℕ) → print-bodies-lts.Need-returns (print-bodies
 print-bodies-returns t c =
     let a = c .before .before .args in
     let o = stmtAt (a .inputs) (a .registers) (a .sheet .now) (a .depth) in
-    Printing.leaves-none _ _ (Printing.bodies-none o (a .map) (a .level) (a .k) (a .at) (c .if1 .taken))
+    Printing.leaves-none _ _ (Printing.bodies-none o (a .shape) (a .level) (a .k) (a .at) (c .if1 .taken))
 
 print-bodies-print-stmt-requires : (t : ℕ)
     → print-bodies-lts.Need-print-stmt-requires (print-bodies-calls t) (print-bodies-at t) print-bodies.Post
 print-bodies-print-stmt-requires t c κs =
     let a = c .before .before .before .before .args in
-    (search needs, omega (arith, c .before .inner-level .ensures, Printing.inner-most (a .map) (a .level)))
+    (search needs, omega (arith, c .before .inner-level .ensures, Printing.inner-most (a .shape) (a .k) (a .level)))
 
 print-bodies-print-bodies-requires : (t : ℕ)
     → print-bodies-lts.Need-print-bodies-requires (print-bodies-calls t) (print-bodies-at t) print-bodies.Post
@@ -89,7 +93,7 @@ print-bodies-returns-2 t c =
     let o = stmtAt (a .inputs) (a .registers) (a .sheet .now) (a .depth) in
     let x = c .before .before .before .before .print-stmt .ensures in
     Printing.leaves-behind _ _ _ _ _
-    (Printing.bodies-more o (a .map) (a .level) (a .k) (a .at) _ (c1 .before .if1 .left) (c1 .inner-level .ensures))
+    (Printing.bodies-more o (a .shape) (a .level) (a .k) (a .at) _ (c1 .before .if1 .left) (c1 .inner-level .ensures))
     (both _ _ _ _ _ (Printing.leaves-puts _ _ _ x) (c .before .before .put-closing .ensures))
     (rw (← Printing.leaves-next _ _ _ x) (c .print-bodies .ensures))
 
@@ -112,16 +116,18 @@ print-stmt-print-bodies-requires t c κs = (
     arith,
     c .before .bodies-of .ensures,
     Printing.bodies-few
-        (c .before .before .before .before .byte-at .result),
+        (c .before .before .before .before .shape-of .result),
   ),
   search needs,
 )
 
 print-stmt-returns-3 : (t : ℕ) → print-stmt-lts.Need-returns-3 (print-stmt-calls t) (print-stmt-at t) print-stmt.Post
 print-stmt-returns-3 t c =
-    let c1 = c .before .before .before .before .before .before in
-    Printing.form-path _ _ _ _ _ _ _ _ _ (c1 .before .if1 .left) (c1 .if2 .left)
-    (c .before .before .before .before .before .byte-at .ensures) (c .before .before .bodies-of .ensures)
+    let c1 = c .before .before .before .before .before in
+    let m = c1 .before .before .byte-at .ensures in
+    let f = c1 .before .byte-at2 .ensures in
+    Printing.form-path _ _ _ _ _ _ _ _ _ (c1 .before .before .before .before .if1 .left) (c1 .before .before .before .if2 .left)
+    (c1 .shape-of .ensures ∙ (λ j. shapeOf (m j) (f j))) (c .before .before .bodies-of .ensures)
     (c .before .before .before .print-heading .ensures) (c .print-bodies .ensures)
 
 pub +print-bodies+print-stmt-spec : {M : Type 1} → statement M
@@ -138,6 +144,9 @@ pub +print-bodies+print-stmt-spec : {M : Type 1} → statement M
     (λ t. print-stmt-lts.spec (print-stmt-calls t) (print-stmt-at t) print-stmt.Post
     (print-stmt-returns t)
     (print-stmt-returns-2 t)
+    (λ c κs. search needs)
+    (λ c. search needs)
+    (λ c κs. search needs)
     (λ c κs. search needs)
     (λ c κs. search needs)
     (λ c κs. search needs)

@@ -26,10 +26,26 @@ returns-5 c = rw (c .match .keys5)
 
 returns-6 : tie.Need-returns-6
 unfolding bodiesOf
-returns-6 c =
+returns-6 c = rw (c .match .keys6)
+
+returns-7 : tie.Need-returns-7
+unfolding bodiesOf
+returns-7 c = rw (c .match .keys7)
+
+returns-8 : tie.Need-returns-8
+unfolding bodiesOf
+returns-8 c =
     let r = c .match .rest in
-    simp
-    (ne-eqb _ _ (r .0 .0 .0 .0 .1), ne-eqb _ _ (r .0 .0 .0 .1), ne-eqb _ _ (r .0 .0 .1), ne-eqb _ _ (r .0 .1), ne-eqb _ _ (r .1))
+    let l = r .0 .0 .0 .0 in
+    simp (
+      ne-eqb _ _ (l .0 .0 .1),
+      ne-eqb _ _ (l .0 .1),
+      ne-eqb _ _ (l .1),
+      ne-eqb _ _ (r .0 .0 .0 .1),
+      ne-eqb _ _ (r .0 .0 .1),
+      ne-eqb _ _ (r .0 .1),
+      ne-eqb _ _ (r .1),
+    )
 
 pub bodies-of-spec : {M : Type 1} → statement M
 bodies-of-spec =
@@ -40,4 +56,6 @@ bodies-of-spec =
     returns-3
     returns-4
     returns-5
-    returns-6)
+    returns-6
+    returns-7
+    returns-8)

@@ -8,10 +8,10 @@ use Rattle.verilog.proofs.print_wait.Tie as tie
 returns : tie.Need-returns
 unfolding ascii
 returns c =
-    let c1 = c .before .before .before .before .before .before in
-    wait-path _ _ _ _ _ _ (c1 .before .before .before .before .before .byte-at .ensures) (c .wide .ensures)
+    let c1 = c .before .before .before .before .before in
+    wait-path _ _ _ _ _ _ _ (c1 .before .before .before .before .before .byte-at .ensures) (c .wide .ensures)
     (c1 .before .before .before .put-indent .ensures) (c1 .put-word .ensures)
-    (c .before .before .before .before .put-terms .ensures) (c .before .put-word2 .ensures)
+    (c .before .before .before .put-terms .ensures) (c .before .put-word2 .ensures)
 
 pub print-wait-spec : {M : Type 1} → statement M
 print-wait-spec =
@@ -24,7 +24,6 @@ print-wait-spec =
     (λ c κs. search needs)
     (λ c. search needs)
     (λ c κs. search needs)
-    (λ c. search needs)
     (λ c κs. search needs)
     (λ c. search needs)
     (λ c κs. search needs)

@@ -3,6 +3,7 @@ use crate::encode::encode;
 use crate::generate;
 use crate::random::Random;
 use crate::text::{random as texts, vectors};
+use crate::verilog;
 
 fn read(text: &[u8]) -> (Answer, Vec<u8>) {
     let mut lent = vec![0xAA; LENT];
@@ -19,16 +20,9 @@ fn with(items: &str) -> String {
     format!("module m (clk); input clk; reg [7:0] a, b; {items} endmodule")
 }
 
-/// On a thread whose stack is large enough for deep texts.
-fn deep<T: Send + 'static>(run: impl FnOnce() -> T + Send + 'static) -> T {
-    let thread =
-        std::thread::Builder::new().stack_size(256 << 20).spawn(run).expect("a thread");
-    thread.join().expect("the thread ends")
-}
-
 #[test]
 fn the_vectors_are_met() {
-    deep(|| {
+    deep(256 << 20, || {
         for (line, vector) in vectors::all().iter().enumerate() {
             let mut lent = vec![0xAA; vector.lent];
             let answer = read_text(&vector.text, &mut lent);
@@ -67,6 +61,30 @@ fn a_written_module_is_read_as_it_was_meant() {
         }
     }
     assert!(accepted > 1_000);
+}
+
+#[test]
+fn a_printed_module_is_read_back() {
+    let mut random = Random::new(2);
+    let mut accepted = 0;
+    for _ in 0..600 {
+        let module = generate::module(&mut random);
+        let text = verilog::text(&module);
+        if text.len() > MOST_TEXT {
+            continue;
+        }
+        let sheet = encode(&texts::meant(&module));
+        let (answer, lent) = read(text.as_bytes());
+        match sheet::read(&sheet) {
+            Ok(_) => {
+                assert_eq!((answer.number, answer.length), (0, sheet.len()), "{text}");
+                assert_eq!(&lent[..sheet.len()], sheet, "{text}");
+                accepted += 1;
+            }
+            Err(refusal) => assert_eq!(answer.number, refusal.number),
+        }
+    }
+    assert!(accepted > 300);
 }
 
 #[test]

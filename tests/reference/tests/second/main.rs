@@ -148,17 +148,37 @@ fn a_call_that_does_nothing_is_found() {
 fn the_flip_flop_as_verilog() {
     let module = read(&samples::FLIP_FLOP.sheet()).expect("accepted");
     let text = "\
-module walbryts (i0, i1, r0);
+module walbryts (i0, i1);
   input i0;
   input [7:0] i1;
-  output reg [7:0] r0;
+  reg [7:0] r0;
   always begin
-    @(posedge i0);
-    r0 <= i1;
+    @(posedge i0) begin
+      r0 <= i1;
+    end
   end
 endmodule
 ";
     assert_eq!(verilog::text(&module), text);
+}
+
+#[test]
+fn a_sequence_in_front_of_another_as_verilog() {
+    let sheet = [1, 1, 0, 1, 1, 1, 0x0C, 0x0C, 0x23, 1, 2, 0, 0, 0x10, 1, 1, 0];
+    let text = "\
+module walbryts (i0);
+  input i0;
+  reg r0;
+  always begin
+    begin
+      r0 <= i0;
+      begin end
+    end
+    @(posedge i0);
+  end
+endmodule
+";
+    assert_eq!(verilog::text(&read(&sheet).expect("accepted")), text);
 }
 
 #[test]

@@ -14,7 +14,8 @@ const ROOT: &str = concat!(env!("CARGO_MANIFEST_DIR"), "/../..");
 /// The proved program's command, and how many random modules it prints.
 const PRINTER: &str = "./walbryts verilog";
 const PRINTED: usize = 600;
-/// How the command ends what it says of a text that it can't print.
+/// The length from which on a text needn't be printed, and how the command ends what it says then.
+const LONG: usize = 65_536;
 const TOO_LONG: &str = ": its Verilog is 65,536 bytes or longer\n";
 
 /// How many texts differ.
@@ -24,14 +25,10 @@ pub fn hold() -> Outcome<usize> {
     let mut random = Random::new(SEED);
     let mut sheets: Vec<Vec<u8>> = stored()?.into_iter().map(|trace| trace.sheet).collect();
     sheets.extend((0..PRINTED).map(|_| encode(&generate::module(&mut random))));
+    sheets.push(encode(&stimulus::deep_module()));
     let (mut passed, mut failed) = (0, 0);
     for sheet in &sheets {
-        let module = sheet::read(sheet).expect("a sheet that is read");
-        let difference = match printed(&folder, &command, sheet) {
-            Ok(text) => differ(&text, &verilog::text(&module)),
-            Err(error) => Some(error),
-        };
-        match difference {
+        match held(&folder, &command, sheet) {
             None => passed += 1,
             Some(difference) => {
                 failed += 1;
@@ -42,30 +39,25 @@ pub fn hold() -> Outcome<usize> {
             break;
         }
     }
-    match long_text(&folder, &command) {
-        None => passed += 1,
-        Some(difference) => {
-            failed += 1;
-            println!("FAIL  a long text: {difference}");
-        }
-    }
     println!("{passed} passed, {failed} failed");
     Ok(failed)
 }
 
-/// Of a text that is long, all is printed, or the command says so: status 1, nothing on standard
-/// output, and why on standard error. A part of the text would be wrong, and a crash says nothing.
-fn long_text(folder: &Path, command: &str) -> Option<String> {
-    let module = stimulus::deep_module();
-    let output = match output(folder, command, &encode(&module)) {
+/// What differs. Of a text that is long, all is printed, or the command says so: status 1, nothing on
+/// standard output, and why on standard error. A part of the text would be wrong, and a crash says
+/// nothing.
+fn held(folder: &Path, command: &str, sheet: &[u8]) -> Option<String> {
+    let expected = verilog::text(&sheet::read(sheet).expect("a sheet that is read"));
+    let output = match output(folder, command, sheet) {
         Ok(output) => output,
         Err(error) => return Some(error),
     };
     let (out, error) = (text_of(&output.stdout), text_of(&output.stderr));
-    match (output.status.code(), out.is_empty()) {
-        (Some(0), _) => differ(&out, &verilog::text(&module)),
-        (Some(1), true) if error.ends_with(TOO_LONG) => None,
-        (status, _) => Some(format!("status {status:?}, {} bytes, {error}", out.len())),
+    let unsaid = out.is_empty() && expected.len() >= LONG && error.ends_with(TOO_LONG);
+    match output.status.code() {
+        Some(0) => differ(&out, &expected),
+        Some(1) if unsaid => None,
+        status => Some(format!("status {status:?}, {} bytes, {error}", out.len())),
     }
 }
 

@@ -1,0 +1,14 @@
+pub mod Returned
+pub mod Cases
+pub mod Yields
+pub mod Counted
+pub mod Meant
+pub mod Rows
+pub mod Used
+pub mod Parts
+pub mod Plain
+pub mod Sheet
+pub mod Unique
+pub mod Limits
+pub mod Back
+pub mod Samples

@@ -1,0 +1,2 @@
+pub mod Lexed
+pub mod Claims
