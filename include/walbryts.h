@@ -129,7 +129,8 @@ uint8_t walbryts_instant(const uint8_t *sheet, size_t sheet_len, uint8_t *state,
  * row's item 0, the clock's, isn't looked at. *phases takes how many instants were done with the run after them;
  * *running whether it was the run after an instant, and not the instant, that had the number. Gives 0 where all were,
  * else the number that stopped it, and the state is the one reached. A refused call gives 1 to 11, 31, or 25 where
- * value_len is no multiple of 16 or unknown_len is another length. */
+ * value_len is no multiple of 16 or unknown_len is another length.
+ * What is prepared of the sheet lies on the stack: 150 KB. */
 uint8_t walbryts_run_cycles(const uint8_t *sheet, size_t sheet_len, uint8_t *state, const uint32_t *value,
                             size_t value_len, const bool *unknown, size_t unknown_len, size_t *phases, bool *running);
 
