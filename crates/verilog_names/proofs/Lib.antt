@@ -1,6 +1,7 @@
 pub mod Chosen
 pub mod AtFault
 pub mod Numbering
+pub mod Entering
 pub mod Heading
 pub mod Ordering
 pub mod Kept
