@@ -19,7 +19,7 @@ use Rattle.verilog_names.proofs.Chosen.{here-in, here-out, chosen-step,
 -- ---- one entry
 
 module _ (table : List ℕ) (id v : ℕ) where
-  entry-length : length (entry table id v) ≡ length table
+  pub entry-length : length (entry table id v) ≡ length table
   unfolding entry
   entry-length = by (ltb id 16385)
     where
@@ -27,11 +27,11 @@ module _ (table : List ℕ) (id v : ℕ) where
       by true = length-set table id v
       by false = refl
 
-  entry-same : id < 16385 → id < length table → getD (entry table id v) id 0 ≡ v
+  pub entry-same : id < 16385 → id < length table → getD (entry table id v) id 0 ≡ v
   unfolding entry
   entry-same h l = rw (lt-ltb id 16385 h) (getD-set-same table id v 0 l)
 
-  entry-other : (x : ℕ) → (x ≡ id → ⊥) → getD (entry table id v) x 0 ≡ getD table x 0
+  pub entry-other : (x : ℕ) → (x ≡ id → ⊥) → getD (entry table id v) x 0 ≡ getD table x 0
   unfolding entry
   entry-other x f = by (ltb id 16385)
     where

@@ -64,14 +64,14 @@ fn entry(n: u8) -> u32
 // ---- a table by id
 
 // An id as a place in the table.
-fn slot(id: u32) -> usize
+pub(crate) fn slot(id: u32) -> usize
     ensures { λ r. ⌜ r ≡ id ⌝ }
 {
     id as usize
 }
 
 // Enters a number at an id that the table has.
-fn enter_id(table: &mut [u8; 16385], id: u32, number: u8)
+pub(crate) fn enter_id(table: &mut [u8; 16385], id: u32, number: u8)
     ensures { λ _. ⌜ now (table .exit) ≡ entry (now (table .entry)) id number ⌝ }
 {
     let k = slot(id);
