@@ -3,18 +3,17 @@ use mathlib.Core.Path.{_≡_, refl, sym, ap, _∙_}
 use mathlib.Core.Bool.{Bool, true, false, _&&_}
 use mathlib.Core.List.{List, [], _∷_, _++_, append-assoc}
 use Prim.Native.Nat.{ℕ, zero, suc, _+_, _-_, _≤_, _<_}
-use native.Mathlib.Numerals.{add-one}
 use native.Mathlib.Omega.{arith}
 use lib.Dec.{ltb, leb}
-use lib.ListN.{length, getD, take, drop, set, length-append, take-append-drop, length-set}
-use lib.Seq.{slice, slice-empty, sets, length-slice, length-take-le, drop-cons, take-suc, take-at, drop-at, drop-append-le, sets-eq, length-sets}
+use lib.ListN.{length, getD, take, drop, set, take-append-drop, length-set}
+use lib.Seq.{slice, slice-empty, sets, length-slice, length-take-le, drop-cons, take-suc, drop-at, drop-append-le, sets-eq}
 use lib.Seq.{take-set-le, drop-set-lt, getD-set-same, take-take, take-append-le}
 use borrow.Author.Tests.{lt-ltb, le-ltb, ltb-true, le-leb, lt-leb, leb-true, leb-false}
 use Rattle.values.specs.Values.{pick}
-use Rattle.writing.specs.Buffer.{Text, filled, puts}
+use Rattle.writing.specs.Buffer.{filled, puts}
 use Rattle.writing.proofs.Buffer.{puts-sets}
 use Rattle.verilog_bytes.specs.Turning.{turned, behind, moved, opened, fronted, Fronts}
-use Rattle.verilog_bytes.proofs.Turning.{turned-at, take-slice}
+use Rattle.verilog_bytes.proofs.Turning.{turned-at}
 
 -- ---- moved
 
@@ -109,7 +108,8 @@ module _ (from : ℕ) (xs l : List ℕ) (at : ℕ) (room : length l ≡ 65536) (
   turned-is-opened =
       let a = slice from at l in
       let q = drop (at + k) l in
-      let front : take from l ++ a ≡ take at l = ap (λ x. x ++ a) (sym (take-take from at l (omega arith))) ∙ take-append-drop from (take at l) in
+      let front : take from l ++ a ≡ take at l =
+      ap (λ x. x ++ a) (sym (take-take from at l (omega arith))) ∙ take-append-drop from (take at l) in
       let is : sets l at xs ≡ take from l ++ (a ++ (xs ++ q)) =
       sets-eq xs l at (omega arith) ∙ append-assoc (take at l) xs q ∙ ap (λ x. x ++ (xs ++ q)) (sym front)
       ∙ append-assoc (take from l) a (xs ++ q) in

@@ -3,7 +3,6 @@ use mathlib.Core.Path.{_≡_, refl, sym, _∙_, ap}
 use mathlib.Core.Bool.{Bool, true, false}
 use mathlib.Core.List.{List, [], _∷_, _++_, append-assoc}
 use Prim.Native.Nat.{ℕ, zero, suc, _+_, _-_, _<_, _≤_}
-use native.Mathlib.Nat.{sub-zero}
 use native.Mathlib.Numerals.{add-one}
 use native.Mathlib.Omega.{arith}
 use borrow.Author.Tests.{eqb-true, eqb-false, lt-ltb, le-ltb}
@@ -63,7 +62,8 @@ module _ (ids : List ℕ) where
   entered-append [] ys first table = ap (λ k. entered ids ys k table) {x = first + 0} {y = first} (omega arith)
   entered-append (t ∷ xs) ys first table =
       ap (λ l. entry l (getD ids t 0) (upTo 255 first))
-      (ap (λ k. entered ids xs (suc first) (entered ids ys k table)) {x = first + suc (length xs)} {y = suc first + length xs} (omega arith)
+      (ap (λ k. entered ids xs (suc first) (entered ids ys k table))
+      {x = first + suc (length xs)} {y = suc first + length xs} (omega arith)
       ∙ entered-append xs ys (suc first) table)
 
   module _ (x t first p : ℕ) (r : List ℕ) (w : x < 16385) (h : x < length r) (e : getD r x 0 ≡ upTo 255 (suc first + p)) where
@@ -151,7 +151,8 @@ module _ (ids roles : List ℕ) (r n above : ℕ) (table₀ : List ℕ) where
   pub entering-first : Entering table₀ above n
   unfolding entered
   entering-first =
-      (omega arith, (rw (chosen-done (hasRole roles r) n n (omega arith)) (omega arith), rw (chosen-done (hasRole roles r) n n (omega arith))))
+      let e = chosen-done (hasRole roles r) n n (omega arith) in
+      (omega arith, (rw e (omega arith), rw e))
 
   pub entering-room : (table : List ℕ) (k i j : ℕ) → i ≡ j + 1 → countOf roles n r ≤ above → Entering table k i
       → length (here (hasRole roles r) j) ≤ k
@@ -223,5 +224,6 @@ module _ (roles : List ℕ) (n : ℕ) where
   by-id ids table v all p q e =
       e ∙ ap (λ y. entered ids (ordered roles n) 0 (replicate 16385 y)) (p ∙ ap (upTo 255) q)
 
-  pub counted-all : (a b c : ℕ) → a ≡ countOf roles n 1 → b ≡ countOf roles n 2 → c ≡ countOf roles n 3 → a + b + c ≡ length (ordered roles n)
+  pub counted-all : (a b c : ℕ) → a ≡ countOf roles n 1 → b ≡ countOf roles n 2 → c ≡ countOf roles n 3
+      → a + b + c ≡ length (ordered roles n)
   counted-all a b c p q s = omega (arith, ordered-length)

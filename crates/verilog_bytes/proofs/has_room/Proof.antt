@@ -1,6 +1,5 @@
 -- `verilog_bytes::has_room` meets its contract. Assumes nothing.
 use borrow.Author.Needs.{needs}
-use native.Mathlib.Omega.{arith}
 use Rattle.verilog_bytes.proofs.Moving.{room-none, room-test}
 use Rattle.verilog_bytes.proofs.has_room.Statement.{statement}
 use Rattle.verilog_bytes.proofs.has_room.Tie as tie

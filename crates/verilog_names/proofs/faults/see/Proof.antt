@@ -2,7 +2,6 @@
 use borrow.Author.Needs.{needs}
 use mathlib.Core.Path.{_≡_}
 use Prim.Native.Nat.{_-_}
-use native.Mathlib.Omega.{arith}
 use Rattle.verilog_names.specs.Chosen.{chosen, isIn}
 use Rattle.verilog_names.specs.Faults.{marked}
 use Rattle.verilog_names.proofs.Chosen.{chosen-all}

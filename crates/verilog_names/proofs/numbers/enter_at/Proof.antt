@@ -12,7 +12,8 @@ returns c = enter-none _ _ _ _ _ _ (sym (c .before .has-role .ensures) ∙ not-t
 sub-v : tie.Need-sub-v
 sub-v c =
     let a = c .before .before .args in
-    enter-room (a .numbers .now) (a .roles .now) (a .table .now) (a .role) (a .i) (a .above) (sym (c .before .has-role .ensures) ∙ not-false _ (c .if1 .left)) (c .before .before .pre .1)
+    enter-room (a .numbers .now) (a .roles .now) (a .table .now) (a .role) (a .i) (a .above)
+    (sym (c .before .has-role .ensures) ∙ not-false _ (c .if1 .left)) (c .before .before .pre .1)
 
 returns-2 : tie.Need-returns-2
 returns-2 c =
@@ -22,7 +23,8 @@ returns-2 c =
     let a = at-has-role .before .args in
     let e = sym (at-has-role .has-role .ensures) ∙ not-false _ (at-if1 .if1 .left) in
     enter-one (a .numbers .now) (a .roles .now) (a .table .now) (a .role) (a .i) (a .above) _ _ e
-    (enter-room (a .numbers .now) (a .roles .now) (a .table .now) (a .role) (a .i) (a .above) e (at-has-role .before .pre .1)) (at-up-to .up-to .ensures) (c .enter-id .ensures)
+    (enter-room (a .numbers .now) (a .roles .now) (a .table .now) (a .role) (a .i) (a .above) e (at-has-role .before .pre .1))
+    (at-up-to .up-to .ensures) (c .enter-id .ensures)
 
 pub enter-at-spec : {M : Type 1} → statement M
 enter-at-spec =

@@ -1,6 +1,5 @@
 -- `verilog_names::numbers::number_at` meets its contract. Assumes nothing.
 use borrow.Author.Needs.{needs}
-use mathlib.Core.Path.{_∙_}
 use Rattle.verilog_names.proofs.Numbering.{number-other, number-name}
 use Rattle.verilog_names.proofs.Entering.{known-number}
 use Rattle.verilog_names.proofs.numbers.number_at.Statement.{statement}
