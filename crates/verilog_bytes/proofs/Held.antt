@@ -11,9 +11,10 @@ use lib.Seq.{take-at, take-suc-set, take-set-lt, set-at}
 use borrow.Author.Tests.{ltb-true, ltb-false}
 use Rattle.writing.specs.Buffer.{filled, put, puts}
 use Rattle.writing.proofs.Buffer.{put-in, put-full, puts-cons, puts-nil}
-use Rattle.verilog_bytes.specs.Turning.{turned, behind, fronted}
+use Rattle.verilog_bytes.specs.Turning.{turned, behind, fronted, Fronts}
 use Rattle.verilog_bytes.specs.Held.{placeOf, Held}
 use Rattle.verilog_bytes.proofs.Turning.{turned-at, length-turned}
+use Rattle.verilog_bytes.proofs.Moving.{fronts}
 
 -- An empty list is held by every buffer from its beginning.
 pub held-nil : (bs : List ℕ) → length bs ≡ 65536 → Held bs 0 []
@@ -93,10 +94,10 @@ held-turned {bs} {q} l a b held = record {
 
 pub held-fronted : {bs : List ℕ} {q : ℕ} (from : ℕ) (l a xs : List ℕ) → from ≡ placeOf l → Held bs q (l ++ a)
     → Held (fronted from xs (filled bs q) .bytes) (fronted from xs (filled bs q) .at) (l ++ (xs ++ a))
-unfolding fronted behind
+unfolding behind Fronts
 held-fronted {bs} {q} from l a xs e held =
     let h = held-puts xs held in
-    rw (e, held .place) (held-turned l a xs (rw (append-assoc l a xs, held .place) at h))
+    rw (fronts from xs (filled bs q) (held .room), e, held .place) (held-turned l a xs (rw (append-assoc l a xs, held .place) at h))
 
 -- ---- a byte in place of another
 

@@ -3,9 +3,9 @@ use mathlib.Core.Path.{_≡_}
 use mathlib.Core.Bool.{_&&_}
 use mathlib.Core.List.{List, _++_}
 use Prim.Native.Nat.{ℕ, zero, suc, _+_, _-_, _≤_}
-use lib.Dec.{leb}
+use lib.Dec.{ltb, leb}
 use lib.ListN.{length, getD, set, take, drop}
-use lib.Seq.{slice}
+use lib.Seq.{slice, sets}
 use Rattle.values.specs.Values.{pick}
 use Rattle.writing.specs.Buffer.{Text, filled, puts}
 
@@ -38,5 +38,19 @@ Turns =
 unfoldable pub behind : ℕ → ℕ → Text → Text
 behind from mid t = filled (turned from mid (t .at) (t .bytes)) (t .at)
 
+-- n bytes from a place on, each moved on by k, the last first.
+unfoldable pub moved : ℕ → ℕ → ℕ → List ℕ → List ℕ
+moved k zero from bs = bs
+moved k (suc n) from bs = moved k n from (set bs (from + n + k) (getD bs (from + n) 0))
+
+-- Where there is room for them, what stands there is moved on and they are written in its place: that is the same.
+unfoldable pub opened : ℕ → List ℕ → Text → Text
+opened from xs t = filled (sets (moved (length xs) (t .at - from) from (t .bytes)) from xs) (t .at + length xs)
+
 unfoldable pub fronted : ℕ → List ℕ → Text → Text
-fronted from xs t = behind from (t .at) (puts t xs)
+fronted from xs t =
+    pick (ltb from (t .at) && leb (t .at + length xs) 65536) (opened from xs t) (behind from (t .at) (puts t xs))
+
+-- `proofs/Moving.antt` shows it.
+unfoldable pub Fronts : Type 0
+Fronts = (from : ℕ) (xs : List ℕ) (t : Text) → length (t .bytes) ≡ 65536 → fronted from xs t ≡ behind from (t .at) (puts t xs)

@@ -10,7 +10,7 @@ use Rattle.encoding.specs.Encoding.{encodeWord}
 use Rattle.verilog_tokens.specs.Table.{terminals, numberFrom, kindOf, kinds, nameIn, namesIn, placeOf, idOf, upTo255, numberIn, numbers}
 use Rattle.verilog_tokens.proofs.Samples.{seen}
 use Rattle.verilog_grammar.specs.Meaning.{upTo, cut}
-use Rattle.verilog_bytes.specs.Turning.{swapped, reversed, thrice, turned, behind, fronted}
+use Rattle.verilog_bytes.specs.Turning.{swapped, reversed, thrice, turned, behind, moved, opened, fronted}
 use Rattle.verilog_exprs.specs.Rows.{rowAt, Wrote, passed, refused, andThen, isAt, expected}
 use Rattle.verilog_exprs.specs.Constants.{constantBytes}
 use Rattle.verilog_exprs.specs.Exprs.{precedenceOf, operatorOf, binds, valueAt, atomAt, bracketsAt, primaryAt, prefixAt, operandAt}
@@ -19,8 +19,8 @@ use Rattle.verilog_exprs.specs.Exprs.{joinAt, climbAt, choiceAt, armsAt,
 -- What reading a text as an expression leaves in a buffer of 16 bytes, with every definition open.
 unfoldable pub left : String → Wrote
 unfolding seen terminals numberFrom kindOf kinds nameIn namesIn placeOf idOf upTo255 numberIn numbers upTo cut put puts encodeWord swapped
-    reversed thrice turned behind fronted rowAt andThen isAt expected constantBytes precedenceOf operatorOf binds valueAt atomAt bracketsAt
-    primaryAt prefixAt operandAt joinAt climbAt choiceAt armsAt exprAt
+    reversed thrice turned behind moved opened fronted rowAt andThen isAt expected constantBytes precedenceOf operatorOf binds valueAt
+    atomAt bracketsAt primaryAt prefixAt operandAt joinAt climbAt choiceAt armsAt exprAt
 left s = exprAt (kinds (ascii s)) (numbers (ascii s)) 9 1 0 0 (replicate 16 0)
 
 -- Operators of one level go to the left; the operator stands in front of its operands.

@@ -1,6 +1,8 @@
 pub mod Chosen
 pub mod AtFault
 pub mod Numbering
+pub mod Entering
+pub mod Marking
 pub mod Heading
 pub mod Ordering
 pub mod Kept

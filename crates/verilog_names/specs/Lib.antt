@@ -1,6 +1,6 @@
 pub mod Chosen
-pub mod Faults
 pub mod Numbers
+pub mod Faults
 pub mod Head
 pub mod Order
 pub mod Tables

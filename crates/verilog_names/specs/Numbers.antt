@@ -1,8 +1,8 @@
 -- Variables by number, from the tables: "variables number as declared within their kind", inputs, registers, wires.
 use mathlib.Core.List.{List, [], _∷_, _++_}
 use Prim.Native.Nat.{ℕ, zero, suc, _+_}
-use lib.Dec.{eqb}
-use lib.ListN.{getD}
+use lib.Dec.{ltb, eqb}
+use lib.ListN.{length, getD, set, replicate}
 use lib.Seq.{sets}
 use Rattle.values.specs.Values.{pick}
 use Rattle.verilog_grammar.specs.Meaning.{upTo}
@@ -16,6 +16,19 @@ ordered roles n = chosen (hasRole roles 1) n 0 ++ chosen (hasRole roles 2) n 0 +
 unfoldable pub placeOf : List ℕ → List ℕ → ℕ → ℕ
 placeOf ids [] x = 0
 placeOf ids (t ∷ ts) x = pick (eqb (getD ids t 0) x) 0 (suc (placeOf ids ts x))
+
+-- A table by id has room for those below 16,385.
+unfoldable pub entry : List ℕ → ℕ → ℕ → List ℕ
+entry table id v = pick (ltb id 16385) (set table id v) table
+
+-- Numbers from one on for the names of some tokens, entered in a table by id, the last first: of those with one id the first stays.
+unfoldable pub entered : List ℕ → List ℕ → ℕ → List ℕ → List ℕ
+entered ids [] first table = table
+entered ids (t ∷ ts) first table = entry (entered ids ts (suc first) table) (getD ids t 0) (upTo 255 first)
+
+-- The variables' numbers by id; an id that no variable has stands for the number behind the last.
+unfoldable pub byId : List ℕ → List ℕ → ℕ → List ℕ
+byId ids roles n = entered ids (ordered roles n) 0 (replicate 16385 (upTo 255 (length (ordered roles n))))
 
 -- A name's token has its variable's number, any other what it had.
 unfoldable pub numberAt : List ℕ → List ℕ → List ℕ → ℕ → ℕ → ℕ

@@ -1,14 +1,18 @@
 // Names at fault (43).
 use crate::Class;
 use crate::Fault;
+use crate::numbers::enter_id;
+use crate::numbers::slot;
 use crate::tokens::capped;
 use crate::tokens::is_in;
 ghost use mathlib.Core.Path.{_≡_};
 ghost use mathlib.Core.List.{[]};
 ghost use Prim.Native.Nat.{_≤_, _<_};
+ghost use lib.ListN.{getD};
+ghost use Rattle.values.specs.Values.{pick};
 ghost use Rattle.verilog_source.specs.Names.{lower};
 ghost use Rattle.verilog_names.specs.Chosen.{capped, here, chosen, isIn};
-ghost use Rattle.verilog_names.specs.Faults.{isAmong, missing, repeated, nearest, faultOf};
+ghost use Rattle.verilog_names.specs.Faults.{isAmong, marked, marks, lacks, missing, repeated, nearest, faultOf};
 
 // The lower of two places.
 fn lower(a: usize, b: usize) -> usize
@@ -64,32 +68,102 @@ fn is_among(
     false
 }
 
-// ---- tokens of a class that are missing in another
+// ---- ids of a class, marked in a table
 
-// The place of a token that is one of these; 65,536 of another.
-fn missing_at(
+// Marks a token's id, where it is of that class.
+fn see_at(
     kinds: &[u8; 16385],
     numbers: &[u32; 16385],
-    places: &[u16; 16385],
+    roles: &[u8; 16385],
+    class: Class,
+    i: usize,
+    seen: &mut [u8; 16385],
+)
+    requires { ⌜ i < 16385 ⌝ }
+    ensures { λ _. ⌜ now (seen .exit) ≡
+        marked (now (numbers .entry)) (here (isIn (now (kinds .entry)) (now (roles .entry)) class) i) (now (seen .entry)) ⌝ }
+{
+    if !is_in(kinds, roles, class, i) {
+        return;
+    }
+    enter_id(seen, numbers[i], 1);
+}
+
+// Marks the ids of all tokens of that class.
+fn see(
+    kinds: &[u8; 16385],
+    numbers: &[u32; 16385],
+    roles: &[u8; 16385],
+    count: usize,
+    class: Class,
+    seen: &mut [u8; 16385],
+)
+    requires { ⌜ count ≤ 16385 ⌝ }
+    ensures { λ _. ⌜ now (seen .exit) ≡
+        marked (now (numbers .entry)) (chosen (isIn (now (kinds .entry)) (now (roles .entry)) class) count 0) (now (seen .entry)) ⌝ }
+{
+    let mut i = 0;
+    while i < count {
+        see_at(kinds, numbers, roles, class, i, seen);
+        i += 1;
+    }
+}
+
+// Is one of the first so many tokens of that class such a name? Their ids are marked; an id that the table lacks is sought.
+fn is_seen(
+    kinds: &[u8; 16385],
+    numbers: &[u32; 16385],
+    roles: &[u8; 16385],
+    count: usize,
+    class: Class,
+    seen: &[u8; 16385],
+    id: u32,
+) -> bool
+    requires { ⌜ count ≤ 16385 ⌝ }
+    requires { ⌜ now seen ≡ marks (now numbers) (chosen (isIn (now kinds) (now roles) class) count 0) ⌝ }
+    ensures { λ r. ⌜ r ≡ isAmong (now (numbers .entry)) (chosen (isIn (now (kinds .entry)) (now (roles .entry)) class) count 0) id ⌝ }
+{
+    let k = slot(id);
+    if k < 16385 {
+        return seen[k] == 1;
+    }
+    is_among(kinds, numbers, roles, count, class, id)
+}
+
+// ---- tokens of a class that are missing in another
+
+// Is a token one of these?
+fn is_missing(
+    kinds: &[u8; 16385],
+    numbers: &[u32; 16385],
     roles: &[u8; 16385],
     count: usize,
     a: Class,
     b: Class,
+    seen: &[u8; 16385],
     i: usize,
-) -> usize
+) -> bool
     requires { ⌜ count ≤ 16385 ⌝ }
+    requires { ⌜ now seen ≡ marks (now numbers) (chosen (isIn (now kinds) (now roles) b) count 0) ⌝ }
     requires { ⌜ i < 16385 ⌝ }
-    ensures { λ r. ⌜ r ≡ nearest (now (places .entry)) (missing (now (numbers .entry))
-        (here (isIn (now (kinds .entry)) (now (roles .entry)) a) i)
-        (chosen (isIn (now (kinds .entry)) (now (roles .entry)) b) count 0)) ⌝ }
+    ensures { λ r. ⌜ r ≡ lacks (now (numbers .entry)) (isIn (now (kinds .entry)) (now (roles .entry)) a)
+        (chosen (isIn (now (kinds .entry)) (now (roles .entry)) b) count 0) i ⌝ }
 {
     if !is_in(kinds, roles, a, i) {
-        return 65536;
+        return false;
     }
-    if is_among(kinds, numbers, roles, count, b, numbers[i]) {
-        return 65536;
+    !is_seen(kinds, numbers, roles, count, b, seen, numbers[i])
+}
+
+// The place of a token that is missing; 65,536 of another.
+fn missing_at(places: &[u16; 16385], missing: bool, i: usize) -> usize
+    requires { ⌜ i < 16385 ⌝ }
+    ensures { λ r. ⌜ (r ≡ pick missing (getD (now (places .entry)) i 0) 65536) × (r ≤ 65536) ⌝ }
+{
+    if missing {
+        return spot(places[i]);
     }
-    spot(places[i])
+    65536
 }
 
 // The first place of such a token.
@@ -107,13 +181,13 @@ fn missing(
         (chosen (isIn (now (kinds .entry)) (now (roles .entry)) a) count 0)
         (chosen (isIn (now (kinds .entry)) (now (roles .entry)) b) count 0)) ⌝ }
 {
+    let mut seen = [0u8; 16385];
+    see(kinds, numbers, roles, count, b, &mut seen);
     let mut best = 65536;
     let mut i = 0;
     while i < count {
-        best = lower(
-            best,
-            missing_at(kinds, numbers, places, roles, count, a, b, i),
-        );
+        let gone = is_missing(kinds, numbers, roles, count, a, b, &seen, i);
+        best = lower(best, missing_at(places, gone, i));
         i += 1;
     }
     best
@@ -128,9 +202,11 @@ fn repeated_at(
     places: &[u16; 16385],
     roles: &[u8; 16385],
     a: Class,
+    seen: &[u8; 16385],
     i: usize,
 ) -> usize
     requires { ⌜ i < 16385 ⌝ }
+    requires { ⌜ now seen ≡ marks (now numbers) (chosen (isIn (now kinds) (now roles) a) i 0) ⌝ }
     ensures { λ r. ⌜ r ≡ nearest (now (places .entry)) (repeated (now (numbers .entry))
         (chosen (isIn (now (kinds .entry)) (now (roles .entry)) a) i 0)
         (here (isIn (now (kinds .entry)) (now (roles .entry)) a) i)) ⌝ }
@@ -138,7 +214,7 @@ fn repeated_at(
     if !is_in(kinds, roles, a, i) {
         return 65536;
     }
-    if is_among(kinds, numbers, roles, i, a, numbers[i]) {
+    if is_seen(kinds, numbers, roles, i, a, seen, numbers[i]) {
         return spot(places[i]);
     }
     65536
@@ -158,10 +234,13 @@ fn repeated(
         []
         (chosen (isIn (now (kinds .entry)) (now (roles .entry)) a) count 0)) ⌝ }
 {
+    let mut seen = [0u8; 16385];
     let mut best = 65536;
     let mut i = 0;
     while i < count {
-        best = lower(best, repeated_at(kinds, numbers, places, roles, a, i));
+        let again = repeated_at(kinds, numbers, places, roles, a, &seen, i);
+        best = lower(best, again);
+        see_at(kinds, numbers, roles, a, i, &mut seen);
         i += 1;
     }
     best

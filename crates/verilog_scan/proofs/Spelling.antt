@@ -1,6 +1,6 @@
 -- Laws of names by their places: how a word is compared, and where it is first among those before. Assumes nothing.
 use mathlib.Core.Path.{_≡_, refl, sym, ap, _∙_}
-use mathlib.Core.Bool.{Bool, true, false}
+use mathlib.Core.Bool.{Bool, true, false, not}
 use mathlib.Core.List.{List, [], _∷_, _++_, map, append-assoc, append-nil}
 use Prim.Native.Nat.{ℕ, zero, suc, _+_, _-_, _<_, _≤_}
 use native.Mathlib.Numerals.{add-one}
@@ -8,7 +8,7 @@ use native.Mathlib.Omega.{arith}
 use borrow.Author.Tests.{eq-eqb, ne-eqb}
 use lib.Dec.{eqb}
 use lib.ListN.{length, getD, take, drop, length-map, length-take, drop-of-length-le}
-use lib.Seq.{drop-cons, getD-take, length-take-le}
+use lib.Seq.{drop-cons, getD-drop, getD-take, length-take-le}
 use Rattle.values.specs.Values.{pick}
 use Rattle.naming.specs.Naming.{sameText}
 use Rattle.naming.proofs.Naming.{sameText-refl}
@@ -17,7 +17,7 @@ use Rattle.verilog_tokens.specs.Characters.{span, runEnd}
 use Rattle.verilog_tokens.specs.Tokens.{Token, terminal, name, number, known, unknown, broken, Name}
 use Rattle.verilog_tokens.specs.Table.{nameIn, namesIn, placeOf, idOf, numberIn}
 use Rattle.verilog_tokens.proofs.Pieces.{run-size}
-use Rattle.verilog_scan.specs.Scan.{spelledAt, nameAt, namesAt}
+use Rattle.verilog_scan.specs.Scan.{spelledAt, differs, nameAt, namesAt}
 
 -- ---- spelledAt
 
@@ -33,6 +33,39 @@ module _ (text : List ℕ) (at : ℕ) where
       by : (w : List ℕ) → eqb (length w) 0 ≡ sameText [] w
       by [] = refl
       by (b ∷ w) = ne-eqb (suc (length w)) 0 (λ e. omega arith)
+
+-- ---- differs
+
+other-first : (m : ℕ) (d : List ℕ) (w : ℕ) (ws : List ℕ) → eqb (getD d 0 0) w ≡ false → sameText (take m d) (w ∷ ws) ≡ false
+unfolding sameText
+other-first zero d w ws e = refl
+other-first (suc m) [] w ws e = refl
+other-first (suc m) (x ∷ d) w ws e = rw e
+
+untrue : false ≡ true → ⊥
+untrue q = let z : _≡_ {A = ℕ} 0 1 = cc in omega arith
+
+module _ (text : List ℕ) (at : ℕ) where
+  at-first : getD (drop at text) 0 0 ≡ getD text at 0
+  at-first = getD-drop at text 0 0 ∙ ap (λ n. getD text n 0) {x = at + 0} {y = at} (omega arith)
+
+  pub differs-none : (word : List ℕ) → length word ≡ 0 → false ≡ differs text at word
+  unfolding differs
+  differs-none word e = rw (eq-eqb (length word) 0 e)
+
+  pub differs-some : (word : List ℕ) → (length word ≡ 0 → ⊥) → not (eqb (getD text at 0) (getD word 0 0)) ≡ differs text at word
+  unfolding differs
+  differs-some word f = rw (ne-eqb (length word) 0 f)
+
+  pub differs-other : (word : List ℕ) → differs text at word ≡ true → false ≡ sameText (spelledAt text at) word
+  unfolding spelledAt
+  differs-other [] e = absurd (untrue (differs-none [] refl ∙ e))
+  differs-other (w ∷ ws) e = by (eqb (getD text at 0) w) (differs-some (w ∷ ws) (λ z. omega arith) ∙ e) refl
+    where
+      by : (b : Bool) → not (eqb (getD text at 0) w) ≡ true → eqb (getD text at 0) w ≡ b
+          → false ≡ sameText (take (span Word (drop at text)) (drop at text)) (w ∷ ws)
+      by true p q = absurd (untrue (rw q at p))
+      by false p q = sym (other-first (span Word (drop at text)) (drop at text) w ws (ap (λ x. eqb x w) at-first ∙ q))
 
 -- ---- placeOf, along a list of places
 

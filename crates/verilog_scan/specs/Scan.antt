@@ -1,10 +1,10 @@
 -- How lent tables of 16,385 entries come to hold a text's tokens.
 use mathlib.Core.Path.{_≡_}
-use mathlib.Core.Bool.{Bool}
+use mathlib.Core.Bool.{Bool, false, not}
 use mathlib.Core.List.{List, [], _∷_, _++_, map}
 use Prim.Native.Nat.{ℕ, _+_}
-use lib.Dec.{ltb}
-use lib.ListN.{length, take, drop}
+use lib.Dec.{ltb, eqb}
+use lib.ListN.{length, getD, take, drop}
 use lib.Seq.{sets}
 use Rattle.values.specs.Values.{pick}
 use Rattle.verilog_tokens.specs.declared.Class.the-variants.{Word}
@@ -46,6 +46,10 @@ pub record Scanned (text kinds₀ kinds₁ numbers₀ numbers₁ places₀ place
 
 unfoldable pub spelledAt : List ℕ → ℕ → List ℕ
 spelledAt text p = take (span Word (drop p text)) (drop p text)
+
+-- A word that begins with another byte is another.
+unfoldable pub differs : List ℕ → ℕ → List ℕ → Bool
+differs text p word = pick (eqb (length word) 0) false (not (eqb (getD text p 0) (getD word 0 0)))
 
 unfoldable pub nameAt : List ℕ → ℕ → Name
 nameAt text p = record { place = p; spelled = spelledAt text p }

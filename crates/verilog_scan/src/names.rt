@@ -3,13 +3,24 @@ use verilog_tokens::Class;
 use verilog_tokens::run_end;
 use verilog_tokens::same;
 ghost use mathlib.Core.Path.{_≡_};
-ghost use Prim.Native.Nat.{_≤_};
+ghost use Prim.Native.Nat.{_≤_, _<_};
 ghost use lib.Dec.{eqb};
 ghost use lib.ListN.{length, take};
 ghost use Rattle.values.specs.Values.{pick};
 ghost use Rattle.naming.specs.Naming.{sameText};
 ghost use Rattle.verilog_tokens.specs.Table.{placeOf};
-ghost use Rattle.verilog_scan.specs.Scan.{spelledAt, namesAt};
+ghost use Rattle.verilog_scan.specs.Scan.{spelledAt, differs, namesAt};
+
+// Does a word begin with another byte than stands at a place?
+fn differs(text: &[u8], at: usize, word: &[u8]) -> bool
+    requires { ⌜ at < length (now text) ⌝ }
+    ensures { λ r. ⌜ r ≡ differs (now (text .entry)) at (now (word .entry)) ⌝ }
+{
+    if word.len() == 0 {
+        return false;
+    }
+    text[at] != word[0]
+}
 
 // Is the word at a place spelled so?
 fn spelled_so(text: &[u8], at: usize, word: &[u8]) -> bool
@@ -17,6 +28,9 @@ fn spelled_so(text: &[u8], at: usize, word: &[u8]) -> bool
 {
     if text.len() <= at {
         return word.len() == 0;
+    }
+    if differs(text, at, word) {
+        return false;
     }
     let end = run_end(text, at, Class::Word);
     same(&text[at..end], word)

@@ -1,39 +1,22 @@
 -- `verilog_names::faults::missing_at` meets its contract. Assumes nothing.
 use borrow.Author.Needs.{needs}
-use mathlib.Core.Path.{sym, _∙_}
-use borrow.Author.Tests.{not-true, not-false}
 use native.Mathlib.Omega.{arith}
-use Rattle.verilog_names.proofs.AtFault.{missing-out, missing-among, missing-not}
+use Rattle.verilog_names.proofs.Marking.{place-gone, place-there}
 use Rattle.verilog_names.proofs.faults.missing_at.Statement.{statement}
 use Rattle.verilog_names.proofs.faults.missing_at.Tie as tie
 
-returns-2 : tie.Need-returns-2
-returns-2 c =
-    let at-if1 = c .before .before .before in
-    let at-is-in = at-if1 .before in
-    missing-among _ _ _ _ _ (sym (at-is-in .is-in .ensures) ∙ not-false _ (at-if1 .if1 .left))
-    (sym (c .before .is-among .ensures) ∙ c .if2 .taken)
-
-returns-3 : tie.Need-returns-3
-returns-3 c =
-    let at-is-among = c .before .before .before in
-    let at-if1 = at-is-among .before .before in
-    let at-is-in = at-if1 .before in
-    let inside = sym (at-is-in .is-in .ensures) ∙ not-false _ (at-if1 .if1 .left) in
-    let among = sym (at-is-among .is-among .ensures) ∙ c .before .before .if2 .left in
-    c .spot .ensures .0 ∙ missing-not _ _ _ _ _ inside among (omega (arith, c .spot .ensures .0, c .spot .ensures .1))
+returns : tie.Need-returns
+returns c = (
+  place-gone _ _ _ (c .before .before .if1 .taken) (c .spot .ensures .0),
+  omega (arith, c .spot .ensures .1),
+)
 
 pub missing-at-spec : {M : Type 1} → statement M
 missing-at-spec =
     tie.close
     (tie.spec
-    (λ c κs. search needs)
-    (λ c. missing-out _ _ _ _ _ (sym (c .before .is-in .ensures) ∙ not-true _ (c .if1 .taken)))
     (λ c. search needs)
     (λ c. search needs)
     (λ c κs. search needs)
-    returns-2
-    (λ c. search needs)
-    (λ c. search needs)
-    (λ c κs. search needs)
-    returns-3)
+    returns
+    (λ c. (place-there _ _ (c .if1 .left), omega arith)))
