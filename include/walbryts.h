@@ -25,6 +25,9 @@ extern "C" {
 
 /* ---- lengths */
 
+#define WALBRYTS_VERILOG 16384 /* bytes of the longest Verilog text that is read */
+#define WALBRYTS_SHEET 8192    /* bytes of the longest sheet, and of the buffer for a text's sheet */
+#define WALBRYTS_VARIABLES 80  /* variables of a sheet, at most */
 #define WALBRYTS_TEXT 65536 /* bytes of the buffer for a listing; no listing is longer */
 #define WALBRYTS_STATE 641  /* bytes of a saved state */
 #define WALBRYTS_INPUTS 16  /* inputs in a row */
@@ -56,6 +59,24 @@ extern "C" {
 #define WALBRYTS_SPENT 1    /* as many choices ran as were allowed, and it isn't quiet */
 #define WALBRYTS_STOPPED 2  /* at a choice, by the number that the call gives */
 #define WALBRYTS_REFUSED 3  /* the call was refused, by the number that it gives */
+
+/* ---- Verilog text */
+
+/* The sheet of one module in Verilog: ports by name; input, reg and wire; assign and always; the statements and operators
+ * that a sheet has, and case. It goes to the front of lent[WALBRYTS_SHEET], with zeros behind it; *length takes its length,
+ * 0 where the text is refused; *place takes the byte at which a refusal was met, 0 where there is none. Gives 0, or 23 where
+ * lent_len is another; 41 for a text of over WALBRYTS_VERILOG bytes; 42 for one that isn't such a module; 43 for a name
+ * that is undeclared or declared twice, or a wire without exactly one assign (places in the text); then 1 to 11 for the
+ * sheet that it gives (places in that sheet).
+ *
+ * Reading goes as deep as the text nests, and its tables lie on the stack: STACKTEXT. */
+uint8_t walbryts_read_text(const uint8_t *text, size_t text_len, uint8_t *lent, size_t lent_len, size_t *place,
+                           size_t *length);
+
+/* Where the variables of such a text are declared: for each number the place in the text of the name that declares it, and
+ * the name's length, both 0 for numbers that no variable has. Gives 0, or 41 to 43 as above; refused, both arrays stay.
+ * Needs as much stack. */
+uint8_t walbryts_names(const uint8_t *text, size_t text_len, uint16_t *places, uint16_t *lengths);
 
 /* ---- the sheet */
 

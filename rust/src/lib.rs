@@ -1,8 +1,8 @@
 //! Walbryts: a clock-edge compiler and event simulator for a small synthesizable Verilog, proved
 //! in full. This crate is a safe interface to the proved library's C functions.
 //!
-//! A module comes as a [`Sheet`] of bytes, which is read whole or refused with a number and a
-//! place. From there it goes two ways, which a theorem says agree in every module that extraction
+//! A module comes as Verilog text ([`Sheet::from_verilog`], [`names`]) or as a [`Sheet`] of bytes
+//! ([`Sheet::read`]), which is read whole or refused with a number and a place. From there it goes two ways, which a theorem says agree in every module that extraction
 //! accepts:
 //!
 //! - by events: [`Sheet::start`] gives a [`State`]; [`Sheet::choose`], [`Sheet::run`],
@@ -47,6 +47,7 @@ mod state;
 mod simulation;
 mod expressions;
 mod dispatcher;
+mod text;
 
 pub use dispatcher::{Record, dispatch};
 pub use expressions::{Cycles, NODE_WORDS, ROW_WORDS, Registers, Tables, Wires};
@@ -55,4 +56,5 @@ pub use refusal::{Reason, Refusal};
 pub use sheet::{Sheet, list};
 pub use simulation::{COMMIT, CycleRuns, PlainRun, Run, Verdict};
 pub use state::{NotSaved, SAVED, State};
+pub use text::{MOST_TEXT, names};
 pub use value::Value;

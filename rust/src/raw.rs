@@ -2,6 +2,22 @@
 //! length, arrays as a pointer. Nothing of this is public.
 
 unsafe extern "C" {
+    pub fn walbryts_read_text(
+        text: *const u8,
+        text_len: usize,
+        lent: *mut u8,
+        lent_len: usize,
+        place: *mut usize,
+        length: *mut usize,
+    ) -> u8;
+
+    pub fn walbryts_names(
+        text: *const u8,
+        text_len: usize,
+        places: *mut u16,
+        lengths: *mut u16,
+    ) -> u8;
+
     pub fn walbryts_read(sheet: *const u8, sheet_len: usize, place: *mut usize) -> u8;
 
     pub fn walbryts_list(

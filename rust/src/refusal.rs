@@ -1,8 +1,8 @@
 use std::error::Error;
 use std::fmt;
 
-/// Why a call was refused: a reason, whose number is document 01's, and for a sheet the byte
-/// at which it was met.
+/// Why a call was refused: a reason, whose number is document 01's, and for a sheet or a text the
+/// byte at which it was met.
 #[derive(Clone, Copy, Debug, PartialEq, Eq, Hash)]
 pub struct Refusal {
     reason: Reason,
@@ -22,8 +22,8 @@ impl Refusal {
         self.reason.number()
     }
 
-    /// The byte of the sheet at which it was met; none for numbers above 11, which aren't met
-    /// at a byte.
+    /// The byte at which it was met: of the sheet for numbers 1 to 11, of the text for 41 to 43;
+    /// none for other numbers, which aren't met at a byte.
     #[must_use]
     pub fn place(&self) -> Option<usize> {
         self.place
@@ -118,6 +118,9 @@ reasons! {
     CommitTooEarly = 34, "a commit while an item is enabled";
     NothingPending = 35, "a commit with nothing pending";
     Full = 36, "the time, the count or a module's turns are full";
+    TextTooLong = 41, "the text has over 16,384 bytes";
+    NotDerived = 42, "the text isn't a module of the forms that are read";
+    Names = 43, "a name is undeclared or declared twice, or a wire hasn't exactly one assign";
     ListLength = 48, "the list has no record, or more than eight";
     LastServed = 49, "the last-served number is outside the list";
 }

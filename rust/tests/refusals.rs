@@ -216,7 +216,7 @@ fn in_words() {
     let refusal = flip_flop().choose(&mut risen(), COMMIT).unwrap_err();
     assert_eq!(refusal.to_string(), "refused 34: a commit while an item is enabled");
     let numbers: Vec<u8> = Reason::ALL.iter().map(|reason| reason.number()).collect();
-    assert_eq!(numbers, (1..=25).chain(31..=36).chain(48..=49).collect::<Vec<u8>>());
+    assert_eq!(numbers, (1..=25).chain(31..=36).chain(41..=43).chain(48..=49).collect::<Vec<u8>>());
     for &reason in Reason::ALL {
         assert_eq!(Reason::of_number(reason.number()), Some(reason));
     }

@@ -50,6 +50,9 @@ typedef struct {
     bool unsure[WALBRYTS_WIRES];
     uint32_t inputs[ROWS];
     bool inputs_unknown[ROWS];
+    uint8_t sheet[WALBRYTS_SHEET + 1];
+    uint16_t names[WALBRYTS_VARIABLES];
+    uint16_t lengths[WALBRYTS_VARIABLES];
 } Lent;
 
 static Lent lent, kept;
@@ -75,6 +78,9 @@ static void lend(void) {
     memset(&lent, 0, sizeof lent);
     memset(lent.text, 0xA5, sizeof lent.text);
     memset(lent.guard, 0x5A, sizeof lent.guard);
+    memset(lent.sheet, 0xA5, sizeof lent.sheet);
+    memset(lent.names, 0xA5, sizeof lent.names);
+    memset(lent.lengths, 0xA5, sizeof lent.lengths);
     for (size_t i = 0; i < WALBRYTS_WIRES; i++) {
         lent.wire[i] = 0xA5A5A5A5u ^ (uint32_t)i;
         lent.unsure[i] = i % 3 == 0;
@@ -294,6 +300,34 @@ static void tables(void) {
     cycles(good, WALBRYTS_NODE_WORDS, 31, 1, 24);
 }
 
+/* ---- Verilog text: 23, then 41 to 43, then 1 to 11, of which the names know nothing */
+
+static void text(const char *bytes, size_t len, size_t room, uint8_t expected, size_t expected_place) {
+    size_t place = 77, length = 77;
+    uint8_t number = walbryts_read_text((const uint8_t *)bytes, len, lent.sheet, room, &place, &length);
+    hold("read_text", number, expected, place == expected_place && length == 0);
+    if (expected >= 41) {
+        hold("names", walbryts_names((const uint8_t *)bytes, len, lent.names, lent.lengths), expected, true);
+    }
+}
+
+static void texts(void) {
+    static const char flip[] = "module m (c); input c; reg q; always @(posedge c) q <= ~q; endmodule";
+    static const char output[] = "module m (c); output c; endmodule";
+    static const char twice[] = "module m (c); input c; reg c; always c = c; endmodule";
+    static const char wide[] = "module m (c); input [1:0] c; reg q; always q = c; endmodule";
+    static char longer[WALBRYTS_VERILOG + 1];
+    lend();
+    memset(longer, ' ', sizeof longer);
+    text(flip, sizeof flip - 1, WALBRYTS_SHEET + 1, 23, 0);
+    text(output, sizeof output - 1, 0, 23, 0);
+    text(longer, sizeof longer, WALBRYTS_SHEET, 41, WALBRYTS_VERILOG);
+    text(longer, sizeof longer - 1, WALBRYTS_SHEET, 42, WALBRYTS_VERILOG);
+    text(output, sizeof output - 1, WALBRYTS_SHEET, 42, 14);
+    text(twice, sizeof twice - 1, WALBRYTS_SHEET, 43, 27);
+    text(wide, sizeof wide - 1, WALBRYTS_SHEET, 4, 4);
+}
+
 /* ---- accepted calls are seen to alter what is lent: the comparison isn't blind */
 
 static void seen(const char *call, uint8_t number) {
@@ -305,9 +339,12 @@ static void seen(const char *call, uint8_t number) {
 }
 
 static void accepted(void) {
-    size_t length, phases, done;
+    static const uint8_t verilog[] = "module m (c); input c; reg q; always @(posedge c) q <= ~q; endmodule";
+    size_t place, length, phases, done;
     bool running;
     lend();
+    seen("read_text", walbryts_read_text(verilog, sizeof verilog - 1, lent.sheet, WALBRYTS_SHEET, &place, &length));
+    seen("names", walbryts_names(verilog, sizeof verilog - 1, lent.names, lent.lengths));
     seen("list", walbryts_list(good.bytes, good.len, lent.text, &length));
     seen("instant", walbryts_instant(good.bytes, good.len, lent.state, 2, lent.inputs, lent.inputs_unknown));
     seen("run_cycles", walbryts_run_cycles(good.bytes, good.len, lent.state, lent.inputs, 16, lent.inputs_unknown, 16, &phases,
@@ -327,6 +364,7 @@ int main(void) {
     states();
     choices();
     tables();
+    texts();
     accepted();
     printf("%u refused calls, %u failed\n", refused, failed);
     return failed != 0;

@@ -31,10 +31,21 @@ use Rattle.nextstate.specs.Extraction.{Tables, Extracted, filled, expressions, 
 use Rattle.nextstate.specs.CycleRun.{tablesFit, tablesIn, registersFit, extractable, cycleRun}
 use Rattle.cycles.specs.declared.Cycled as many
 use Rattle.cycles.specs.Many.{ended, atOnce, cyclesOf, cyclesIn, cyclesOr, cyclesRun}
+use Rattle.verilog_source.proofs.Compiled as Text
+use Rattle.verilog_labels.proofs.Claims as Labels
 use Rattle.exports.specs.Clocked.{Arrays, afterCycle, afterCycles}
 use Rattle.exports.specs.Saved.{startedIn, numberOn, bytesOn, toldOn, ran, rested, verdictOn, cycledAs}
+use Rattle.exports.specs.Refused.{TextKeeps, NamesKeep}
 use Rattle.exports.specs.Refused.{ListKeeps, StartKeeps, Keeps, ChooseKeeps, InstantKeeps, ExtractKeeps, CycleKeeps, CyclesKeep, DispatchKeeps}
 use Rattle.exports.specs.Refused.{runRefused, RunKeeps, PlainRunKeeps, cyclesRefused, RunCyclesKeeps, refusedIn, manyRefused}
+
+-- ---- Verilog text
+
+pub text-keeps : TextKeeps
+text-keeps = Text.left-alone
+
+pub names-keep : NamesKeep
+names-keep = Labels.left-alone
 
 -- ---- the sheet
 

@@ -24,8 +24,18 @@ use Rattle.nextstate.specs.declared.Registers.{Registers}
 use Rattle.nextstate.specs.Extraction.{rightLengths, extract}
 use Rattle.nextstate.specs.CycleRun.{tablesFit, tablesIn, registersFit, extractable, cycleRun}
 use Rattle.cycles.specs.Many.{cyclesRun}
+use Rattle.verilog_source.specs.Claims as Text
+use Rattle.verilog_labels.specs.Claims as Labels
 use Rattle.exports.specs.Clocked.{Arrays, afterCycle, afterCycles}
 use Rattle.exports.specs.Saved.{startedIn, unfit, numberOn, bytesOn, toldOn, ran, rested, verdictOn, cycledAs}
+
+-- ---- Verilog text: the bytes for its sheet, the tables for its names
+
+abbrev pub TextKeeps : Type 0
+TextKeeps = Text.LeftAlone
+
+abbrev pub NamesKeep : Type 0
+NamesKeep = Labels.LeftAlone
 
 -- ---- the sheet: the buffer of a listing
 

@@ -12,11 +12,15 @@ twelve : reason 12 ≡ ascii "two threads write one register"
 unfolding reason lineOf firstLine otherLines refusals ascii
 twelve = refl
 
-last : reason 36 ≡ ascii "the time or the count of choices is full"
+full : reason 36 ≡ ascii "the time or the count of choices is full"
+unfolding reason lineOf firstLine otherLines refusals ascii
+full = refl
+
+last : reason 43 ≡ ascii "a name is undeclared or declared twice, or a wire has not one assign"
 unfolding reason lineOf firstLine otherLines refusals ascii
 last = refl
 
-none : reason 37 ≡ []
+none : reason 44 ≡ []
 unfolding reason lineOf firstLine otherLines refusals ascii
 none = refl
 

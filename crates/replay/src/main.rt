@@ -468,6 +468,40 @@ fn do_dispatch() -> bool {
     true
 }
 
+// What a text gave, lent the first bytes of a buffer.
+fn say_text_read(text: &[u8], lent: usize) -> bool {
+    let mut buffer = [170u8; 8193];
+    if lent > 8193 {
+        return broken();
+    }
+    let r = verilog_read::read_text(text, &mut buffer[..lent]);
+    say(b"text ");
+    say_number(r.number as u64);
+    say(b" ");
+    say_number(r.length as u64);
+    say(b" ");
+    say_hex(&buffer, 0);
+    say(b"\n");
+    true
+}
+
+// `V`: a text's sheet.
+fn do_text() -> bool {
+    let mut count = [0u8; 2];
+    if !take(&mut count) {
+        return broken();
+    }
+    let n = word(count[0], count[1]);
+    let mut text = [0u8; 65536];
+    let got = take_some(&mut text, n);
+    let mut room = [0u8; 2];
+    let whole = take(&mut room);
+    if got < n || !whole {
+        return broken();
+    }
+    say_text_read(&text[..got], word(room[0], room[1]))
+}
+
 // ---- the records that change it
 
 // The line of a call that answers with a number, and the state that it gave back.
@@ -607,6 +641,7 @@ fn told_of(letter: u8, sheet: &[u8], st: State, nodes: &mut [u16], rows: &mut [u
         b'W' => do_word(nodes, rows),
         b'K' => do_cycle(sheet, nodes, rows),
         b'B' => do_dispatch(),
+        b'V' => do_text(),
         _ => broken(),
     }
 }

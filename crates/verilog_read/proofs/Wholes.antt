@@ -1,6 +1,6 @@
 -- Laws of what is made of the tables, by the tests of the code. Assumes nothing.
-use mathlib.Core.Path.{_≡_, refl, sym, _∙_, ap}
-use mathlib.Core.Bool.{Bool, true, false}
+use mathlib.Core.Path.{_≡_, sym, _∙_, ap}
+use mathlib.Core.Bool.{true, false}
 use mathlib.Core.List.{List}
 use Prim.Native.Nat.{ℕ, _<_, _≤_}
 use native.Mathlib.Omega.{arith}
@@ -8,17 +8,14 @@ use borrow.Author.Tests.{lt-ltb, le-ltb, eq-eqb, ne-eqb}
 use lib.Dec.{ltb, eqb}
 use lib.ListN.{length, take, length-replicate}
 use lib.Seq.{sets, length-sets, length-take-le}
-use Rattle.values.specs.Values.{pick}
 use Rattle.writing.specs.Buffer.{Text, filled, puts}
 use Rattle.sheet.specs.declared.SheetRead.{SheetRead}
 use Rattle.sheet.specs.Expression.{located}
 use Rattle.sheet.specs.Module.{readSheet}
 use Rattle.sheet.specs.Answers.{sheetAnswer}
-use Rattle.verilog_tokens.specs.Tokens.{tokens}
-use Rattle.verilog_tokens.specs.Table.{kinds, numbers}
-use Rattle.verilog_scan.specs.Scan.{stored, starts, overlong, Scanned}
+use Rattle.verilog_scan.specs.Scan.{overlong, Scanned}
 use Rattle.verilog_source.specs.declared.TextRead.{TextRead}
-use Rattle.verilog_source.specs.Compiled.{Compiled, refused}
+use Rattle.verilog_source.specs.Compiled.{refused}
 use Rattle.verilog_exprs.specs.declared.Put.{Put}
 use Rattle.verilog_exprs.specs.Rows.{rowAt, wrote}
 use Rattle.verilog_names.specs.declared.Fault.{Fault}
@@ -29,7 +26,8 @@ use Rattle.verilog_names.specs.Head.{headOf}
 use Rattle.verilog_items.specs.Notes.{notes}
 use Rattle.verilog_items.specs.Items.{readIn}
 use Rattle.verilog_read.specs.Read.{gave, each, wireAt, threadAt, sheetIn, copied, acceptedIn, answered, judgedIn, roomed, heldIn}
-use Rattle.verilog_read.specs.Read.{padded, zeros, sheetBytes, faultIn, namedIn, noted, derivedIn, short, scannedIn, readText}
+use Rattle.verilog_read.specs.Read.{padded, zeros, notesIn, sheetBytes, sheetedIn, numbersIn, faultIn, namedIn}
+use Rattle.verilog_read.specs.Read.{noted, derivedIn, short, scannedIn, readText}
 
 -- A refusal.
 abbrev pub no : ℕ → ℕ → TextRead
@@ -64,39 +62,54 @@ module _ (s lent : List ℕ) {r : SheetRead} (e : r ≡ sheetAnswer (readSheet (
   unfolding judgedIn answered acceptedIn
   judge-yes h f = rw (← e, eq-eqb (r .number) 0 h, f)
 
-module _ (ks ids places : List ℕ) (count : ℕ) (roles widths lent : List ℕ) {n : ℕ} (d : n ≡ count) {f : Fault}
+pub sheeted-whole : (ks ids : List ℕ) (count : ℕ) (table lent : List ℕ) {q : Put} {bs rs ws out held left : List ℕ} {end k : ℕ}
+    {a : TextRead} → notes (wrote q bs) rs ws ≡ readIn ks table count (zeros 65536) (zeros 16385) (zeros 16385)
+    → filled out end ≡ sheetIn ks ids table rs ws count (zeros 65536)
+    → held ≡ sets (zeros 65536) 0 (padded out 65536 0) → k ≡ roomed end
+    → gave a left ≡ judgedIn (take k held) lent
+    → gave a left ≡ sheetedIn ks ids count table lent
+unfolding sheetedIn sheetBytes heldIn notesIn
+sheeted-whole ks ids count table lent {held = held} {end = end} e w o r j =
+    j
+    ∙ ap (λ m. judgedIn (take m held) lent) r
+    ∙ ap (λ l. judgedIn (take (roomed end) l) lent) o
+    ∙ ap (λ t. judgedIn (heldIn t) lent) w
+    ∙ ap (λ s. judgedIn (heldIn (sheetBytes ks ids count table s)) lent) e
+
+module _ (ks ids places : List ℕ) (count : ℕ) (roles lent : List ℕ) {n : ℕ} (d : n ≡ count) {f : Fault}
     (e : f ≡ faultOf ks ids places roles (capped n)) where
   pub named-no : f .found ≡ true → {a : TextRead} → a ≡ no 43 (f .place)
-      → gave a lent ≡ namedIn ks ids places count roles widths lent
+      → gave a lent ≡ namedIn ks ids places count roles lent
   unfolding namedIn faultIn refused
   named-no h g = rw (← d, ← e, h, g)
 
-  pub named-yes : f .found ≡ false → {table out held left : List ℕ} {end k : ℕ} {a : TextRead}
+  pub named-yes : f .found ≡ false → {table left : List ℕ} {a : TextRead}
       → table ≡ numbered ks ids roles (capped n) (zeros 16385)
-      → filled out end ≡ sheetIn ks ids table roles widths count (zeros 65536)
-      → held ≡ sets (zeros 65536) 0 (padded out 65536 0) → k ≡ roomed end
-      → gave a left ≡ judgedIn (take k held) lent
-      → gave a left ≡ namedIn ks ids places count roles widths lent
-  unfolding namedIn faultIn sheetBytes heldIn
-  named-yes h {out = out} {held = held} {end = end} g w o r j =
+      → gave a left ≡ sheetedIn ks ids count table lent
+      → gave a left ≡ namedIn ks ids places count roles lent
+  unfolding namedIn faultIn numbersIn
+  named-yes h g j =
       rw (ap (λ m. faultOf ks ids places roles (capped m)) (sym d), ← e, h)
-      (j
-      ∙ ap (λ m. judgedIn (take m held) lent) r
-      ∙ ap (λ l. judgedIn (take (roomed end) l) lent) o
-      ∙ ap (λ t. judgedIn (heldIn t) lent)
-      (w ∙ ap (λ t. sheetIn ks ids t roles widths count (zeros 65536)) (g ∙ ap (λ m. numbered ks ids roles (capped m) (zeros 16385)) d)))
+      (j ∙ ap (λ t. sheetedIn ks ids count t lent) (g ∙ ap (λ m. numbered ks ids roles (capped m) (zeros 16385)) d))
 
-module _ (ks ids places : List ℕ) (count : ℕ) (lent : List ℕ) {q : Put} {bs rs ws : List ℕ}
-    (e : notes (wrote q bs) rs ws ≡ readIn ks ids count (zeros 65536) (zeros 16385) (zeros 16385)) where
+module _ (ks ids places : List ℕ) (count : ℕ) (lent : List ℕ) {n : ℕ} (d : n ≡ count) {table : List ℕ}
+    (g : table ≡ numbered ks ids (zeros 16385) (capped n) (zeros 16385)) {q : Put} {bs rs ws : List ℕ}
+    (e : notes (wrote q bs) rs ws ≡ readIn ks table count (zeros 65536) (zeros 16385) (zeros 16385)) where
+  read-notes : notes (wrote q bs) rs ws ≡ notesIn ks count (numbersIn ks ids count (zeros 16385))
+  unfolding notesIn numbersIn
+  read-notes =
+      e ∙ ap (λ t. readIn ks t count (zeros 65536) (zeros 16385) (zeros 16385))
+      (g ∙ ap (λ m. numbered ks ids (zeros 16385) (capped m) (zeros 16385)) d)
+
   pub derived-no : q .ok ≡ false → {a : TextRead} {p : ℕ} → p ≡ rowAt places (q .next) → a ≡ no 42 p
       → gave a lent ≡ derivedIn ks ids places count lent
   unfolding derivedIn noted refused
-  derived-no h f g = rw (← e, h, g, f)
+  derived-no h f g = rw (← read-notes, h, g, f)
 
-  pub derived-yes : q .ok ≡ true → {a : TextRead} {left : List ℕ} → gave a left ≡ namedIn ks ids places count rs ws lent
+  pub derived-yes : q .ok ≡ true → {a : TextRead} {left : List ℕ} → gave a left ≡ namedIn ks ids places count rs lent
       → gave a left ≡ derivedIn ks ids places count lent
   unfolding derivedIn noted
-  derived-yes h g = rw (← e, h) g
+  derived-yes h g = rw (← read-notes, h) g
 
 pub scanned-whole : (text lent : List ℕ) → length text ≤ 16384 → {ks ns ps : List ℕ} {n m : ℕ}
     → Scanned text (zeros 16385) ks (zeros 16385) ns (zeros 16385) ps n → m ≡ short n

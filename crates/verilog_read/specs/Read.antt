@@ -1,8 +1,8 @@
 -- A text's sheet as the code makes it, from the tables of the text's tokens.
-use mathlib.Core.Bool.{Bool, true}
+use mathlib.Core.Bool.{true}
 use mathlib.Core.List.{List, [], _∷_}
-use Prim.Native.Nat.{ℕ, zero, suc, _+_, _-_}
-use lib.Dec.{ltb, leb, eqb}
+use Prim.Native.Nat.{ℕ, zero, suc, _+_}
+use lib.Dec.{ltb, eqb}
 use lib.ListN.{length, getD, take, replicate}
 use lib.Seq.{sets}
 use Rattle.values.specs.Values.{pick}
@@ -16,7 +16,6 @@ use Rattle.verilog_tokens.specs.Table.{kinds, numbers}
 use Rattle.verilog_scan.specs.Scan.{stored, starts}
 use Rattle.verilog_source.specs.declared.TextRead.{TextRead}
 use Rattle.verilog_source.specs.Compiled.{Compiled, refused}
-use Rattle.verilog_exprs.specs.declared.Put.{Put}
 use Rattle.verilog_exprs.specs.Rows.{rowAt, answer, Wrote, wrote}
 use Rattle.verilog_stmts.specs.Steps.{after}
 use Rattle.verilog_stmts.specs.Stmts.{value}
@@ -104,24 +103,36 @@ heldIn t = take (roomed (t .at)) (sets (replicate 65536 0) 0 (padded (t .bytes) 
 abbrev pub zeros : ℕ → List ℕ
 zeros n = replicate n 0
 
+-- The module read over numbers of the names.
+unfoldable pub notesIn : List ℕ → ℕ → List ℕ → Notes
+notesIn ks count table = readIn ks table count (zeros 65536) (zeros 16385) (zeros 16385)
+
+module _ (ks ids : List ℕ) (count : ℕ) where
+  unfoldable pub sheetBytes : List ℕ → Notes → Text
+  sheetBytes table s = sheetIn ks ids table (s .roles) (s .widths) count (zeros 65536)
+
+  unfoldable pub sheetedIn : List ℕ → List ℕ → Compiled
+  sheetedIn table = judgedIn (heldIn (sheetBytes table (notesIn ks count table)))
+
+  -- The numbers that a module with these roles gives its names.
+  unfoldable pub numbersIn : List ℕ → List ℕ
+  numbersIn roles = numbered ks ids roles (capped count) (zeros 16385)
+
 module _ (ks ids places : List ℕ) (count : ℕ) where
-  unfoldable pub sheetBytes : List ℕ → List ℕ → Text
-  sheetBytes roles widths =
-      sheetIn ks ids (numbered ks ids roles (capped count) (zeros 16385)) roles widths count (zeros 65536)
+  unfoldable pub faultIn : List ℕ → Fault → List ℕ → Compiled
+  faultIn roles f = pick (f .found) (refused 43 (f .place)) (sheetedIn ks ids count (numbersIn ks ids count roles))
 
-  unfoldable pub faultIn : List ℕ → List ℕ → Fault → List ℕ → Compiled
-  faultIn roles widths f = pick (f .found) (refused 43 (f .place)) (judgedIn (heldIn (sheetBytes roles widths)))
-
-  unfoldable pub namedIn : List ℕ → List ℕ → List ℕ → Compiled
-  namedIn roles widths = faultIn roles widths (faultOf ks ids places roles (capped count))
+  unfoldable pub namedIn : List ℕ → List ℕ → Compiled
+  namedIn roles = faultIn roles (faultOf ks ids places roles (capped count))
 
   -- ---- 42
 
   unfoldable pub noted : Notes → List ℕ → Compiled
-  noted s = pick (s .text .put .ok) (namedIn (s .roles) (s .widths)) (refused 42 (rowAt places (s .text .put .next)))
+  noted s = pick (s .text .put .ok) (namedIn (s .roles)) (refused 42 (rowAt places (s .text .put .next)))
 
+  -- Before anything is declared each name has the number 0.
   unfoldable pub derivedIn : List ℕ → Compiled
-  derivedIn = noted (readIn ks ids count (zeros 65536) (zeros 16385) (zeros 16385))
+  derivedIn = noted (notesIn ks count (numbersIn ks ids count (zeros 16385)))
 
 -- ---- 23, 41, then the tables
 

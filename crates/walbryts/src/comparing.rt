@@ -217,7 +217,7 @@ pub fn compare(
     let mut nodes = [0u16; 16384];
     let mut rows = [0u16; 1056];
     if !extracted(sheet, &mut nodes, &mut rows) {
-        report::refuse_extraction(o.sheet, sheet);
+        report::refuse_extraction(o.sheet, sheet, names);
         return Outcome::Refused;
     }
     let fd = open_input(o.inputs);

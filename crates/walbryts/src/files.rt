@@ -57,3 +57,10 @@ pub fn read_whole(index: usize, buffer: &mut [u8]) -> Got {
     libc::close(fd);
     Got { found: true, size }
 }
+
+// Is the file that a word names Verilog text?
+pub fn is_text(verilog: bool, index: usize) -> bool {
+    let mut path = io::buffer();
+    let n = os::arg(index, &mut path);
+    sources::is_text(verilog, &path[..n])
+}

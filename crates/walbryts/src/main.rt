@@ -1,5 +1,6 @@
-// The desk's command over the proved libraries: a sheet listed, checked, run, extracted, compared, or written as Verilog. Everything
-// that matters is in the libraries; this program reads files, calls them and writes what they give.
+// The desk's command over the proved libraries: a module, out of a sheet or of Verilog text, listed, checked, run, extracted, compared,
+// or written as Verilog or as a sheet. Everything that matters is in the libraries; this program reads files, calls them and writes
+// what they give.
 mod comparing;
 mod display;
 mod feed;
@@ -11,6 +12,7 @@ mod report;
 mod running;
 mod say;
 mod showing;
+mod texts;
 mod words;
 
 use libc::STDERR_FILENO;
@@ -19,11 +21,12 @@ use options::Command;
 use options::Outcome;
 use options::Request;
 use sheet::Layout;
+use sources::Words;
 
 fn usage() {
     io::write_all(
         STDERR_FILENO,
-        b"usage: walbryts list|check|extract|verilog SHEET, or run|compare SHEET INPUTS; walbryts --help says more\n",
+        b"usage: walbryts list|check|extract|verilog|sheet FILE, or run|compare FILE INPUTS; walbryts --help says more\n",
     );
 }
 
@@ -32,57 +35,71 @@ fn help() {
         STDOUT_FILENO,
         b"walbryts: a clock-edge compiler and event simulator, proved
 
-  walbryts list SHEET             its pseudo-code
-  walbryts check SHEET            what it holds, and whether extraction accepts it
-  walbryts run SHEET INPUTS       its clock cycles, a line each
+  walbryts list FILE              its pseudo-code
+  walbryts check FILE             what it holds, and whether extraction accepts it
+  walbryts run FILE INPUTS        its clock cycles, a line each
       --wires                     show the wires too
       --seed N                    choices drawn by a seed in place of the plain run
       --by-expressions            by the extracted expressions in place of events
       --last                      only the last cycle
       --vcd FILE                  write a waveform
       --progress                  say how far it has come, on standard error
-  walbryts compare SHEET INPUTS   events, in several orders, against the expressions
-  walbryts extract SHEET          waits and next-state expressions
+  walbryts compare FILE INPUTS    events, in several orders, against the expressions
+  walbryts extract FILE           waits and next-state expressions
       --dot                       the nodes as a graph for Graphviz
-  walbryts verilog SHEET          the module as Verilog
+  walbryts verilog FILE           the module as Verilog
+  walbryts sheet FILE             the module as a sheet, in hexadecimal text
       --names FILE                with run and extract: names, lines such as `r0 count`
+      --verilog                   FILE is Verilog text, whatever its name
 
-SHEET: bytes, or hexadecimal text with blanks, line ends and # comments; - is standard input.
+FILE: Verilog text where its name ends in .v; else a sheet: bytes, or hexadecimal text with blanks,
+line ends and # comments; - is standard input.
 INPUTS: a line a cycle, the values of inputs 1 up: decimal, 0x and hexadecimal, or x; - alone
 where the clock is the only input; # comments.
 ",
     );
 }
 
-// What a command does with a sheet that is read.
-fn perform(c: Command, sheet: &[u8], layout: Layout, widths: &[u8]) -> Outcome {
-    let mut names = [0u8; 2560];
-    if !names::fill(options::names_of(c), layout, &mut names) {
+// What a command does with a module that is read: its sheet is written where the command is `sheet`.
+fn perform(
+    w: Words,
+    c: Command,
+    sheet: &[u8],
+    layout: Layout,
+    widths: &[u8],
+    names: &mut [u8; 2560],
+) -> Outcome {
+    if w.sheet {
+        return showing::print_sheet(sheet);
+    }
+    if !names::fill(options::names_of(c), layout, names) {
         return Outcome::Mistaken;
     }
     match c {
         Command::List(_) => showing::list(sheet),
-        Command::Check(_) => showing::check(sheet),
-        Command::Run(o) => running::run(o, sheet, layout, widths, &names),
-        Command::Extract(o) => nets::extract(o, sheet, &names),
-        Command::Compare(o) => comparing::compare(o, sheet, layout, widths, &names),
+        Command::Check(_) => showing::check(sheet, names),
+        Command::Run(o) => running::run(o, sheet, layout, widths, names),
+        Command::Extract(o) => nets::extract(o, sheet, names),
+        Command::Compare(o) => comparing::compare(o, sheet, layout, widths, names),
         Command::Verilog(index) => showing::print_verilog(index, sheet),
     }
 }
 
 // A sheet's bytes, from the file's: refused, or handed to the command.
-fn with_bytes(c: Command, sheet: &[u8], view: &[u8], hex: bool) -> Outcome {
+fn with_bytes(w: Words, c: Command, sheet: &[u8], view: &[u8], hex: bool) -> Outcome {
     let r = sheet::read(sheet);
     if r.number != 0 || sheet.len() < 4 {
         report::refuse(options::sheet_of(c), sheet, view, hex, r.number, r.place);
         return Outcome::Refused;
     }
     let layout = r.layout;
-    perform(c, sheet, layout, &sheet[4..])
+    let mut names = [0u8; 2560];
+    naming::fill_plain(layout.inputs, layout.registers, &mut names);
+    perform(w, c, sheet, layout, &sheet[4..], &mut names)
 }
 
 // Hexadecimal text.
-fn with_text(c: Command, view: &[u8]) -> Outcome {
+fn with_text(w: Words, c: Command, view: &[u8]) -> Outcome {
     let index = options::sheet_of(c);
     if view.len() >= 65536 {
         report::wrong_with(index, b": hexadecimal text of 65,536 bytes or longer\n", 0);
@@ -98,19 +115,49 @@ fn with_text(c: Command, view: &[u8]) -> Outcome {
     if length > 8193 {
         return Outcome::Mistaken;
     }
-    with_bytes(c, &bytes[..length], view, true)
+    with_bytes(w, c, &bytes[..length], view, true)
 }
 
-// A file's bytes: a sheet, or hexadecimal text.
-fn with_file(c: Command, view: &[u8]) -> Outcome {
-    if hextext::is_text(view) {
-        return with_text(c, view);
+// A text's sheet, with the names of the text.
+fn with_names(w: Words, c: Command, sheet: &[u8], text: &[u8]) -> Outcome {
+    if sheet.len() < 4 {
+        return Outcome::Mistaken;
     }
-    with_bytes(c, view, view, false)
+    let layout = sheet::read(sheet).layout;
+    let mut names = [0u8; 2560];
+    naming::fill_plain(layout.inputs, layout.registers, &mut names);
+    texts::name(text, &mut names);
+    perform(w, c, sheet, layout, &sheet[4..], &mut names)
 }
 
-// A command, from the file of its sheet on.
-fn carry_out(c: Command) -> Outcome {
+// Verilog text: its sheet, or what is refused of it.
+fn with_verilog(w: Words, c: Command, text: &[u8]) -> Outcome {
+    let mut lent = [0u8; 8192];
+    let r = verilog_read::read_text(text, &mut lent);
+    if r.number != 0 {
+        texts::refuse(options::sheet_of(c), text, r.number, r.place);
+        return Outcome::Refused;
+    }
+    let length = r.length;
+    if length > 8192 {
+        return Outcome::Mistaken;
+    }
+    with_names(w, c, &lent[..length], text)
+}
+
+// A file's bytes: Verilog text, a sheet, or hexadecimal text.
+fn with_file(w: Words, c: Command, view: &[u8]) -> Outcome {
+    if files::is_text(w.verilog, options::sheet_of(c)) {
+        return with_verilog(w, c, view);
+    }
+    if hextext::is_text(view) {
+        return with_text(w, c, view);
+    }
+    with_bytes(w, c, view, view, false)
+}
+
+// A command, from the file of its module on.
+fn carry_out(w: Words, c: Command) -> Outcome {
     let mut source = [0u8; 65536];
     let got = files::read_whole(options::sheet_of(c), &mut source);
     if !got.found {
@@ -120,11 +167,11 @@ fn carry_out(c: Command) -> Outcome {
     if size > 65536 {
         return Outcome::Mistaken;
     }
-    with_file(c, &source[..size])
+    with_file(w, c, &source[..size])
 }
 
 // What the words ask for.
-fn answer(r: Request) -> Outcome {
+fn answer(w: Words, r: Request) -> Outcome {
     match r {
         Request::Help => {
             help();
@@ -138,14 +185,15 @@ fn answer(r: Request) -> Outcome {
             usage();
             Outcome::Mistaken
         }
-        Request::Asked(c) => carry_out(c),
+        Request::Asked(c) => carry_out(w, c),
     }
 }
 
 // A program of this kit has no exit status; where the words ask for it, the status is written to descriptor 3.
 fn main() {
-    let o = words::asked();
-    let status = options::status_of(answer(options::judge(o)));
+    let w = words::asked();
+    let o = w.options;
+    let status = options::status_of(answer(w, options::judge(o)));
     if options::wants_status(o) {
         io::print_decimal(3, status as u64);
     }

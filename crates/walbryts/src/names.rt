@@ -1,4 +1,4 @@
-// The names of the variables: i0.., r0.., w0.., or those of a names file, which `labels` takes.
+// The names of the variables out of a names file, which `labels` takes.
 use crate::files::read_whole;
 use crate::report::wrong_names;
 use crate::report::wrong_with;
@@ -14,9 +14,8 @@ fn taken(index: usize, bytes: &[u8], layout: Layout, names: &mut [u8; 2560]) -> 
     false
 }
 
-// Fills the names, from the file that a word names where there is one. Is it right?
+// Names out of the file that a word names, where there is one. Are they right?
 pub fn fill(index: usize, layout: Layout, names: &mut [u8; 2560]) -> bool {
-    naming::fill_plain(layout.inputs, layout.registers, names);
     if index == 0 {
         return true;
     }

@@ -139,7 +139,7 @@ pub fn extract(o: ExtractOptions, sheet: &[u8], names: &[u8; 2560]) -> Outcome {
     let mut nodes = [0u16; 16384];
     let mut rows = [0u16; 1056];
     if !extracted(sheet, &mut nodes, &mut rows) {
-        report::refuse_extraction(o.sheet, sheet);
+        report::refuse_extraction(o.sheet, sheet, names);
         return Outcome::Refused;
     }
     if o.dot {

@@ -1,5 +1,5 @@
 // Refusals and errors in words, on standard error: the file, the place, the number, what was found and what is allowed. The words of the
-// numbers come from the table in `reasons`, those of lines and rules from `findings`.
+// numbers come from the table in `reasons`, those of lines and rules from `findings` and `named_findings`.
 use crate::files::flush;
 use crate::say::say;
 use libc::STDERR_FILENO;
@@ -8,14 +8,14 @@ use writing::put_byte;
 use writing::put_word;
 
 // The file that a word names.
-fn say_file(index: usize) {
+pub fn say_file(index: usize) {
     let mut path = io::buffer();
     let n = os::arg(index, &mut path);
     io::write_all(STDERR_FILENO, &path[..n]);
 }
 
 // A line and a column of a file.
-fn say_spot(index: usize, line: usize, column: usize) {
+pub fn say_spot(index: usize, line: usize, column: usize) {
     say_file(index);
     say(STDERR_FILENO, b":#:#: ", line, column);
 }
@@ -51,7 +51,7 @@ pub fn wrong_with(index: usize, reason: &[u8], cycle: usize) {
 }
 
 // A number and its words.
-fn say_number(fd: i32, number: u8) {
+pub fn say_number(fd: i32, number: u8) {
     say(fd, b"refused #: ", number as usize, 0);
     let mut text = [0u8; 65536];
     let p = reasons::put_reason(number, &mut text, 0);
@@ -59,7 +59,7 @@ fn say_number(fd: i32, number: u8) {
     flush(fd, &text, q);
 }
 
-fn say_allowed(fd: i32, number: u8) {
+pub fn say_allowed(fd: i32, number: u8) {
     let mut text = [0u8; 65536];
     let p = put_word(b"  allowed: ", &mut text, 0);
     let q = reasons::put_allowed(number, &mut text, p);
@@ -128,27 +128,29 @@ pub fn refuse(index: usize, sheet: &[u8], view: &[u8], hex: bool, number: u8, pl
 
 // ---- what breaks a rule of extraction
 
-// What a rule finds.
-fn say_witness(fd: i32, w: Witness) {
+// What a rule finds. Registers follow the inputs, and wires the registers.
+fn say_witness(fd: i32, sheet: &[u8], w: Witness, names: &[u8; 2560]) {
+    let layout = sheet::read(sheet).layout;
+    let wires = std::num::wrapping_add_u8(layout.inputs, layout.registers);
     let mut text = [0u8; 65536];
-    let p = findings::put_witness(w, &mut text, 0);
+    let p = named_findings::put_witness(w, names, layout.inputs, wires, &mut text, 0);
     flush(fd, &text, p);
 }
 
 // A sheet that is read and not extracted: the number, the witness and what is allowed.
-pub fn unextracted(fd: i32, sheet: &[u8]) {
+pub fn unextracted(fd: i32, sheet: &[u8], names: &[u8; 2560]) {
     let w = witness::witness_of(sheet);
     say_number(fd, w.number);
     io::write_all(fd, b"  found: ");
-    say_witness(fd, w);
+    say_witness(fd, sheet, w, names);
     io::write_all(fd, b"\n");
     say_allowed(fd, w.number);
 }
 
 // The same on standard error, behind the file.
-pub fn refuse_extraction(index: usize, sheet: &[u8]) {
+pub fn refuse_extraction(index: usize, sheet: &[u8], names: &[u8; 2560]) {
     wrong_with(index, b": ", 0);
-    unextracted(STDERR_FILENO, sheet);
+    unextracted(STDERR_FILENO, sheet, names);
 }
 
 // ---- runs

@@ -217,7 +217,7 @@ fn run_on(
     let mut nodes = [0u16; 16384];
     let mut rows = [0u16; 1056];
     if halves::is_expressed(way) && !extracted(sheet, &mut nodes, &mut rows) {
-        report::refuse_extraction(o.sheet, sheet);
+        report::refuse_extraction(o.sheet, sheet, names);
         return Outcome::Refused;
     }
     tabulated(p, sheet, &nodes, &rows, widths, names, fd, rest)

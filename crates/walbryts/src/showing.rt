@@ -1,4 +1,4 @@
-// `list`, `check` and `verilog`: what a sheet holds.
+// `list`, `check`, `verilog` and `sheet`: what a module holds.
 use crate::files::flush;
 use crate::report;
 use crate::say::say;
@@ -24,6 +24,14 @@ pub fn print_verilog(index: usize, sheet: &[u8]) -> Outcome {
         return Outcome::Refused;
     }
     flush(STDOUT_FILENO, &text, v.length);
+    Outcome::Done
+}
+
+// `sheet`: the module as a sheet, in hexadecimal text.
+pub fn print_sheet(sheet: &[u8]) -> Outcome {
+    let mut text = [0u8; 65536];
+    let p = sources::put_sheet(sheet, &mut text, 0);
+    flush(STDOUT_FILENO, &text, p);
     Outcome::Done
 }
 
@@ -103,12 +111,12 @@ pub fn extracted(sheet: &[u8], nodes: &mut [u16; 16384], rows: &mut [u16; 1056])
 }
 
 // Whether extraction accepts it, and how many nodes and rows there are.
-fn say_extraction(sheet: &[u8], waits: usize) {
+fn say_extraction(sheet: &[u8], names: &[u8; 2560], waits: usize) {
     let mut nodes = [0u16; 16384];
     let mut rows = [0u16; 1056];
     io::write_all(STDOUT_FILENO, b"extraction: ");
     if !extracted(sheet, &mut nodes, &mut rows) {
-        report::unextracted(STDOUT_FILENO, sheet);
+        report::unextracted(STDOUT_FILENO, sheet, names);
         return;
     }
     say(
@@ -137,11 +145,11 @@ fn say_counts(size: usize, layout: Layout) {
 }
 
 // `check`: what a sheet holds that is read.
-pub fn check(sheet: &[u8]) -> Outcome {
+pub fn check(sheet: &[u8], names: &[u8; 2560]) -> Outcome {
     let layout = sheet::read(sheet).layout;
     say_counts(sheet.len(), layout);
     let mut heads = [0usize; 32];
     let waits = find_waits(sheet, layout, true, &mut heads);
-    say_extraction(sheet, waits);
+    say_extraction(sheet, names, waits);
     Outcome::Done
 }

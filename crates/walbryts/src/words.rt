@@ -1,21 +1,21 @@
-// The words of the command line, handed to `options` one by one.
-use options::Options;
+// The words of the command line, handed to `sources` one by one.
+use sources::Words;
 
 // One word of the command line.
-fn take_word(o: Options, i: usize) -> Options {
+fn take_word(w: Words, i: usize) -> Words {
     let mut word = io::buffer();
     let n = os::arg(i, &mut word);
-    options::take(o, &word[..n])
+    sources::take(w, &word[..n])
 }
 
 // All of them.
-pub fn asked() -> Options {
+pub fn asked() -> Words {
     let n = os::arg_count();
-    let mut o = options::begin();
+    let mut w = sources::begin();
     let mut i = 1;
     while i < n {
-        o = take_word(o, i);
+        w = take_word(w, i);
         i += 1;
     }
-    o
+    w
 }

@@ -8,6 +8,8 @@ pub const TEXT: usize = 65_536;
 /// The bytes of a saved state, with the one that names its form.
 pub const SAVED: usize = 641;
 
+use crate::text::{Answer, Labels, VARIABLES};
+
 mod calls;
 mod planes;
 
@@ -15,6 +17,20 @@ pub use calls::Library;
 pub use planes::{Inputs, Planes, rows_of_16};
 
 unsafe extern "C" {
+    /// The sheet of a text into 8,192 lent bytes: the number, whose place is stored, and the
+    /// sheet's length.
+    fn walbryts_read_text(
+        text: *const u8,
+        len: usize,
+        lent: *mut u8,
+        lent_len: usize,
+        place: *mut usize,
+        length: *mut usize,
+    ) -> u8;
+
+    /// Where the variables of a text are declared, into two tables of 80 entries; the number.
+    fn walbryts_names(text: *const u8, len: usize, places: *mut u16, lengths: *mut u16) -> u8;
+
     /// The number of the refusal, whose place is stored; both 0 where the sheet is accepted.
     fn walbryts_read(sheet: *const u8, len: usize, place: *mut usize) -> u8;
 
@@ -113,6 +129,24 @@ unsafe extern "C" {
         wire: *mut u32,
         unsure: *mut bool,
     ) -> u8;
+}
+
+/// A text's sheet into the lent bytes.
+pub fn read_text(text: &[u8], lent: &mut [u8]) -> Answer {
+    let (mut place, mut length) = (usize::MAX, usize::MAX);
+    let (at, len, bytes, room) = (text.as_ptr(), text.len(), lent.as_mut_ptr(), lent.len());
+    // Safety: the pointers and the lengths are those of two slices, place and length are locals'.
+    let number = unsafe { walbryts_read_text(at, len, bytes, room, &mut place, &mut length) };
+    Answer { number, place, length }
+}
+
+/// Where a text's variables are declared, from these tables on.
+pub fn labels(text: &[u8], places: [u16; VARIABLES], lengths: [u16; VARIABLES]) -> Labels {
+    let mut labels = Labels { number: 0, places, lengths };
+    let (places, lengths) = (labels.places.as_mut_ptr(), labels.lengths.as_mut_ptr());
+    // Safety: as above, and both tables have 80 entries.
+    labels.number = unsafe { walbryts_names(text.as_ptr(), text.len(), places, lengths) };
+    labels
 }
 
 /// The number and place that the library gives, both 0 where it accepts.

@@ -9,11 +9,12 @@ use crate::saved::write_state;
 use crate::sheet::{self, Refusal};
 use crate::simulator::{Simulator, number_of};
 use crate::state::State;
+use crate::text::read_text;
 
 mod record;
 mod tables;
 
-pub use record::{Record, Script};
+pub use record::{BUFFER, Record, Script};
 pub use tables::{Cycle, Lent, NODES, ROWS, Table, UNWRITTEN, Words};
 
 /// Runs a script of any bytes as far as it goes.
@@ -98,6 +99,11 @@ impl<'a> Session<'a> {
                 let (nodes, rows) = words.lend(cycle.lent);
                 let outcome = compiler.cycle(nodes, rows, &mut lane, &cycle.inputs);
                 format!("cycle {} {}", number_of(outcome), hex(&lane.bytes()))
+            }
+            Record::Text { text, lent } => {
+                let mut buffer = vec![0xAA; BUFFER.into()];
+                let answer = read_text(text, &mut buffer[..usize::from(*lent)]);
+                format!("text {} {} {}", answer.number, answer.length, hex(&buffer))
             }
         }
     }

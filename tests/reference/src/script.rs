@@ -9,7 +9,7 @@ use crate::random::Random;
 use crate::replay::{Lent, Record, Script, Session};
 use crate::sheet;
 use crate::state::{Slot, State};
-use crate::{extractable, generate, limits, mutate, refused, states};
+use crate::{extractable, generate, limits, mutate, refused, states, text};
 
 mod tables;
 
@@ -23,11 +23,29 @@ pub fn script(seed: u64) -> Vec<u8> {
     let (fitting, records) = (State::ZERO, Vec::new());
     let mut writer = Writer { random, session, module, fitting, records };
     writer.write();
+    writer.records.extend(text_records(seed));
     let script = Script::write(&sheet, &writer.records);
     match writer.random.chance(1, 8) {
         true => damage(script, &mut writer.random),
         false => script,
     }
+}
+
+// ---- texts
+
+/// In every eighth script a module as text, a damaged one, and one that is too long, with buffers of
+/// the right length and others.
+fn text_records(seed: u64) -> Vec<Record> {
+    if !seed.is_multiple_of(8) {
+        return Vec::new();
+    }
+    let mut random = Random::new(seed ^ 0x7E47);
+    let good = text::random::text(&generate::module(&mut random), &mut random);
+    let damaged = text::random::damaged(&good, &mut random);
+    let texts = [good.clone(), damaged, vec![b' '; text::MOST_TEXT + 1], good];
+    let lent = [8_192, 8_192, 8_192, random.pick(&[0, 8_191, 8_193])];
+    let pairs = texts.into_iter().zip(lent).filter(|(text, _)| text.len() <= u16::MAX.into());
+    pairs.map(|(text, lent)| Record::Text { text, lent }).collect()
 }
 
 // ---- sheets

@@ -1,7 +1,6 @@
 -- `verilog_read::named` meets its contract. Assumes nothing.
 use borrow.Author.Needs.{needs}
-use Rattle.verilog_read.specs.Read.{padded}
-use Rattle.verilog_read.proofs.Wholes.{held-room, held-take, named-no, named-yes}
+use Rattle.verilog_read.proofs.Wholes.{named-no, named-yes}
 use Rattle.verilog_read.proofs.named.Statement.{statement}
 use Rattle.verilog_read.proofs.named.Tie as tie
 
@@ -12,13 +11,8 @@ named-spec =
     (λ c κs. search needs)
     (λ c κs. search needs)
     (λ c κs. search needs)
-    (λ c. named-no _ _ _ _ _ _ _ (c .before .before .before .wide .ensures) (c .before .before .first-fault .ensures) (c .before .if1 .taken) (c .refusal .ensures))
+    (λ c. named-no _ _ _ _ _ _ (c .before .before .before .wide .ensures) (c .before .before .first-fault .ensures) (c .before .if1 .taken) (c .refusal .ensures))
     (λ c κs. search needs)
-    (λ c κs. search needs)
-    (λ c κs. search needs)
-    (λ c κs. search needs)
-    (λ c. held-room (padded (c .before .before .before .before .write .last .1 .1 .1 .1 .1 .1 .0) 65536 0) (c .before .hold .ensures) _ (c .roomed .ensures .1))
-    (λ c. held-take (padded (c .before .before .before .before .before .write .last .1 .1 .1 .1 .1 .1 .0) 65536 0) (c .before .before .hold .ensures) _ (c .before .roomed .ensures .1))
     (λ c κs. search needs)
     (λ c. search needs)
-    (λ c. named-yes _ _ _ _ _ _ _ (c .before .before .before .before .before .before .before .before .before .before .before .before .before .before .before .before .wide .ensures) (c .before .before .before .before .before .before .before .before .before .before .before .before .before .before .before .first-fault .ensures) (c .before .before .before .before .before .before .before .before .before .before .before .before .before .before .if1 .left) (c .before .before .before .before .before .before .before .before .before .before .before .before .number .ensures) (c .before .before .before .before .before .before .before .before .before .write .ensures) (c .before .before .before .before .before .before .hold .ensures) (c .before .before .before .before .before .roomed .ensures .0) (c .before .before .judge .ensures)))
+    (λ c. named-yes _ _ _ _ _ _ (c .before .before .before .before .before .before .before .before .before .wide .ensures) (c .before .before .before .before .before .before .before .before .first-fault .ensures) (c .before .before .before .before .before .before .before .if1 .left) (c .before .before .before .before .before .number .ensures) (c .before .before .sheeted .ensures)))

@@ -32,7 +32,15 @@ pub enum Record {
         word: u16,
     },
     Cycle(Box<Cycle>),
+    /// A Verilog text, and how many bytes are lent.
+    Text {
+        text: Vec<u8>,
+        lent: u16,
+    },
 }
+
+/// The bytes of the buffer that a text's sheet is written into: one more than are right.
+pub const BUFFER: u16 = 8_193;
 
 /// A script as far as it can be read.
 pub struct Script<'a> {
@@ -103,6 +111,12 @@ impl Record {
                 Record::Word { table, index: bytes.word()?, word: bytes.word()? }
             }
             b'K' => Record::Cycle(Box::new(Cycle::read(bytes)?)),
+            b'V' => {
+                let length = bytes.word()?;
+                let text = bytes.take(length.into())?.to_vec();
+                let lent = bytes.word().filter(|&lent| lent <= BUFFER)?;
+                Record::Text { text, lent }
+            }
             _ => return None,
         })
     }
@@ -146,6 +160,13 @@ impl Record {
                 script.push(b'K');
                 cycle.write(script);
             }
+            Record::Text { text, lent } => {
+                let length = u16::try_from(text.len()).expect("at most 65,535 bytes");
+                script.push(b'V');
+                script.extend(length.to_le_bytes());
+                script.extend(text);
+                script.extend(lent.to_le_bytes());
+            }
         }
     }
 }
@@ -172,6 +193,9 @@ impl Display for Record {
             Record::Cycle(cycle) => {
                 write!(f, "cycle {} {}", cycle.lent.nodes, cycle.lent.rows)?;
                 write_values(f, &cycle.inputs)
+            }
+            Record::Text { text, lent } => {
+                write!(f, "text {lent} {}", String::from_utf8_lossy(text))
             }
         }
     }

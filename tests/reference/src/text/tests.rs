@@ -19,16 +19,9 @@ fn with(items: &str) -> String {
     format!("module m (clk); input clk; reg [7:0] a, b; {items} endmodule")
 }
 
-/// On a thread whose stack is large enough for deep texts.
-fn deep<T: Send + 'static>(run: impl FnOnce() -> T + Send + 'static) -> T {
-    let thread =
-        std::thread::Builder::new().stack_size(256 << 20).spawn(run).expect("a thread");
-    thread.join().expect("the thread ends")
-}
-
 #[test]
 fn the_vectors_are_met() {
-    deep(|| {
+    deep(256 << 20, || {
         for (line, vector) in vectors::all().iter().enumerate() {
             let mut lent = vec![0xAA; vector.lent];
             let answer = read_text(&vector.text, &mut lent);

@@ -1,0 +1,3 @@
+pub mod Spotting
+pub mod Choosing
+pub mod Noting

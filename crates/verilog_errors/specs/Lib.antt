@@ -1,0 +1,4 @@
+pub mod Spots
+pub mod Found
+pub mod Choices
+pub mod Notes

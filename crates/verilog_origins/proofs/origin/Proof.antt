@@ -1,0 +1,21 @@
+-- `verilog_origins::origin` meets its contract. Assumes nothing.
+use borrow.Author.Needs.{needs}
+use Rattle.verilog_origins.proofs.Origins.{origin-whole}
+use Rattle.verilog_origins.proofs.origin.Statement.{statement}
+use Rattle.verilog_origins.proofs.origin.Tie as tie
+
+returns : tie.Need-returns
+returns c = origin-whole _ _
+    (c .before .before .before .before .before .before .before .before .before .before .before .before .before .scan .ensures)
+    (c .before .before .before .before .before .before .before .before .before .before .before .before .short .ensures)
+    (c .before .before .before .before .before .before .read .ensures) (c .item-place .ensures)
+
+pub origin-spec : {M : Type 1} → statement M
+origin-spec =
+    tie.close
+    (tie.spec
+    (λ c κs. search needs)
+    (λ c κs. search needs)
+    (λ c κs. search needs)
+    (λ c κs. search needs)
+    returns)
