@@ -23,7 +23,8 @@ module _ (s : List ℕ) (m : Shape) where
   unfolding begun
   begun-1 e h = rw (← e, h)
 
-  pub begun-2 : {a b : Rest} → a ≡ started s m Plain → a .rested ≡ true → b ≡ started s m (Drawn 1) → b .rested ≡ false → runs a b b b b ≡ begun s m
+  pub begun-2 : {a b : Rest} → a ≡ started s m Plain → a .rested ≡ true
+      → b ≡ started s m (Drawn 1) → b .rested ≡ false → runs a b b b b ≡ begun s m
   unfolding begun
   begun-2 e h f k = rw (← e, ← f, h, k)
 
@@ -77,7 +78,8 @@ module _ (s : List ℕ) (m : Shape) {q : Runs} (e : q ≡ begun s m) where
   unfolding opened
   opened-stopped h k = k ∙ rw (← e, h)
 
-module _ (s : List ℕ) (m : Shape) (ns rs : List ℕ) (t : Standing) (row : Row) {q : Runs} (e : q ≡ advanced s m ns rs (t .runs) row) where
+module _ (s : List ℕ) (m : Shape) (ns rs : List ℕ) (t : Standing) (row : Row) {q : Runs}
+    (e : q ≡ advanced s m ns rs (t .runs) row) where
   pub turned-stopped : {u : Standing} → q .last .rested ≡ false → u ≡ stopped (t .verdict) q → u ≡ turned s m ns rs t row
   unfolding turned
   turned-stopped h k = k ∙ rw (← e, h)

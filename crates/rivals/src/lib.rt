@@ -1,4 +1,5 @@
-// The four runs of a comparison, from their start on, cycle by cycle, and how it ends. Each function equals its definition in specs/Rivals.
+// The four runs of a comparison, from their start on, cycle by cycle, and how it ends. Each function equals its definition in
+// specs/Rivals.
 use comparison::Counts;
 use comparison::Verdict;
 use driving::Rest;
@@ -10,7 +11,7 @@ ghost use mathlib.Core.Path.{_≡_};
 ghost use mathlib.Core.Bool.{not};
 ghost use Rattle.halves.specs.Halves.{whole};
 ghost use Rattle.driving.specs.Endings.{endingOf, outcomeOf};
-ghost use Rattle.rivals.specs.Rivals.{begun, advanced, countsOf, judged, stopped, opened, turned, closed, isTold, ending};
+ghost use Rattle.rivals.specs.Rivals.{runs, begun, advanced, countsOf, judged, stopped, opened, turned, closed, isTold, ending};
 
 // The plain run, the orders of seeds 1 and 2, the run by the expressions; and the one of them that went on last.
 pub struct Runs {
@@ -31,48 +32,36 @@ pub struct Standing {
 
 // ---- the runs
 
+fn four(plain: Rest, first: Rest, second: Rest, expressed: Rest, last: Rest) -> Runs
+    ensures { λ q. ⌜ q ≡ runs plain first second expressed last ⌝ }
+{
+    Runs {
+        plain,
+        first,
+        second,
+        expressed,
+        last,
+    }
+}
+
 // From the start to rest, up to the first that does not come to rest.
 fn begin(sheet: &[u8], m: Shape) -> Runs
     ensures { λ q. ⌜ q ≡ begun (now (sheet .entry)) m ⌝ }
 {
     let a = halves::begin(sheet, m, Way::Plain);
     if !a.rested {
-        return Runs {
-            plain: a,
-            first: a,
-            second: a,
-            expressed: a,
-            last: a,
-        };
+        return four(a, a, a, a, a);
     }
     let b = halves::begin(sheet, m, Way::Drawn(1));
     if !b.rested {
-        return Runs {
-            plain: a,
-            first: b,
-            second: b,
-            expressed: b,
-            last: b,
-        };
+        return four(a, b, b, b, b);
     }
     let c = halves::begin(sheet, m, Way::Drawn(2));
     if !c.rested {
-        return Runs {
-            plain: a,
-            first: b,
-            second: c,
-            expressed: c,
-            last: c,
-        };
+        return four(a, b, c, c, c);
     }
     let d = halves::begin(sheet, m, Way::Expressed);
-    Runs {
-        plain: a,
-        first: b,
-        second: c,
-        expressed: d,
-        last: d,
-    }
+    four(a, b, c, d, d)
 }
 
 // One of them a cycle further.
@@ -93,42 +82,18 @@ fn advance(sheet: &[u8], m: Shape, nodes: &[u16], rows: &[u16], q: Runs, row: Ro
     let expressed = q.expressed;
     let a = further(sheet, m, nodes, rows, plain, row);
     if !a.rested {
-        return Runs {
-            plain: a,
-            first,
-            second,
-            expressed,
-            last: a,
-        };
+        return four(a, first, second, expressed, a);
     }
     let b = further(sheet, m, nodes, rows, first, row);
     if !b.rested {
-        return Runs {
-            plain: a,
-            first: b,
-            second,
-            expressed,
-            last: b,
-        };
+        return four(a, b, second, expressed, b);
     }
     let c = further(sheet, m, nodes, rows, second, row);
     if !c.rested {
-        return Runs {
-            plain: a,
-            first: b,
-            second: c,
-            expressed,
-            last: c,
-        };
+        return four(a, b, c, expressed, c);
     }
     let d = further(sheet, m, nodes, rows, expressed, row);
-    Runs {
-        plain: a,
-        first: b,
-        second: c,
-        expressed: d,
-        last: d,
-    }
+    four(a, b, c, d, d)
 }
 
 // ---- the comparison

@@ -7,7 +7,8 @@ use Rattle.rivals.proofs.turn.Tie as tie
 
 returns : tie.Need-returns
 returns c =
-    turned-stopped _ _ _ _ _ _ (c .before .before .before .before .advance .ensures) (not-true _ (c .before .if1 .taken)) (c .stop .ensures)
+    let b = c .before in
+    turned-stopped _ _ _ _ _ _ (b .before .before .before .advance .ensures) (not-true _ (b .if1 .taken)) (c .stop .ensures)
 
 returns-2 : tie.Need-returns-2
 returns-2 c =

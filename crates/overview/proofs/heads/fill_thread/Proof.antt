@@ -33,7 +33,8 @@ loop-again c =
     let a = v .before .before .args in
     let l = v .loop in (
       omega arith,
-      in-turn (a .sheet .now) (a .code .now) (a .thread) (l .p) _ _ _ (l .inv .1) (c .before .before .fetch .ensures) (c .note-wait .ensures),
+      in-turn (a .sheet .now) (a .code .now) (a .thread) (l .p) _ _ _ (l .inv .1) (c .before .before .fetch .ensures)
+          (c .note-wait .ensures),
     )
 
 returns : tie.Need-returns Inv-loop μ-loop
