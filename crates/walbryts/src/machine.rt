@@ -23,7 +23,7 @@ pub struct Plan {
 }
 
 // The sheet's counts.
-fn shape_of(p: Plan) -> Shape {
+pub fn shape_of(p: Plan) -> Shape {
     Shape {
         inputs: p.inputs,
         registers: p.registers,
@@ -38,7 +38,7 @@ pub fn begin(p: Plan, sheet: &[u8], way: Way) -> Rest {
 }
 
 // Did it come to rest? If not, says why.
-fn at_rest(index: usize, cycle: usize, r: Rest) -> bool {
+pub fn at_rest(index: usize, cycle: usize, r: Rest) -> bool {
     match driving::ending_of(r) {
         Ending::Rested => true,
         Ending::Refused(number) => {

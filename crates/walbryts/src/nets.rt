@@ -1,7 +1,6 @@
 // `extract`: the next-state expressions of a sheet, as text or as a graph.
 use crate::files::flush;
 use crate::report;
-use crate::say::say;
 use crate::showing::extracted;
 use crate::showing::find_waits;
 use libc::STDOUT_FILENO;
@@ -9,7 +8,7 @@ use options::ExtractOptions;
 use options::Outcome;
 use sheet::Layout;
 
-// A node: of a graph, or where it is used more than once.
+// A node: of a graph, or its line where it has one.
 fn print_node(
     nodes: &[u16; 16384],
     uses: &[u8; 4096],
@@ -23,10 +22,8 @@ fn print_node(
         flush(STDOUT_FILENO, text, p);
         return;
     }
-    if netlist::is_named(nodes, uses, n) {
-        let p = netlist::print_definition(nodes, uses, names, n, text, 0);
-        flush(STDOUT_FILENO, text, p);
-    }
+    let p = overview::put_shown_node(nodes, uses, names, n, text, 0);
+    flush(STDOUT_FILENO, text, p);
 }
 
 // All nodes.
@@ -48,38 +45,6 @@ fn print_nodes(
     }
 }
 
-// Entry k of a row: what a register becomes, where that is another node than its own, or the place.
-fn print_entry(
-    nodes: &[u16; 16384],
-    uses: &[u8; 4096],
-    names: &[u8; 2560],
-    layout: Layout,
-    k: usize,
-    n: u16,
-    text: &mut [u8; 65536],
-) {
-    if k == 32 {
-        let p = netlist::print_place(nodes, uses, names, n, text, 0);
-        flush(STDOUT_FILENO, text, p);
-        return;
-    }
-    let v = layout.inputs as usize + k % 33;
-    if k < layout.registers as usize && n as usize != v {
-        let p = netlist::print_entry(nodes, uses, names, v, n, text, 0);
-        flush(STDOUT_FILENO, text, p);
-    }
-}
-
-// The head of a row: the thread and the place of its wait.
-fn print_head(head: usize) {
-    say(
-        STDOUT_FILENO,
-        b"thread #, wait at place #:\n",
-        head / 256,
-        head % 256,
-    );
-}
-
 // The rows, 33 entries each.
 fn print_rows(
     nodes: &[u16; 16384],
@@ -87,7 +52,7 @@ fn print_rows(
     uses: &[u8; 4096],
     names: &[u8; 2560],
     layout: Layout,
-    heads: [usize; 32],
+    heads: &[usize; 32],
     waits: usize,
     text: &mut [u8; 65536],
 ) {
@@ -96,10 +61,10 @@ fn print_rows(
         if e / 33 >= waits {
             return;
         }
-        if e % 33 == 0 {
-            print_head(heads[e / 33]);
-        }
-        print_entry(nodes, uses, names, layout, e % 33, rows[e], text);
+        let p = overview::put_row_head(heads, e, text, 0);
+        flush(STDOUT_FILENO, text, p);
+        let q = overview::put_shown_entry(nodes, uses, names, layout, e, rows[e], text, 0);
+        flush(STDOUT_FILENO, text, q);
         e += 1;
     }
 }
@@ -127,11 +92,12 @@ fn show(sheet: &[u8], nodes: &[u16; 16384], rows: &[u16; 1056], names: &[u8; 256
     let mut uses = [0u8; 4096];
     let mut heads = [0usize; 32];
     let count = netlist::node_count(nodes);
-    let waits = find_waits(sheet, layout, false, &mut heads);
-    say(STDOUT_FILENO, b"nodes #, rows #\n", count, waits);
+    let waits = find_waits(sheet, layout, &mut heads);
+    let p = overview::put_sizes(count, waits, &mut text, 0);
+    flush(STDOUT_FILENO, &text, p);
     netlist::fill_uses(nodes, rows, count, waits, &mut uses);
     print_nodes(nodes, &uses, names, false, count, &mut text);
-    print_rows(nodes, rows, &uses, names, layout, heads, waits, &mut text);
+    print_rows(nodes, rows, &uses, names, layout, &heads, waits, &mut text);
 }
 
 // `extract`: a sheet that is read.

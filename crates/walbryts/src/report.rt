@@ -1,5 +1,6 @@
 // Refusals and errors in words, on standard error: the file, the place, the number, what was found and what is allowed. The words of the
-// numbers come from the table in `reasons`, those of lines and rules from `findings` and `named_findings`.
+// numbers come from the table in `reasons`, those of lines and rules from `findings` and `named_findings`, those of
+// places from `overview`.
 use crate::files::flush;
 use crate::say::say;
 use libc::STDERR_FILENO;
@@ -67,55 +68,19 @@ pub fn say_allowed(fd: i32, number: u8) {
     flush(fd, &text, r);
 }
 
-// One of the sixteen digits.
-fn digit(n: u8) -> u8 {
-    if n < 10 { b'0' + n } else { b'A' + n % 16 - 10 }
-}
-
-// A byte of the sheet, in hexadecimal.
-fn say_hex(b: u8) {
-    let text = [digit(b / 16), digit(b % 16), b'h', b'\n'];
-    io::write_all(STDERR_FILENO, &text);
-}
-
 // What stands at the place of a refusal.
 fn say_found(sheet: &[u8], number: u8, place: usize) {
-    match number {
-        1 => say(STDERR_FILENO, b"  found: over 8,192 bytes\n", 0, 0),
-        11 => say(
-            STDERR_FILENO,
-            b"  found: a longer thread from byte # on\n",
-            place,
-            0,
-        ),
-        _ => say_byte(sheet, place),
-    }
+    let mut text = [0u8; 65536];
+    let p = overview::put_found(sheet, number, place, &mut text, 0);
+    flush(STDERR_FILENO, &text, p);
 }
 
-// A byte of the sheet and its place.
-fn say_byte(sheet: &[u8], place: usize) {
-    if place >= sheet.len() {
-        say(
-            STDERR_FILENO,
-            b"  found: byte # is past the end\n",
-            place,
-            0,
-        );
-        return;
-    }
-    say(STDERR_FILENO, b"  found: byte # is ", place, 0);
-    say_hex(sheet[place]);
-}
-
-// Where in its file byte n of the sheet stands: line and column of hex text, else the byte.
+// Where in its file a byte of the sheet stands.
 fn say_place(index: usize, view: &[u8], hex: bool, place: usize) {
     say_file(index);
-    if hex {
-        let s = hextext::spot(view, place);
-        say(STDERR_FILENO, b":#:#: ", s.line, s.column);
-        return;
-    }
-    say(STDERR_FILENO, b": byte #: ", place, 0);
+    let mut text = [0u8; 65536];
+    let p = overview::put_place(view, hex, place, &mut text, 0);
+    flush(STDERR_FILENO, &text, p);
 }
 
 // A sheet that is not read.

@@ -178,7 +178,7 @@ fn tabulated(
 }
 
 // Did it come to rest from the start? If not, says why.
-fn started(index: usize, rest: Rest) -> bool {
+pub fn started(index: usize, rest: Rest) -> bool {
     match driving::ending_of(rest) {
         Ending::Rested => true,
         Ending::Refused(number) => {

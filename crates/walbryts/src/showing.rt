@@ -1,11 +1,10 @@
 // `list`, `check`, `verilog` and `sheet`: what a module holds.
 use crate::files::flush;
 use crate::report;
-use crate::say::say;
 use libc::STDOUT_FILENO;
 use options::Outcome;
-use pseudocode::Instruction;
 use sheet::Layout;
+use writing::put_word;
 
 // `list`: the listing of a sheet that is read.
 pub fn list(sheet: &[u8]) -> Outcome {
@@ -37,70 +36,11 @@ pub fn print_sheet(sheet: &[u8]) -> Outcome {
 
 // ---- waits
 
-// Is the instruction a wait?
-fn is_wait(i: Instruction) -> bool {
-    match i {
-        Instruction::Wait(_) => true,
-        Instruction::Act(_) => false,
-    }
-}
-
-// The waits of a thread, the first of them number k of all: thread * 256 + place into `heads`. Gives the number after them.
-fn waits_in(
-    sheet: &[u8],
-    code: &[u16; 4096],
-    thread: usize,
-    size: usize,
-    heads: &mut [usize; 32],
-    first: usize,
-) -> usize {
-    let mut k = first;
-    let mut place = 0;
-    while place < 256 {
-        if place >= size {
-            return k;
-        }
-        if is_wait(pseudocode::fetch(sheet, code, thread, place)) {
-            k = noted(thread, place, heads, k);
-        }
-        place += 1;
-    }
-    k
-}
-
-// Wait number k; a sheet has at most 2,048.
-fn noted(thread: usize, place: usize, heads: &mut [usize; 32], k: usize) -> usize {
-    if k < 32 {
-        heads[k] = thread % 8 * 256 + place % 256;
-    }
-    k % 4096 + 1
-}
-
-// A thread's instructions and waits.
-fn say_thread(thread: usize, size: usize, waits: usize) {
-    say(STDOUT_FILENO, b"thread #: instructions #", thread, size);
-    say(STDOUT_FILENO, b", waits #\n", waits, 0);
-}
-
-// The waits of all threads. Gives their number. Where it is asked for, says what each thread has.
-pub fn find_waits(sheet: &[u8], layout: Layout, told: bool, heads: &mut [usize; 32]) -> usize {
+// Where the waits stand, for the rows of the extraction. Gives how many there are.
+pub fn find_waits(sheet: &[u8], layout: Layout, heads: &mut [usize; 32]) -> usize {
     let mut code = [0u16; 4096];
     let sizes = pseudocode::compile(sheet, layout.threads, layout.body, &mut code);
-    let n = layout.threads as usize;
-    let mut k = 0;
-    let mut i = 0;
-    while i < 8 {
-        if i >= n {
-            return k;
-        }
-        let next = waits_in(sheet, &code, i, sizes[i], heads, k);
-        if told {
-            say_thread(i, sizes[i], std::num::wrapping_sub_usize(next, k));
-        }
-        k = next;
-        i += 1;
-    }
-    k
+    overview::fill_heads(sheet, &code, &sizes, layout.threads, heads)
 }
 
 // ---- `check`
@@ -119,37 +59,28 @@ fn say_extraction(sheet: &[u8], names: &[u8; 2560], waits: usize) {
         report::unextracted(STDOUT_FILENO, sheet, names);
         return;
     }
-    say(
-        STDOUT_FILENO,
-        b"accepted, nodes #, rows #\n",
-        netlist::node_count(&nodes),
-        waits,
-    );
+    let mut text = [0u8; 65536];
+    let p = put_word(b"accepted, ", &mut text, 0);
+    let q = overview::put_sizes(netlist::node_count(&nodes), waits, &mut text, p);
+    flush(STDOUT_FILENO, &text, q);
 }
 
-// What the sheet declares.
-fn say_counts(size: usize, layout: Layout) {
-    say(
-        STDOUT_FILENO,
-        b"accepted: bytes #, inputs #",
-        size,
-        layout.inputs as usize,
-    );
-    say(
-        STDOUT_FILENO,
-        b", registers #, wires #",
-        layout.registers as usize,
-        layout.wires as usize,
-    );
-    say(STDOUT_FILENO, b", threads #\n", layout.threads as usize, 0);
+// What the sheet declares, and what each thread holds.
+fn say_counts(sheet: &[u8], layout: Layout) {
+    let mut code = [0u16; 4096];
+    let sizes = pseudocode::compile(sheet, layout.threads, layout.body, &mut code);
+    let mut text = [0u8; 65536];
+    let p = overview::put_counts(sheet.len(), layout, &mut text, 0);
+    let q = overview::put_threads(sheet, &code, &sizes, layout.threads, &mut text, p);
+    flush(STDOUT_FILENO, &text, q);
 }
 
 // `check`: what a sheet holds that is read.
 pub fn check(sheet: &[u8], names: &[u8; 2560]) -> Outcome {
     let layout = sheet::read(sheet).layout;
-    say_counts(sheet.len(), layout);
+    say_counts(sheet, layout);
     let mut heads = [0usize; 32];
-    let waits = find_waits(sheet, layout, true, &mut heads);
+    let waits = find_waits(sheet, layout, &mut heads);
     say_extraction(sheet, names, waits);
     Outcome::Done
 }

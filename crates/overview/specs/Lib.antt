@@ -1,0 +1,4 @@
+pub mod Heads
+pub mod Shown
+pub mod Found
+pub mod Claims

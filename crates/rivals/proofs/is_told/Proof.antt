@@ -1,0 +1,34 @@
+-- `rivals::is_told` meets its contract. Assumes nothing.
+use borrow.Author.Needs.{needs}
+use Rattle.rivals.specs.Rivals.{isTold}
+use Rattle.rivals.proofs.is_told.Statement.{statement}
+use Rattle.rivals.proofs.is_told.Tie as tie
+
+returns : tie.Need-returns
+unfolding isTold
+returns c = rw (c .enum-told .given .1)
+
+returns-2 : tie.Need-returns-2
+unfolding isTold
+returns-2 c = rw (c .enum-told2 .given .1)
+
+returns-3 : tie.Need-returns-3
+unfolding isTold
+returns-3 c = rw (c .enum-told3 .given .1)
+
+returns-4 : tie.Need-returns-4
+unfolding isTold
+returns-4 c = rw (c .enum-told4 .given .1)
+
+pub is-told-spec : {M : Type 1} → statement M
+is-told-spec =
+    tie.close
+    (tie.spec
+    (λ c. search needs)
+    (λ c. search needs)
+    (λ c. search needs)
+    (λ c. search needs)
+    returns
+    returns-2
+    returns-3
+    returns-4)
