@@ -8,10 +8,41 @@ use crate::text::scan::KEYWORDS;
 /// A module's text.
 pub fn text(module: &Module, random: &mut Random) -> Vec<u8> {
     let names = names(module.widths.len(), random);
-    let mut writer = Writer { module, names, tokens: Vec::new(), random };
+    let mut writer = Writer { module, names, plain: false, tokens: Vec::new(), random };
     writer.module();
     let tokens = writer.tokens;
     spaced(&tokens, random)
+}
+
+/// The same with the inputs as ports, one blank between two tokens and none within a constant:
+/// Icarus asks a direction of each port, and takes no comment and no line end in a constant.
+pub fn plain(module: &Module, random: &mut Random) -> Vec<u8> {
+    let names = names(module.widths.len(), random);
+    plainly(module, names, random)
+}
+
+/// The same with the names i0.., r0.., w0...
+pub fn numbered(module: &Module, random: &mut Random) -> Vec<u8> {
+    let (inputs, registers) = (usize::from(module.inputs), usize::from(module.registers));
+    let name = |v: usize| match v {
+        v if v < inputs => format!("i{v}"),
+        v if v < inputs + registers => format!("r{}", v - inputs),
+        v => format!("w{}", v - inputs - registers),
+    };
+    plainly(module, (0..module.widths.len()).map(name).collect(), random)
+}
+
+fn plainly(module: &Module, names: Vec<String>, random: &mut Random) -> Vec<u8> {
+    let mut writer = Writer { module, names, plain: true, tokens: Vec::new(), random };
+    writer.module();
+    let mut text = String::new();
+    for token in &writer.tokens {
+        if !token.starts_with('\'') {
+            text.push(' ');
+        }
+        text.extend(token.chars().filter(|c| !c.is_whitespace()));
+    }
+    text.into_bytes()
 }
 
 /// The module that such a text means: a wait that doesn't open a sequence is the first part of
@@ -60,6 +91,7 @@ fn names(count: usize, random: &mut Random) -> Vec<String> {
 struct Writer<'a> {
     module: &'a Module,
     names: Vec<String>,
+    plain: bool,
     tokens: Vec<String>,
     random: &'a mut Random,
 }
@@ -121,10 +153,16 @@ impl Writer<'_> {
 
     fn module(&mut self) {
         self.put("module");
-        let title = self.random.pick(&["m", "top", "stand_3"]).to_string();
+        let title = match self.plain {
+            true => "walbryts".to_string(),
+            false => self.random.pick(&["m", "top", "stand_3"]).to_string(),
+        };
         self.tokens.push(title);
         self.put("(");
-        let ports = self.random.between(1, self.names.len());
+        let ports = match self.plain {
+            true => usize::from(self.module.inputs),
+            false => self.random.between(1, self.names.len()),
+        };
         for port in 0..ports {
             if port > 0 {
                 self.put(",");
