@@ -264,12 +264,12 @@ impl Step<'_> {
             return false;
         };
         terms.iter().any(|term| {
-            let after = self.values(term.variable)[1];
+            let [before, after] = self.values(term.variable);
             self.changes(term.variable)
                 && match term.edge {
                     Edge::Any => true,
-                    Edge::Posedge => after == Value::Known(1),
-                    Edge::Negedge => after == Value::Known(0),
+                    Edge::Posedge => before == Value::Known(0) || after == Value::Known(1),
+                    Edge::Negedge => before == Value::Known(1) || after == Value::Known(0),
                 }
         })
     }
