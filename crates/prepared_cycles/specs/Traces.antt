@@ -63,7 +63,7 @@ abbrev pub rounds : List ℕ → ℕ
 rounds ns = 2 * (length ns / 16)
 
 module _ (s : List ℕ) (st : State) (ns : List ℕ) (xs : List Bool) (w : Lent) where
-  -- What the call answers: "23, 1 to 11, 31, 25", and then instant by instant.
+  -- What the call answers: 23, 1 to 11, 31, 25, and then instant by instant.
   unfoldable pub traceCycles : Cycled
   traceCycles = pick (hasRoom (rounds ns) w) (runCycles s st ns xs) (cycled 0 23 false st)
 

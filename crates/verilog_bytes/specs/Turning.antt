@@ -1,4 +1,5 @@
--- Bytes of the buffer that are put in front of others that stand there already: they are written behind, and then turned.
+-- Bytes of the buffer that are put in front of others that stand there already: these are moved on; where there is no room, the bytes are
+-- written behind, and then turned.
 use mathlib.Core.Path.{_≡_}
 use mathlib.Core.Bool.{_&&_}
 use mathlib.Core.List.{List, _++_}

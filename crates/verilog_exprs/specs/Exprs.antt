@@ -1,6 +1,6 @@
 -- Expressions read from a table of tokens and written as a sheet has them, for tables of any contents. One definition for each of
--- the grammar's readers (verilog_grammar, specs/Reader), in its order; an operator is written behind its first operand and turned in
--- front of it.
+-- the grammar's readers (verilog_grammar, specs/Reader), in its order; an operator is put in front of its first
+-- operand.
 use mathlib.Core.Bool.{Bool, false}
 use mathlib.Core.List.{List, [], _∷_}
 use Prim.Native.Nat.{ℕ, zero, suc, _+_, _%_}

@@ -61,7 +61,7 @@ spaced s rest = marks s (blanks 1 rest)
 unfoldable pub indented : ℕ → From → From
 indented level rest = blanks (2 * level) rest
 
--- "1 ~, 2 !, 3 &, 4 |, 5 ^, 6 +, 7 -, 8 ==, 9 <"
+-- "1 ~, 2 !"; "3 &, 4 |, 5 ^, 6 +, 7 -, 8 ==, 9 <"
 unfoldable pub signTokens : ℕ → From → From
 signTokens o rest =
     o is 1 then marks "~" rest else
