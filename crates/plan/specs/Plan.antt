@@ -78,6 +78,11 @@ fetchAt ws i p =
     (decode ws (getD ws (codePlace i p) 0) (getD ws (codePlace i p + 1) 0 % 256) (expressionAt ws (codePlace i p + 2) (codePlace i p + 3)))
     (Act (Go 0))
 
+-- The terms of the wait at a place of a thread; past the eighth thread there are none.
+unfoldable pub termsAt : List ℕ → ℕ → ℕ → EdgeTerms
+termsAt ws i p =
+    pick (ltb i 8) (termsFrom ws (slotOf (getD ws (codePlace i p + 2) 0)) (getD ws (codePlace i p + 1) 0 % 256)) (termsFrom ws 0 0)
+
 -- Does it wait?
 unfoldable pub waitsAt : List ℕ → ℕ → ℕ → Bool
 waitsAt ws i p = pick (ltb i 8) (eqb (getD ws (codePlace i p) 0) 0) false
@@ -104,6 +109,7 @@ sizeAt ws i = pick (ltb i 8) (getD ws (sizePlace i) 0) 0
 pub record Plan : Type 0 where
   pub node : ℕ → Node
   pub instruction : ℕ → ℕ → Instruction
+  pub terms : ℕ → ℕ → EdgeTerms
   pub waits : ℕ → ℕ → Bool
   pub wire : ℕ → Expression
   pub readers : ℕ → List Bool
@@ -120,6 +126,7 @@ planOf ws =
     record {
       node = nodeAt ws;
       instruction = fetchAt ws;
+      terms = termsAt ws;
       waits = waitsAt ws;
       wire = wireAt ws;
       readers = readersAt ws;

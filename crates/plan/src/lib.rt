@@ -192,6 +192,19 @@ pub fn fetch(plan: &PlanTable, thread: usize, place: u8) -> Instruction
     }
 }
 
+// The terms of the wait at a place of a thread.
+pub fn terms(plan: &PlanTable, thread: usize, place: u8) -> EdgeTerms
+    ensures { λ r. ⌜ r ≡ planOf (now (plan .entry)) .terms thread place ⌝ }
+{
+    if 8 <= thread {
+        return terms_from(plan, 0, 0);
+    }
+    let at = CODE + 1024 * thread + 4 * wide(place);
+    let count = low(plan[at + 1]);
+    let first = slot(plan[at + 2]);
+    terms_from(plan, first, count)
+}
+
 // Does the instruction at a place of a thread wait?
 pub fn waits(plan: &PlanTable, thread: usize, place: u8) -> bool
     ensures { λ r. ⌜ r ≡ planOf (now (plan .entry)) .waits thread place ⌝ }

@@ -2,7 +2,6 @@
 // fire (document 01, "The simulation cycle"). Each function equals its definition in specs/ for plans, cells and places of any
 // contents.
 use plan::Cells;
-use plan::Instruction;
 use plan::PlanTable;
 use pseudocode::EdgeTerms;
 ghost use mathlib.Core.Path.{_≡_};
@@ -86,10 +85,10 @@ fn terms_wake(terms: EdgeTerms, count: u8, v: usize, old: u64, new: u64) -> bool
 fn wakes(plan: &PlanTable, i: usize, p: u8, v: usize, old: u64, new: u64) -> bool
     ensures { λ r. ⌜ r ≡ wakes (planOf (now (plan .entry)) .instruction i p) v (valueOf old) (valueOf new) ⌝ }
 {
-    let instruction = plan::fetch(plan, i, p);
-    let Instruction::Wait(terms) = instruction else {
+    if !plan::waits(plan, i, p) {
         return false;
-    };
+    }
+    let terms = plan::terms(plan, i, p);
     terms_wake(terms, eight(terms.count), v, old, new)
 }
 
