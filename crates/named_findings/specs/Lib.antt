@@ -1,1 +1,3 @@
 pub mod Findings
+pub mod Items
+pub mod Claims

@@ -1,5 +1,9 @@
-// What breaks a rule of extraction, in words with the names of the variables: each function puts the words of its definition in specs/
-// into a lent buffer. The words without a variable are those of `findings`.
+// What breaks a rule of extraction: in words with the names of the variables, put into a lent buffer, and which item of a Verilog text it
+// is. Each function equals its definition in specs/. The words without a variable are those of `findings`.
+mod items;
+
+pub use items::item_of;
+pub use items::waits_before;
 use naming::put_name;
 use witness::Witness;
 use writing::put_decimal;

@@ -1,3 +1,4 @@
 pub mod Spotting
 pub mod Choosing
 pub mod Noting
+pub mod Faulting

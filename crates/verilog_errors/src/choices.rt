@@ -11,7 +11,7 @@ ghost use Rattle.verilog_errors.specs.Choices.{short, sample, reach, sto
 ghost use Rattle.verilog_errors.specs.Choices.{row, couldRow, choicesFrom, choiceWords};
 
 // The number of tokens as the reader takes it.
-fn short(n: usize) -> u16
+pub(crate) fn short(n: usize) -> u16
     ensures { λ r. ⌜ r ≡ short n ⌝ }
 {
     if n < 65536 {

@@ -22,7 +22,7 @@ pub(crate) fn size_at(text: &[u8], place: usize) -> usize
 }
 
 // A token between quotes.
-fn put_quoted(text: &[u8], place: usize, out: &mut [u8; 65536], pos: usize) -> usize
+pub(crate) fn put_quoted(text: &[u8], place: usize, out: &mut [u8; 65536], pos: usize) -> usize
     ensures { λ r. ⌜ filled (now (out .exit)) r ≡ puts (filled (now (out .entry)) pos) (quoted (now (text .entry)) place) ⌝ }
 {
     let n = size_at(text, place);

@@ -1,1 +1,3 @@
 pub mod Origins
+pub mod Placing
+pub mod Claims

@@ -16,9 +16,10 @@ use Rattle.verilog_names.specs.Head.{headOf}
 use Rattle.verilog_names.specs.Order.{targetOf}
 use Rattle.verilog_items.specs.Notes.{notes}
 use Rattle.verilog_items.specs.Items.{readIn}
-use Rattle.verilog_read.specs.Read.{wireAt, threadAt}
+use Rattle.verilog_read.specs.Read.{wireAt, threadAt, notesIn, numbersIn}
 use Rattle.verilog_labels.specs.Labels.{told, labels}
-use Rattle.verilog_origins.specs.Origins.{zeros, Reached, at, firstPast, declared, tokenAfter, tokenIn, placeIn, short, countOf, placeBy, originOf}
+use Rattle.verilog_origins.specs.Origins.{zeros, Reached, at, firstPast, declared, tokenAfter, tokenIn, placeBy, placeIn, namesBy}
+use Rattle.verilog_origins.specs.Origins.{namesFrom, short, countOf, originWith, originOf}
 
 -- ---- firstPast
 
@@ -48,47 +49,52 @@ module _ (step : ℕ → Text → Text) (place : ℕ) where
 
 -- ---- tokens and places
 
-module _ (ks ids table roles : List ℕ) (count head place : ℕ) {h : Reached}
-    (e : h ≡ firstPast (wireAt ks ids table roles count) place (capped count) 0 (filled (zeros 65536) head)) {n : ℕ}
-    (d : n ≡ capped count)
+module _ (ks ids table roles : List ℕ) (count place : ℕ) (t : Text) {h : Reached}
+    (e : h ≡ firstPast (wireAt ks ids table roles count) place (capped count) 0 t) {n : ℕ} (d : n ≡ capped count)
   where
     pub token-wire : h .token < n → {x m : ℕ} → x ≡ rowAt ids (h .token) → m ≡ count → {r : ℕ} → r ≡ targetOf ids roles (capped m) x
-        → r ≡ tokenIn ks ids table roles count head place
+        → r ≡ tokenIn ks ids table roles count t place
     unfolding tokenIn tokenAfter
     token-wire l p q g =
         let k : h .token < capped count = rw d at l in
         rw (← e, lt-ltb (h .token) (capped count) k) (rw (p, q) at g)
 
     pub token-thread : n ≤ h .token → {g : Reached} → g ≡ firstPast (threadAt ks table roles count) place (capped count) 0 (h .text)
-        → g .token ≡ tokenIn ks ids table roles count head place
+        → g .token ≡ tokenIn ks ids table roles count t place
     unfolding tokenIn tokenAfter
     token-thread l p =
         let k : capped count ≤ h .token = rw d at l in
         rw (← e, le-ltb (h .token) (capped count) k) (ap (λ (x : Reached). x .token) p)
 
-module _ (text ks ids places roles widths : List ℕ) (count place : ℕ) {m head : ℕ} {bytes : List ℕ} (q : m ≡ count)
-    (e : filled bytes head ≡ puts (filled (zeros 65536) 0) (headOf roles widths (capped m)))
+module _ (text ks ids places table : List ℕ) (count place : ℕ) {p : Put} {bs roles widths : List ℕ}
+    (g : notes (wrote p bs) roles widths ≡ readIn ks table count (zeros 65536) (zeros 16385) (zeros 16385)) {m head : ℕ} {bytes : List ℕ}
+    (q : m ≡ count) (e : filled bytes head ≡ puts (filled (zeros 65536) 0) (headOf roles widths (capped m)))
   where
-    head-is : head ≡ puts (filled (zeros 65536) 0) (headOf roles widths (capped count)) .at
-    head-is = ap (λ (t : Text). t .at) (rw q at e)
+    head-is : filled bytes head ≡ puts (filled (zeros 65536) 0) (headOf roles widths (capped count))
+    head-is = rw q at e
 
-    pub place-head : place < head → {r : ℕ} → r ≡ declared text place → r ≡ placeIn text ks ids places roles widths count place
-    unfolding placeIn
-    place-head l p = rw (← head-is, lt-ltb place head l) p
+    pub place-head : place < head → {r : ℕ} → r ≡ declared text place → r ≡ placeIn text ks ids places table count place
+    unfolding placeIn placeBy notesIn
+    place-head l d = rw (← g, ← head-is, lt-ltb place head l) d
 
-    pub place-body : head ≤ place → {k : ℕ} {table : List ℕ} → k ≡ count → table ≡ numbered ks ids roles (capped k) (zeros 16385)
-        → {t r : ℕ} → t ≡ tokenIn ks ids table roles count head place → r ≡ rowAt places t
-        → r ≡ placeIn text ks ids places roles widths count place
-    unfolding placeIn
-    place-body l u v w x = rw (← head-is, le-ltb place head l) (rw (w, v, u) at x)
+    pub place-body : head ≤ place → {t r : ℕ} → t ≡ tokenIn ks ids table roles count (filled bytes head) place → r ≡ rowAt places t
+        → r ≡ placeIn text ks ids places table count place
+    unfolding placeIn placeBy notesIn
+    place-body l w x = rw (← g, ← head-is, le-ltb place head l) (rw w at x)
 
 -- ---- origin
 
-pub origin-whole : (text : List ℕ) (place : ℕ) {ks ns ps bs rs ws : List ℕ} {n m : ℕ} {p : Put}
-    → Scanned text (zeros 16385) ks (zeros 16385) ns (zeros 16385) ps n → m ≡ short n
-    → notes (wrote p bs) rs ws ≡ readIn ks ns m (zeros 65536) (zeros 16385) (zeros 16385)
-    → {r : ℕ} → r ≡ placeIn text ks ns ps rs ws m place → r ≡ originOf text place
-unfolding originOf placeBy countOf
+pub names-whole : (ks ids : List ℕ) (count : ℕ) (old : List ℕ) {m n : ℕ} {first new bs rs ws : List ℕ} {p : Put} → m ≡ count
+    → first ≡ numbered ks ids (zeros 16385) (capped m) (zeros 16385)
+    → notes (wrote p bs) rs ws ≡ readIn ks first count (zeros 65536) (zeros 16385) (zeros 16385)
+    → n ≡ count → new ≡ numbered ks ids rs (capped n) old → new ≡ namesFrom ks ids count old
+unfolding namesFrom namesBy notesIn numbersIn
+names-whole ks ids count old e f g d h = rw (← (rw e at f), ← g) (rw d at h)
+
+pub origin-whole : (text : List ℕ) (place : ℕ) {ks ns ps table : List ℕ} {n m : ℕ}
+    → Scanned text (zeros 16385) ks (zeros 16385) ns (zeros 16385) ps n → m ≡ short n → table ≡ namesFrom ks ns m (zeros 16385)
+    → {r : ℕ} → r ≡ placeIn text ks ns ps table m place → r ≡ originOf text place
+unfolding originOf originWith countOf
 origin-whole text place s e g h =
     rw (← s .kinds-scanned, ← s .numbers-scanned, ← s .places-scanned, ← s .counted, ← e, ← g) h
 

@@ -1,1 +1,3 @@
 pub mod Origins
+pub mod Items
+pub mod Claims

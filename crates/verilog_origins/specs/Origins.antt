@@ -15,9 +15,8 @@ use Rattle.verilog_names.specs.Numbers.{numbered}
 use Rattle.verilog_names.specs.Head.{headOf}
 use Rattle.verilog_names.specs.Order.{targetOf}
 use Rattle.verilog_items.specs.Notes.{Notes}
-use Rattle.verilog_items.specs.Items.{readIn}
 use Rattle.verilog_labels.specs.Labels.{labels}
-use Rattle.verilog_read.specs.Read.{wireAt, threadAt}
+use Rattle.verilog_read.specs.Read.{wireAt, threadAt, notesIn, numbersIn}
 use Rattle.verilog_origins.specs.declared.Hit.{Hit}
 
 abbrev pub zeros : ℕ → List ℕ
@@ -53,17 +52,28 @@ module _ (ks ids table roles : List ℕ) (count : ℕ) where
       pick (ltb (h .token) (capped count)) (targetOf ids roles (capped count) (rowAt ids (h .token)))
       (firstPast (threadAt ks table roles count) place (capped count) 0 (h .text) .token)
 
-  unfoldable pub tokenIn : ℕ → ℕ → ℕ
-  tokenIn head place =
-      tokenAfter place (firstPast (wireAt ks ids table roles count) place (capped count) 0 (filled (zeros 65536) head))
+  -- From the text that ends with the head.
+  unfoldable pub tokenIn : Text → ℕ → ℕ
+  tokenIn t place = tokenAfter place (firstPast (wireAt ks ids table roles count) place (capped count) 0 t)
 
-unfoldable pub placeIn : List ℕ → List ℕ → List ℕ → List ℕ → List ℕ → List ℕ → ℕ → ℕ → ℕ
-placeIn text ks ids places roles widths count place =
-    let head = puts (filled (zeros 65536) 0) (headOf roles widths (capped count)) .at in
-    pick (ltb place head) (declared text place)
-    (rowAt places (tokenIn ks ids (numbered ks ids roles (capped count) (zeros 16385)) roles count head place))
+-- With the names' numbers, and what is noted while the module is read over them.
+unfoldable pub placeBy : List ℕ → List ℕ → List ℕ → List ℕ → List ℕ → ℕ → ℕ → Notes → ℕ
+placeBy text ks ids places table count place s =
+    let head = puts (filled (zeros 65536) 0) (headOf (s .roles) (s .widths) (capped count)) in
+    pick (ltb place (head .at)) (declared text place) (rowAt places (tokenIn ks ids table (s .roles) count head place))
 
--- ---- of a text: its tables, and what is noted while they are read
+unfoldable pub placeIn : List ℕ → List ℕ → List ℕ → List ℕ → List ℕ → ℕ → ℕ → ℕ
+placeIn text ks ids places table count place = placeBy text ks ids places table count place (notesIn ks count table)
+
+-- ---- the names' numbers as `verilog_read` has them: what declares them is read while each name has the number 0
+
+unfoldable pub namesBy : List ℕ → List ℕ → ℕ → List ℕ → Notes → List ℕ
+namesBy ks ids count table s = numbered ks ids (s .roles) (capped count) table
+
+unfoldable pub namesFrom : List ℕ → List ℕ → ℕ → List ℕ → List ℕ
+namesFrom ks ids count table = namesBy ks ids count table (notesIn ks count (numbersIn ks ids count (zeros 16385)))
+
+-- ---- of a text: its tables
 
 unfoldable pub short : ℕ → ℕ
 short n = pick (ltb n 65536) n 65535
@@ -74,12 +84,9 @@ table text rows = pick (overlong text) (zeros 16385) (stored rows (zeros 16385))
 unfoldable pub countOf : List ℕ → ℕ
 countOf text = short (pick (overlong text) 0 (length (tokens text)))
 
-unfoldable pub placeBy : List ℕ → ℕ → Notes → ℕ
-placeBy text place s =
-    placeIn text (table text (kinds text)) (table text (numbers text)) (table text (starts text)) (s .roles) (s .widths) (countOf text)
-    place
+unfoldable pub originWith : List ℕ → ℕ → List ℕ → List ℕ → List ℕ → ℕ → ℕ
+originWith text place ks ids places count = placeIn text ks ids places (namesFrom ks ids count (zeros 16385)) count place
 
 unfoldable pub originOf : List ℕ → ℕ → ℕ
 originOf text place =
-    placeBy text place
-    (readIn (table text (kinds text)) (table text (numbers text)) (countOf text) (zeros 65536) (zeros 16385) (zeros 16385))
+    originWith text place (table text (kinds text)) (table text (numbers text)) (table text (starts text)) (countOf text)

@@ -1,7 +1,9 @@
-// Which item of a Verilog text a byte of its sheet was written from: a declaration, an `assign` or an `always`. Each function equals its
-// definition in specs/, for every text and every place of a sheet.
+// Which item of a Verilog text a byte of its sheet was written from (a declaration, an `assign` or an `always`), and where the text has
+// what a refusal of extraction concerns. Each function equals its definition in specs/, for every text.
+mod items;
 mod steps;
 
+pub use items::place_of;
 use steps::capped;
 use steps::find_thread;
 use steps::find_wire;
@@ -13,13 +15,26 @@ use verilog_names::put_head;
 use verilog_names::target_of;
 use verilog_scan::scan;
 ghost use mathlib.Core.Path.{_≡_};
+ghost use Rattle.writing.specs.Buffer.{filled};
 ghost use Rattle.verilog_exprs.specs.Rows.{rowAt};
-ghost use Rattle.verilog_origins.specs.Origins.{declared, tokenIn, placeIn, originOf, short};
+ghost use Rattle.verilog_origins.specs.Origins.{declared, tokenIn, placeIn, namesFrom, originOf, short};
 
 // A token by whose bytes a sheet comes past a place, and the position behind them.
 pub struct Hit {
     pub token: usize,
     pub pos: usize,
+}
+
+// What a refusal of extraction concerns.
+pub enum Item {
+    // A variable by its number: where it is declared.
+    Variable(usize),
+    // The `assign` to a wire, by the wire's own number.
+    Assign(usize),
+    // A thread: its `always`.
+    Thread(usize),
+    // A wait, counted through all threads: its `@`.
+    Wait(usize),
 }
 
 // The number of tokens as the reader takes it.
@@ -68,52 +83,68 @@ fn declared(text: &[u8], n: usize) -> usize
     wide(places[n - 4])
 }
 
-// The token of the item that a byte behind the head was written from: the target of an `assign`, or the word `always`.
+// The token of the item that a byte behind the head, which is written, was written from: the target of an `assign`, or the word `always`.
 fn token_of(
     kinds: &[u8; 16385],
     numbers: &[u32; 16385],
     table: &[u32; 16385],
     roles: &[u8; 16385],
     count: u16,
+    out: &mut [u8; 65536],
     head: usize,
     place: usize,
 ) -> usize
-    ensures { λ r. ⌜ r ≡ tokenIn (now (kinds .entry)) (now (numbers .entry)) (now (table .entry)) (now (roles .entry)) count head place ⌝ }
+    ensures { λ r. ⌜ r ≡ tokenIn (now (kinds .entry)) (now (numbers .entry)) (now (table .entry)) (now (roles .entry)) count
+        (filled (now (out .entry)) head) place ⌝ }
 {
-    let mut out = [0u8; 65536];
-    let h = find_wire(kinds, numbers, table, roles, count, &mut out, head, place);
+    let h = find_wire(kinds, numbers, table, roles, count, out, head, place);
     let token = h.token;
     if token < capped(count) {
         let id = number_at(numbers, token);
         return target_of(numbers, roles, wide(count), id);
     }
-    let g = find_thread(kinds, table, roles, count, &mut out, h.pos, place);
+    let g = find_thread(kinds, table, roles, count, out, h.pos, place);
     g.token
 }
 
-// The place of the item, by the tables of the text.
+// The place of the item, by the tables of the text and the numbers of its names.
 fn item_place(
     text: &[u8],
     kinds: &[u8; 16385],
     numbers: &[u32; 16385],
     places: &[u16; 16385],
-    roles: &[u8; 16385],
-    widths: &[u8; 16385],
+    table: &[u32; 16385],
     count: u16,
     place: usize,
 ) -> usize
     ensures { λ r. ⌜ r ≡ placeIn (now (text .entry)) (now (kinds .entry)) (now (numbers .entry)) (now (places .entry))
-        (now (roles .entry)) (now (widths .entry)) count place ⌝ }
+        (now (table .entry)) count place ⌝ }
 {
+    let mut parts = [0u8; 65536];
+    let mut roles = [0u8; 16385];
+    let mut widths = [0u8; 16385];
+    read(kinds, table, count, &mut parts, &mut roles, &mut widths);
     let mut out = [0u8; 65536];
-    let head = put_head(roles, widths, wide(count), &mut out, 0);
+    let head = put_head(&roles, &widths, wide(count), &mut out, 0);
     if place < head {
         return declared(text, place);
     }
-    let mut table = [0u32; 16385];
-    number(kinds, numbers, roles, wide(count), &mut table);
-    let t = token_of(kinds, numbers, &table, roles, count, head, place);
+    let t = token_of(kinds, numbers, table, &roles, count, &mut out, head, place);
     place_at(places, t)
+}
+
+// The numbers of the names, as the reader gives them: what declares them is read while each name has the number 0.
+fn number_names(kinds: &[u8; 16385], numbers: &[u32; 16385], count: u16, table: &mut [u32; 16385])
+    ensures { λ _. ⌜ now (table .exit) ≡ namesFrom (now (kinds .entry)) (now (numbers .entry)) count (now (table .entry)) ⌝ }
+{
+    let none = [0u8; 16385];
+    let mut first = [0u32; 16385];
+    number(kinds, numbers, &none, wide(count), &mut first);
+    let mut parts = [0u8; 65536];
+    let mut roles = [0u8; 16385];
+    let mut widths = [0u8; 16385];
+    read(kinds, &first, count, &mut parts, &mut roles, &mut widths);
+    number(kinds, numbers, &roles, wide(count), table);
 }
 
 // The place in a text of the item that a byte of its sheet was written from.
@@ -124,18 +155,7 @@ pub fn origin(text: &[u8], place: usize) -> usize
     let mut numbers = [0u32; 16385];
     let mut places = [0u16; 16385];
     let count = short(scan(text, &mut kinds, &mut numbers, &mut places));
-    let mut out = [0u8; 65536];
-    let mut roles = [0u8; 16385];
-    let mut widths = [0u8; 16385];
-    read(&kinds, &numbers, count, &mut out, &mut roles, &mut widths);
-    item_place(
-        text,
-        &kinds,
-        &numbers,
-        &places,
-        &roles,
-        &widths,
-        count,
-        place,
-    )
+    let mut table = [0u32; 16385];
+    number_names(&kinds, &numbers, count, &mut table);
+    item_place(text, &kinds, &numbers, &places, &table, count, place)
 }

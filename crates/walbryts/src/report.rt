@@ -3,27 +3,28 @@
 // places from `overview`.
 use crate::files::flush;
 use crate::say::say;
+use crate::texts;
 use libc::STDERR_FILENO;
 use witness::Witness;
 use writing::put_byte;
 use writing::put_word;
 
 // The file that a word names.
-pub fn say_file(index: usize) {
+pub fn say_file(fd: i32, index: usize) {
     let mut path = io::buffer();
     let n = os::arg(index, &mut path);
-    io::write_all(STDERR_FILENO, &path[..n]);
+    io::write_all(fd, &path[..n]);
 }
 
 // A line and a column of a file.
-pub fn say_spot(index: usize, line: usize, column: usize) {
-    say_file(index);
-    say(STDERR_FILENO, b":#:#: ", line, column);
+pub fn say_spot(fd: i32, index: usize, line: usize, column: usize) {
+    say_file(fd, index);
+    say(fd, b":#:#: ", line, column);
 }
 
 // Something wrong with hexadecimal text.
 pub fn wrong_hex(index: usize, line: usize, column: usize, error: u8) {
-    say_spot(index, line, column);
+    say_spot(STDERR_FILENO, index, line, column);
     let mut text = [0u8; 65536];
     let p = findings::put_hex_error(error, &mut text, 0);
     flush(STDERR_FILENO, &text, p);
@@ -31,7 +32,7 @@ pub fn wrong_hex(index: usize, line: usize, column: usize, error: u8) {
 
 // Something wrong with a line of inputs.
 pub fn wrong_inputs(index: usize, line: usize, column: usize, error: u8) {
-    say_spot(index, line, column);
+    say_spot(STDERR_FILENO, index, line, column);
     let mut text = [0u8; 65536];
     let p = findings::put_input_error(error, &mut text, 0);
     flush(STDERR_FILENO, &text, p);
@@ -39,7 +40,7 @@ pub fn wrong_inputs(index: usize, line: usize, column: usize, error: u8) {
 
 // Something wrong with a line of names.
 pub fn wrong_names(index: usize, line: usize, column: usize, error: u8) {
-    say_spot(index, line, column);
+    say_spot(STDERR_FILENO, index, line, column);
     let mut text = [0u8; 65536];
     let p = findings::put_name_error(error, &mut text, 0);
     flush(STDERR_FILENO, &text, p);
@@ -47,7 +48,7 @@ pub fn wrong_names(index: usize, line: usize, column: usize, error: u8) {
 
 // Something wrong with a file as a whole, or in a cycle.
 pub fn wrong_with(index: usize, reason: &[u8], cycle: usize) {
-    say_file(index);
+    say_file(STDERR_FILENO, index);
     say(STDERR_FILENO, reason, cycle, 0);
 }
 
@@ -77,7 +78,7 @@ fn say_found(sheet: &[u8], number: u8, place: usize) {
 
 // Where in its file a byte of the sheet stands.
 fn say_place(index: usize, view: &[u8], hex: bool, place: usize) {
-    say_file(index);
+    say_file(STDERR_FILENO, index);
     let mut text = [0u8; 65536];
     let p = overview::put_place(view, hex, place, &mut text, 0);
     flush(STDERR_FILENO, &text, p);
@@ -102,20 +103,26 @@ fn say_witness(fd: i32, sheet: &[u8], w: Witness, names: &[u8; 2560]) {
     flush(fd, &text, p);
 }
 
-// A sheet that is read and not extracted: the number, the witness and what is allowed.
-pub fn unextracted(fd: i32, sheet: &[u8], names: &[u8; 2560]) {
-    let w = witness::witness_of(sheet);
-    say_number(fd, w.number);
+// The witness and what is allowed.
+fn say_broken(fd: i32, sheet: &[u8], w: Witness, names: &[u8; 2560]) {
     io::write_all(fd, b"  found: ");
     say_witness(fd, sheet, w, names);
     io::write_all(fd, b"\n");
     say_allowed(fd, w.number);
 }
 
+// A module that is read and not extracted: the number, in a text the place and its line, the witness and what is allowed.
+pub fn unextracted(fd: i32, sheet: &[u8], names: &[u8; 2560]) {
+    let w = witness::witness_of(sheet);
+    texts::say_rule(fd, 0, sheet, w);
+    say_broken(fd, sheet, w, names);
+}
+
 // The same on standard error, behind the file.
 pub fn refuse_extraction(index: usize, sheet: &[u8], names: &[u8; 2560]) {
-    wrong_with(index, b": ", 0);
-    unextracted(STDERR_FILENO, sheet, names);
+    let w = witness::witness_of(sheet);
+    texts::say_rule(STDERR_FILENO, index, sheet, w);
+    say_broken(STDERR_FILENO, sheet, w, names);
 }
 
 // ---- runs

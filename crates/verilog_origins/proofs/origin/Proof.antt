@@ -5,10 +5,11 @@ use Rattle.verilog_origins.proofs.origin.Statement.{statement}
 use Rattle.verilog_origins.proofs.origin.Tie as tie
 
 returns : tie.Need-returns
-returns c = origin-whole _ _
-    (c .before .before .before .before .before .before .before .before .before .before .before .before .before .scan .ensures)
-    (c .before .before .before .before .before .before .before .before .before .before .before .before .short .ensures)
-    (c .before .before .before .before .before .before .read .ensures) (c .item-place .ensures)
+returns c =
+    let at-names = c .before .before .before .before .before in
+    let at-short = at-names .before .before .before .before in
+    origin-whole _ _ (at-short .before .scan .ensures) (at-short .short .ensures) (at-names .number-names .ensures)
+    (c .item-place .ensures)
 
 pub origin-spec : {M : Type 1} → statement M
 origin-spec =

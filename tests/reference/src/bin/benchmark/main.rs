@@ -3,7 +3,8 @@
 //! of the repeats, each ratio the median of the ratios within a repeat, in processor time but for
 //! the builds. Where registers or wires at the end differ, it says so and the status is 1.
 //!
-//! `benchmark profile events|expressions MODULE` runs the library alone, for a profiler.
+//! `benchmark reading [REPEATS]` prints the table of texts alone, which needs no Verilator and no
+//! Yosys. `benchmark profile events|expressions MODULE` runs the library alone, for a profiler.
 
 use std::process::ExitCode;
 
@@ -14,6 +15,7 @@ use reference::stimulus::{Rows, bench_rows};
 mod clock;
 mod icarus;
 mod machine;
+mod reading;
 mod table;
 mod verilator;
 mod walbryts;
@@ -36,6 +38,9 @@ fn main() -> ExitCode {
     if arguments.first().is_some_and(|word| word == "profile") {
         return profile(&arguments[1..]);
     }
+    if arguments.first().is_some_and(|word| word == "reading") {
+        return texts(&arguments[1..]);
+    }
     let repeats =
         arguments.first().map_or(REPEATS, |n| n.parse().expect("a number of repeats"));
     let only = arguments.get(1..).unwrap_or_default();
@@ -53,6 +58,25 @@ fn main() -> ExitCode {
     }
     println!("{}", machine::description());
     print!("{}", table::tables(&rows, repeats));
+    reading(repeats)
+}
+
+/// The table of texts alone.
+fn texts(arguments: &[String]) -> ExitCode {
+    let repeats =
+        arguments.first().map_or(REPEATS, |n| n.parse().expect("a number of repeats"));
+    reading(repeats)
+}
+
+/// The table of texts.
+fn reading(repeats: usize) -> ExitCode {
+    match reading::measured(repeats) {
+        Ok(texts) => print!("{}", table::reading(&texts)),
+        Err(error) => {
+            eprintln!("reading: {error}");
+            return ExitCode::FAILURE;
+        }
+    }
     ExitCode::SUCCESS
 }
 

@@ -2,7 +2,11 @@
 
 use std::fmt::Write;
 
+use crate::reading::Read;
 use crate::{CYCLES, FEWER, MANY};
+
+/// A text is to be read in less, in seconds.
+const AIM: f64 = 5e-3;
 
 /// A module's seconds: of one cycle, of one extraction, of builds, of a million cycles; one for
 /// each repeat.
@@ -176,6 +180,25 @@ fn million(rows: &[Measured], text: &mut String) {
         ];
         line(text, &cells);
     }
+}
+
+/// Texts of 16,384 bytes.
+pub fn reading(texts: &[Read]) -> String {
+    let columns = ["text of 16,384 bytes", "Walbryts, µs", "aim, µs", "", "Icarus, µs", "ratio"];
+    let mut text = String::from("\n");
+    head(&mut text, "Reading of text", &columns);
+    for read in texts {
+        let cells = [
+            read.name.into(),
+            micro(&read.ours),
+            micro(&[AIM]),
+            met(AIM / median(&read.ours), 1.0),
+            micro(&read.icarus),
+            times(ratio(&read.icarus, &read.ours)),
+        ];
+        line(&mut text, &cells);
+    }
+    text
 }
 
 // ---- figures

@@ -1,5 +1,5 @@
 //! Verilator: a module compiled to C++ and by the C++ compiler, driven by a loop over the inputs in
-//! memory.
+//! memory. A module around it has the registers as outputs.
 
 use std::fmt::Write;
 use std::fs;
@@ -16,7 +16,6 @@ use crate::icarus::folder;
 /// A module with its inputs.
 pub struct Verilator {
     folder: PathBuf,
-    name: &'static str,
     /// `--timing` where a thread has more than one wait.
     timing: &'static str,
 }
@@ -47,18 +46,19 @@ impl Verilator {
             fs::write(folder.join(name), bytes).map_err(|e| format!("{name}: {e}"))
         };
         write("module.v", bench.verilog.as_bytes())?;
+        write("top.v", around(bench.name, module).as_bytes())?;
         write("main.cpp", program(module, rows.len()).as_bytes())?;
         write("rows.bin", &numbers)?;
         let waits = module.threads.iter().map(|thread| text::waits(thread).len());
         let timing = if waits.max() > Some(1) { "--timing" } else { "--no-timing" };
-        Ok(Verilator { folder, name: bench.name, timing })
+        Ok(Verilator { folder, timing })
     }
 
     /// Compiles it from nothing; the seconds.
     pub fn build(&self) -> Result<f64, String> {
         let _ = fs::remove_dir_all(self.folder.join("obj_dir"));
-        let names = ["--prefix", "Vdut", "--top-module", self.name];
-        let files = ["module.v", "main.cpp"];
+        let names = ["--prefix", "Vdut", "--top-module", "top"];
+        let files = ["top.v", "module.v", "main.cpp"];
         let arguments = [&FLAGS[..], &[self.timing], &names, &files].concat();
         let before = Instant::now();
         run(&self.folder, "verilator", &arguments)?;
@@ -73,6 +73,28 @@ impl Verilator {
         let seconds = seconds.ok_or(format!("Verilator prints: {out}"))?;
         Ok((words.map(str::to_owned).collect(), seconds))
     }
+}
+
+/// A module with the registers as outputs.
+fn around(name: &str, module: &Module) -> String {
+    let inputs = 1..usize::from(module.inputs);
+    let registers = 0..usize::from(module.registers);
+    let ports: Vec<String> = inputs.clone().map(|v| format!("i{v}")).collect();
+    let outputs: Vec<String> = registers.clone().map(|r| format!("r{r}")).collect();
+    let mut text =
+        format!("module top (clk, {}, {});\n  input clk;\n", ports.join(", "), outputs.join(", "));
+    let mut lent = String::from(".clk(clk)");
+    for v in inputs {
+        writeln!(text, "  input [{}:0] i{v};", module.widths[v] - 1).expect("text");
+        write!(lent, ", .i{v}(i{v})").expect("text");
+    }
+    writeln!(text, "  {name} dut ({lent});").expect("text");
+    for r in registers {
+        let width = module.widths[usize::from(module.inputs) + r];
+        writeln!(text, "  output [{}:0] r{r};\n  assign r{r} = dut.r{r};", width - 1).expect("text");
+    }
+    text.push_str("endmodule\n");
+    text
 }
 
 /// Reads the inputs, runs the cycles, prints their seconds and the registers.
