@@ -12,9 +12,11 @@ use nextstate::Clocked;
 use nextstate::Registers;
 use plan::Cells;
 use plan::PlanTable;
+use values::Value;
 ghost use mathlib.Core.Path.{_≡_};
 ghost use Prim.Native.Nat.{_+_, _*_, _/_, _≤_};
 ghost use lib.ListN.{length};
+ghost use Rattle.values.specs.Planes.{valueAt};
 ghost use Rattle.plan.specs.Plan.{planOf};
 ghost use Rattle.nextstate.specs.CycleRun.{refused};
 ghost use Rattle.clock_steps.specs.Taking.{stand};
@@ -33,13 +35,30 @@ fn wide(b: u8) -> usize
 
 // ---- 31 and 25
 
+// The value in slot `v` of two planes.
+fn item_at(value: &[u32], unknown: &[bool], v: usize) -> Value
+    ensures { λ r. ⌜ r ≡ valueAt (now (value .entry)) (now (unknown .entry)) v ⌝ }
+{
+    if value.len() <= v {
+        return Value::Unknown;
+    }
+    if unknown.len() <= v {
+        return Value::Unknown;
+    }
+    if unknown[v] {
+        Value::Unknown
+    } else {
+        Value::Known(value[v])
+    }
+}
+
 // Do `n` values from a place on fit the widths of the variables from `from` on?
-fn values_fit<'a>(
+fn values_fit(
     plan: &PlanTable,
     from: usize,
     n: usize,
-    value: &'a [u32],
-    unknown: &'a [bool],
+    value: &[u32],
+    unknown: &[bool],
     at: usize,
 ) -> bool
     requires { ⌜ from + n ≤ 1024 ⌝ }
@@ -48,10 +67,7 @@ fn values_fit<'a>(
 {
     let mut v: usize = 0;
     while v < n {
-        if !values::fits(
-            plan::width(plan, from + v),
-            values::value_at(value, unknown, at + v),
-        ) {
+        if !values::fits(plan::width(plan, from + v), item_at(value, unknown, at + v)) {
             return false;
         }
         v += 1;
@@ -102,7 +118,9 @@ fn registers_fit(plan: &PlanTable, before: Registers) -> bool
 {
     let first = plan::inputs(plan);
     let n = plan::registers(plan);
-    if !values_fit(plan, first, n, &before.value, &before.unknown, 0) {
+    let value = before.value;
+    let unknown = before.unknown;
+    if !values_fit(plan, first, n, &value, &unknown, 0) {
         return false;
     }
     places_wait(plan, &before.places)
@@ -115,7 +133,9 @@ fn inputs_fit(plan: &PlanTable, given: Inputs) -> bool
     if wide(given.count) + 1 != plan::inputs(plan) {
         return false;
     }
-    values_fit(plan, 1, upper(plan), &given.value, &given.unknown, 0)
+    let value = given.value;
+    let unknown = given.unknown;
+    values_fit(plan, 1, upper(plan), &value, &unknown, 0)
 }
 
 // ---- values into cells
@@ -141,14 +161,14 @@ fn put_registers<'a>(
 }
 
 // The inputs' cells, from input 1 on.
-fn put_items<'a>(n: usize, value: &'a [u32], unknown: &'a [bool], at: usize, cells: &mut Cells)
+fn put_items(n: usize, value: &[u32], unknown: &[bool], at: usize, cells: &mut Cells)
     requires { ⌜ n ≤ 15 ⌝ }
     requires { ⌜ at + n ≤ 18446744073709551615 ⌝ }
     ensures { λ _. ⌜ now (cells .exit) ≡ putItems (now (value .entry)) (now (unknown .entry)) at n (now (cells .entry)) ⌝ }
 {
     let mut v: usize = 0;
     while v < n {
-        let a = cells::store(values::value_at(value, unknown, at + v));
+        let a = cells::store(item_at(value, unknown, at + v));
         put_cell(cells, 1 + v, a);
         v += 1;
     }
@@ -275,8 +295,10 @@ pub fn cycle(
     }
     let mut cells = [4294967296u64; 4176];
     let mut places = before.places;
+    let value = given.value;
+    let unknown = given.unknown;
     hand(plan, before, &mut cells);
-    put_items(upper(plan), &given.value, &given.unknown, 0, &mut cells);
+    put_items(upper(plan), &value, &unknown, 0, &mut cells);
     settle(plan, &mut cells);
     rise(plan, lent, table, numbers, &mut cells, &mut places);
     settle(plan, &mut cells);
@@ -340,14 +362,14 @@ fn turn(
 }
 
 // A cycle for each row of 16, the clock's in front, up to the first that is refused.
-fn run_rows<'a>(
+fn run_rows(
     plan: &PlanTable,
     lent: &PlanTable,
     table: &RowTable,
     numbers: &RowNumbers,
     before: Registers,
-    value: &'a [u32],
-    unknown: &'a [bool],
+    value: &[u32],
+    unknown: &[bool],
 ) -> Rounds
     ensures { λ r. ⌜
         r
@@ -378,14 +400,14 @@ fn run_rows<'a>(
 // Many cycles by tables that are filled: whole rows of 16 inputs, each with its flag; a cycle for each row, from what the last one
 // left, up
 // to the first that is refused.
-pub fn cycles<'a>(
+pub fn cycles(
     plan: &PlanTable,
     lent: &PlanTable,
     table: &RowTable,
     numbers: &RowNumbers,
     before: Registers,
-    value: &'a [u32],
-    unknown: &'a [bool],
+    value: &[u32],
+    unknown: &[bool],
 ) -> Rounds
     ensures { λ r. ⌜
         r
@@ -440,14 +462,14 @@ fn put_row(c: Clocked, at: usize, out: &mut [u64])
 }
 
 // A cycle for each row, up to the first that is refused; what each gave is put.
-fn trace_rows<'a>(
+fn trace_rows(
     plan: &PlanTable,
     lent: &PlanTable,
     table: &RowTable,
     numbers: &RowNumbers,
     before: Registers,
-    value: &'a [u32],
-    unknown: &'a [bool],
+    value: &[u32],
+    unknown: &[bool],
     out: &mut [u64],
 ) -> Rounds
     requires { ⌜ 72 * (length (now value) / 16) ≤ length (now out) ⌝ }
@@ -485,14 +507,14 @@ fn trace_rows<'a>(
 }
 
 // Many cycles as `cycles` runs them, and what each of them gave in 72 words of its own; 23 where not so many are lent.
-pub fn trace<'a>(
+pub fn trace(
     plan: &PlanTable,
     lent: &PlanTable,
     table: &RowTable,
     numbers: &RowNumbers,
     before: Registers,
-    value: &'a [u32],
-    unknown: &'a [bool],
+    value: &[u32],
+    unknown: &[bool],
     out: &mut [u64],
 ) -> Rounds
     ensures { λ r. ⌜

@@ -13,7 +13,7 @@ use Rattle.events.proofs.Cycle.{Below, at-end, before, below-suc}
 use Rattle.tables.specs.Readers.{atMost}
 use Rattle.tables.proofs.Readers.{atMost-most}
 use Rattle.nodes.specs.Rows.{waitsTo, sizeOf, rowsTo}
-use Rattle.cycles.specs.Answers.{firstsTo}
+use Rattle.cycles.specs.Lent.{firstsTo}
 
 pub size-most : (sizes : List ℕ) (i : ℕ) → sizeOf sizes i ≤ 256
 unfolding sizeOf
