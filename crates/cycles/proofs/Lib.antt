@@ -1,7 +1,6 @@
 pub mod Masks
-pub mod Firsts
+pub mod Writing
 pub mod Sheets
-pub mod Contexts
 pub mod Preparing
 pub mod Rows
 pub mod Claims

@@ -22,6 +22,7 @@ use Rattle.state.proofs.Rows.{length-listOf, getD-listOf}
 use Rattle.soundness.proofs.Soundness.{sound}
 use Rattle.plan.specs.Plan.{Plan, planOf}
 use Rattle.plan_fill.specs.Filling.{filledPlan}
+use Rattle.plan_fill.specs.Holding.{Holds}
 use Rattle.plan_fill.proofs.Holding.{read-holds}
 use Rattle.nextstate.specs.Rules.{writes}
 use Rattle.nextstate.specs.Nodes.{nodeAt}
@@ -33,9 +34,12 @@ use Rattle.clock_nodes.specs.Copying.{copyAll, lowAll}
 use Rattle.clock_steps.specs.Taking.{atMost}
 use Rattle.clock_steps.specs.Numbers.{fillFrom, fillBelow, fillRows, numberRows, rowsTo, waitsIn}
 use Rattle.clock_steps.proofs.RowNumbers.{most-same}
+use Rattle.clock_check.specs.Judging.{tablesFitOn, widthTable}
+use Rattle.clock_check.specs.Claims.{Writers, JudgedIsFit, WidthsAreTheNodes}
+use Rattle.clock_check.proofs.Claims.{judged-is-fit, widths-are-the-nodes}
 use Rattle.cycles.specs.Preparing.{tablesNumber, preparedNumber, Filled, filled, writtenBy, fillLent, sheetPlan, filledIn, filledOr}
 use Rattle.cycles.specs.Preparing.{prepared}
-use Rattle.cycles.specs.Lent.{LentJudged, Judges}
+use Rattle.cycles.specs.Written.{Written, WrittenBy}
 use Rattle.cycles.proofs.Sheets.{Numbered, number-same, Own, own}
 
 -- ---- the masks of the registers that are written
@@ -126,7 +130,8 @@ lent-filled ws ns us rs written ls ts ms a b c d e = rw (b, d, e, c, a)
 
 module _ (s ns rs : List ℕ) (t : Filled) (e : length ns ≡ 16384) (f : length rs ≡ 1056) (r : SheetRead)
     (w : r ≡ sheetAnswer (readSheet (located s) s)) (n : ℕ) (q : n ≡ numberIn (expressions s)) (z : n ≡ 0)
-    (written sizes : List ℕ) (u : Bool) (j : Judges s (r .layout) ns rs written sizes u)
+    (written : List ℕ) (noted : WrittenBy s (r .layout) written) (ws : List ℕ) (k : ws ≡ filledPlan s (r .layout) (replicate 25212 0))
+    (u : Bool) (j : u ≡ tablesFitOn (planOf ws) written ns rs)
   where
     abbrev mine : Own s r
     mine = own s r w n q z
@@ -134,21 +139,38 @@ module _ (s ns rs : List ℕ) (t : Filled) (e : length ns ≡ 16384) (f : length
     abbrev m : Module Expr
     m = trees s (mine .sheet) .contents
 
-    x : LentJudged m ns rs written sizes u
-    x = j (mine .sheet) m (mine .place) (mine .same) (mine .unbroken) (mine .layout)
+    x : Written m written
+    x = noted (mine .sheet) m (mine .place) (mine .same) (mine .layout)
+
+    here : ws ≡ sheetPlan s
+    here = k ∙ ap (λ (l : SheetRead). filledPlan s (l .layout) (replicate 25212 0)) w
+
+    holds : Holds m (planOf (sheetPlan s))
+    holds = read-holds s m (replicate 25212 0) (mine .same) (length-replicate {A = ℕ} 25212 0)
+
+    fit-is : u ≡ tablesFit m (tablesIn ns rs)
+    unfolding JudgedIsFit Writers
+    fit-is =
+        j
+        ∙ ap (λ (l : List ℕ). tablesFitOn (planOf l) written ns rs) here
+        ∙ judged-is-fit m (sound s (mine .same)) (planOf (sheetPlan s)) holds written (x .writers) ns rs
 
     pub lent-wrong : u ≡ false → Answer s ns rs t 24 t
-    lent-wrong h = wrong-tables s ns rs t e f m (mine .extractable) (sym (x .fit) ∙ h)
+    lent-wrong h = wrong-tables s ns rs t e f m (mine .extractable) (sym fit-is ∙ h)
 
     pub lent-right :
-        u ≡ true → (ws : List ℕ) → ws ≡ filledPlan s (r .layout) (replicate 25212 0) → (v : Filled) →
-        v ≡ fillLent ns sizes rs written (filled ws (t .lent) (t .table) (t .numbers)) → Answer s ns rs t 0 v
-    unfolding filledIn
-    lent-right h ws k v p =
-        let here : ws ≡ sheetPlan s = k ∙ ap (λ (l : SheetRead). filledPlan s (l .layout) (replicate 25212 0)) w in
-        let holds = read-holds s m (replicate 25212 0) (mine .same) (length-replicate {A = ℕ} 25212 0) in
+        u ≡ true → (us : List ℕ) → us ≡ widthTable (planOf ws) ns → (v : Filled) →
+        v ≡ fillLent ns us rs written (filled ws (t .lent) (t .table) (t .numbers)) → Answer s ns rs t 0 v
+    unfolding filledIn WidthsAreTheNodes
+    lent-right h us g v p =
         let y : Filled = filled (sheetPlan s) (t .lent) (t .table) (t .numbers) in
-        all-filled s ns rs t e f m (mine .extractable) v (sym (x .fit) ∙ h)
+        let fits : tablesFitOn (planOf (sheetPlan s)) written ns rs ≡ true =
+        sym (j ∙ ap (λ (l : List ℕ). tablesFitOn (planOf l) written ns rs) here) ∙ h in
+        let widths : us ≡ widthsFrom m (listOf 4096 (nodeAt ns)) [] =
+        g
+        ∙ ap (λ (l : List ℕ). widthTable (planOf l) ns) here
+        ∙ widths-are-the-nodes m (sound s (mine .same)) (planOf (sheetPlan s)) holds written ns rs fits in
+        all-filled s ns rs t e f m (mine .extractable) v (sym fit-is ∙ h)
         (p
-        ∙ ap (λ (ws : List ℕ). fillLent ns sizes rs written (filled ws (t .lent) (t .table) (t .numbers))) here
-        ∙ lent-same m written (x .small) (x .writers) ns sizes rs y (holds .threads) (sound s (mine .same) .threads-most) (x .sizes h))
+        ∙ ap (λ (ws : List ℕ). fillLent ns us rs written (filled ws (t .lent) (t .table) (t .numbers))) here
+        ∙ lent-same m written (x .small) (x .writers) ns us rs y (holds .threads) (sound s (mine .same) .threads-most) widths)

@@ -1,5 +1,5 @@
 -- The number of a sheet, and the module of one that extraction accepts. Assumes nothing.
-use mathlib.Core.Path.{_≡_, refl, sym, _∙_}
+use mathlib.Core.Path.{_≡_, refl, ap, _∙_}
 use mathlib.Core.List.{List}
 use Prim.Native.Nat.{ℕ, _≤_}
 use native.Mathlib.Omega.{arith}
@@ -8,14 +8,14 @@ use Rattle.sheet.specs.Expression.{Expr, located}
 use Rattle.sheet.specs.Module.{Module, Sheet, readSheet, read}
 use Rattle.sheet.specs.Answers.{sheetAnswer, layoutOf}
 use Rattle.sheet.specs.declared.SheetRead.{SheetRead}
-use Rattle.sheet.proofs.Trees.{trees}
+use Rattle.sheet.proofs.Numbers.{numbered-no, located-numbered, sheet-numbered}
+use Rattle.sheet.proofs.Trees.{read-located, mapRes, trees}
 use Rattle.nextstate.specs.Rules.{rule}
 use Rattle.nextstate.proofs.Numbers.{extracted-rule}
 use Rattle.nextstate.specs.Extraction.{Tables, extracted, expressions}
 use Rattle.nextstate.specs.CycleRun.{extractable}
 use Rattle.extraction.specs.Extracting.{numberIn}
 use Rattle.extraction.proofs.Extracting.{refused-some}
-use Rattle.simulator.proofs.Reading.{ReadAs, accepted, refused, read-as}
 
 -- ---- the number of a sheet, 1 to 21, or 0
 
@@ -70,19 +70,21 @@ pub record Own (s : List ℕ) (r : SheetRead) : Type 0 where
   pub extractable : extractable s ≡ ok (trees s sheet .contents)
   pub unbroken : rule (trees s sheet .contents) ≡ 0
 
-module _ (s : List ℕ) (r : SheetRead) (e : r ≡ sheetAnswer (readSheet (located s) s)) (n : ℕ) (q : n ≡ numberIn (expressions s)) (z : n ≡ 0) where
-  pub own : Own s r
-  unfolding extractable
-  own = by (read-as s r e)
-    where
-      by : ReadAs s r → Own s r
-      by (accepted x h m o l) =
-          record {
-            sheet = x;
-            place = h;
-            same = m;
-            layout = l;
-            extractable = extracted-own (read s) extracted m n z (number-same s n q);
-            unbroken = extracted-unbroken (read s) m n z (number-same s n q);
-          }
-      by (refused k p h o b l) = absurd (refused-never (read s) extracted h b n z (number-same s n q))
+pub own : (s : List ℕ) (r : SheetRead) → r ≡ sheetAnswer (readSheet (located s) s) → (n : ℕ) → n ≡ numberIn (expressions s) → n ≡ 0 → Own s r
+unfolding extractable sheetAnswer mapRes
+own s r e n q z = by (readSheet (located s) s) refl
+  where
+    by : (x : Res (Sheet ℕ)) → readSheet (located s) s ≡ x → Own s r
+    by (ok x) h =
+        let m = rw h at (read-located s) in
+        record {
+          sheet = x;
+          place = h;
+          same = m;
+          layout = ap (λ (t : SheetRead). t .layout) e ∙ ap (λ (t : Res (Sheet ℕ)). sheetAnswer t .layout) h;
+          extractable = extracted-own (read s) extracted m n z (number-same s n q);
+          unbroken = extracted-unbroken (read s) m n z (number-same s n q);
+        }
+    by (no k p) h =
+        let l = numbered-no (sheet-numbered (located s) (located-numbered s) s) h .0 in
+        absurd (refused-never (read s) extracted (rw h at (read-located s)) l n z (number-same s n q))

@@ -1,4 +1,4 @@
 pub mod Many
+pub mod Written
 pub mod Preparing
 pub mod Claims
-pub mod Lent

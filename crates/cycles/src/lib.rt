@@ -1,19 +1,22 @@
 // The cycle run (document 01, "Extraction and the cycle run"): a sheet and lent tables are judged and laid out once, and clock cycles are
 // worked out by them.
-mod judging;
-
 use clock_nodes::RowTable;
 use clock_run::Rounds;
 use clock_steps::RowNumbers;
 use events::Inputs;
-use judging::judge;
 use nextstate::Clocked;
 use nextstate::Registers;
 use plan::PlanTable;
+use sheet::Layout;
 ghost use mathlib.Core.Path.{_≡_};
+ghost use mathlib.Core.Bool.{false, _||_};
+ghost use Prim.Native.Nat.{ℕ, _<_};
+ghost use lib.ListN.{getD};
+ghost use Rattle.masks.specs.Masks.{bits};
 ghost use Rattle.nextstate.specs.CycleRun.{refused, cycleRun};
 ghost use Rattle.cycles.specs.Many.{cyclesRun, ended};
 ghost use Rattle.cycles.specs.Preparing.{filled, fillLent, preparedNumber, prepared};
+ghost use Rattle.cycles.specs.Written.{WrittenBy};
 ghost use Rattle.cycles.specs.Claims.{cycledOf};
 
 // What `run` gives: how many cycles were accepted, the number that refused the next, 0 where none was; registers and places as the
@@ -29,6 +32,42 @@ pub struct Cycled {
 }
 
 // ---- preparing
+
+// The registers that each thread writes, plainly or later.
+fn joined(plain: &[u32; 8], later: &[u32; 8]) -> [u32; 8]
+    ensures { λ t. ⌜
+        ((i r : ℕ) → i < 8 → getD (bits (getD t i 0)) r false
+        ≡ (getD (bits (getD (now (plain .entry)) i 0)) r false || getD (bits (getD (now (later .entry)) i 0)) r false))
+        ⌝ }
+{
+    let mut out = [0u32; 8];
+    let mut i: usize = 0;
+    while i < 8 {
+        out[i] = masks::union(plain[i], later[i]);
+        i += 1;
+    }
+    out
+}
+
+// The registers that each thread of a sheet writes, as masks.
+fn written_of(sheet: &[u8], layout: Layout) -> [u32; 8]
+    ensures { λ r. ⌜ WrittenBy (now (sheet .entry)) layout r ⌝ }
+{
+    let mut code = [0u16; 4096];
+    let lengths = pseudocode::compile(sheet, layout.threads, layout.body, &mut code);
+    let mut plain = [0u32; 8];
+    let mut later = [0u32; 8];
+    rules::writers(
+        sheet,
+        &code,
+        &lengths,
+        layout.inputs,
+        layout.threads,
+        &mut plain,
+        &mut later,
+    );
+    joined(&plain, &later)
+}
 
 // Fills the lent nodes in a plan's form, the rows of all waits, and the row of each place. `written` has the registers that each thread
 // writes.
@@ -85,23 +124,14 @@ pub fn prepare(
     }
     let read = sheet::read(sheet);
     let layout = read.layout;
-    let mut sizes = [0u8; 4096];
-    let judged = judge(sheet, layout, nodes, rows, &mut sizes);
-    if !judged.fit {
-        return 24;
-    }
+    let written = written_of(sheet, layout);
     let mut own = [0u32; 25212];
     plan_fill::fill(sheet, layout, &mut own);
-    fill_lent(
-        &own,
-        nodes,
-        rows,
-        &sizes,
-        &judged.written,
-        lent,
-        table,
-        numbers,
-    );
+    let mut sizes = [0u8; 4096];
+    if !clock_check::tables_fit(&own, &written, nodes, rows, &mut sizes) {
+        return 24;
+    }
+    fill_lent(&own, nodes, rows, &sizes, &written, lent, table, numbers);
     *plan = own;
     0
 }

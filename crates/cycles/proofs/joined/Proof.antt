@@ -1,10 +1,10 @@
--- `cycles::judging::joined` meets its contract. The loop: the threads so far joined. Assumes nothing.
+-- `cycles::joined` meets its contract. The loop: the threads so far joined. Assumes nothing.
 use borrow.Author.Needs.{needs}
 use Prim.Native.Nat.{_-_, _≤_}
 use native.Mathlib.Omega.{arith}
 use Rattle.cycles.proofs.Masks.{Joined, joined-none, joined-more, joined-all}
-use Rattle.cycles.proofs.judging.joined.Statement.{statement}
-use Rattle.cycles.proofs.judging.joined.Tie as tie
+use Rattle.cycles.proofs.joined.Statement.{statement}
+use Rattle.cycles.proofs.joined.Tie as tie
 
 abbrev Inv-loop : tie.InvT-loop
 Inv-loop plain later out₀ i₀ out i = (i ≤ 8) × Joined plain later i out
