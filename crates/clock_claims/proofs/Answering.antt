@@ -40,12 +40,12 @@ module _ (cs : List ℕ) (first : ℕ) where
   flags-are zero xs = refl
   flags-are (suc n) xs = rw (flags-are n xs)
 
-  wires-are : (n : ℕ) (ns : List ℕ) → wireNumbersTo cs first n ns ≡ setTo (λ k. numberOf (cellAt cs (first + k))) n ns
+  pub wires-are : (n : ℕ) (ns : List ℕ) → wireNumbersTo cs first n ns ≡ setTo (λ k. numberOf (cellAt cs (first + k))) n ns
   unfolding wireNumbersTo setTo
   wires-are zero ns = refl
   wires-are (suc n) ns = rw (wires-are n ns)
 
-  unsure-are : (n : ℕ) (xs : List Bool) → wireFlagsTo cs first n xs ≡ setTo (λ k. isUnknown (cellAt cs (first + k))) n xs
+  pub unsure-are : (n : ℕ) (xs : List Bool) → wireFlagsTo cs first n xs ≡ setTo (λ k. isUnknown (cellAt cs (first + k))) n xs
   unfolding wireFlagsTo setTo
   unsure-are zero xs = refl
   unsure-are (suc n) xs = rw (unsure-are n xs)

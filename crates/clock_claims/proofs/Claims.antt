@@ -2,7 +2,7 @@
 use mathlib.Core.Path.{_≡_, refl}
 use mathlib.Core.Bool.{Bool, true, false}
 use mathlib.Core.List.{List}
-use Prim.Native.Nat.{ℕ, _/_}
+use Prim.Native.Nat.{ℕ, _*_, _/_}
 use lib.Dec.{ltb}
 use lib.ListN.{length}
 use Rattle.values.specs.Values.{pick}
@@ -56,5 +56,5 @@ pub trace-is-the-runs : TraceIsTheRuns
 unfolding TraceIsTheRuns traceOn traceRows
 trace-is-the-runs m z ruled q h ns us rs written y count k ws ls ts ms room g w vs xs inputs i out =
     rw (registers-fit-same m z q h g)
-    (same-traced (ltb (length out / 72) (length vs / 16)) (registersFit m g) (wholeRows vs xs) _ _ _ _ _
+    (same-traced (ltb (length out / 88) (2 * (length vs / 16))) (registersFit m g) (wholeRows vs xs) _ _ _ _ _
     (λ e f. trace-are m z ruled q h ns us rs written y count k ws ls ts ms room g w vs xs inputs (i f) e out))

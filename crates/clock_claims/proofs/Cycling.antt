@@ -99,6 +99,7 @@ module _ (m : Module Expr) (z : Sound m) (q : plan.Plan) (h : Holds m q) (ns us 
 
     pub record Turned (b : book.Book) (s t : Stand) : Type 0 where
       pub risen : Risen m T (book.settled m b) (stand (settle q (s .cells)) (s .places)) t
+      pub mid : Settled m q (wired m z q h) (book.settle m (b .values)) (settle q (s .cells))
       pub low : (v : ℕ) → v < I + R → getD (settle q (s .cells)) v 0 ≡ getD (s .cells) v 0
       pub end : Settled m q (wired m z q h) (book.settle m (book.rise m T (book.settled m b) .values)) (settle q (t .cells))
       pub high : (v : ℕ) → v < I + R → getD (settle q (t .cells)) v 0 ≡ getD (t .cells) v 0
@@ -140,6 +141,7 @@ module _ (m : Module Expr) (z : Sound m) (q : plan.Plan) (h : Holds m q) (ns us 
       turned =
           record {
             risen = up;
+            mid = before;
             low = λ v o. settled-kept m q (wired m z q h) (b .values) (s .cells) start v o;
             end = settled m q (wired m z q h) (book.rise m T (book.settled m b) .values) (t .cells) after;
             high = λ v o. settled-kept m q (wired m z q h) (book.rise m T (book.settled m b) .values) (t .cells) after v o;

@@ -4,6 +4,7 @@ pub mod Worth
 pub mod Answering
 pub mod Holding
 pub mod Handing
+pub mod Rows
 pub mod Cycling
 pub mod Fits
 pub mod Repeating

@@ -3,13 +3,13 @@ use mathlib.Core.Path.{_≡_, refl, sym, ap, _∙_}
 use mathlib.Core.Logic.{_≢_}
 use mathlib.Core.Bool.{Bool, true, false, _&&_}
 use mathlib.Core.List.{List}
-use Prim.Native.Nat.{ℕ, zero, suc, _+_, _-_, _/_, _^_, _≤_, _<_}
+use Prim.Native.Nat.{ℕ, zero, suc, _+_, _-_, _*_, _/_, _^_, _≤_, _<_}
 use native.Mathlib.Nat.{mod-lt}
 use native.Mathlib.Decide.{decLt}
 use native.Mathlib.Omega.{arith}
 use borrow.Author.Tests.{lt-ltb, le-ltb, ne-eqb, eq-eqb}
 use lib.Dec.{ltb, eqb}
-use lib.ListN.{length, getD, replicate}
+use lib.ListN.{length, getD, replicate, length-replicate}
 use lib.Seq.{ext-getD}
 use Rattle.values.specs.declared.Value.{Value}
 use Rattle.values.specs.declared.Value.the-variants.{Known, Unknown}
@@ -34,7 +34,7 @@ use Rattle.nextstate.specs.Extraction.{Tables}
 use Rattle.nextstate.specs.Book as book
 use Rattle.nextstate.specs.CycleRun.{tablesIn, registersFit, upperInputsFit, handed, clocked, given, refused, clockedIn}
 use Rattle.nextstate.specs.Ruled.{Ruled}
-use Rattle.settling.proofs.Settle.{settle-other, settle-agree, settle-fits}
+use Rattle.settling.proofs.Settle.{settle-other, settle-agree, settle-fits, clock-apart}
 use Rattle.clock_nodes.specs.Copying.{copyAll, lowAll}
 use Rattle.clock_steps.specs.Settling.{settle}
 use Rattle.clock_steps.specs.Taking.{Stand, stand, atMost}
@@ -42,16 +42,20 @@ use Rattle.clock_steps.specs.Numbers.{numberRows, fillRows}
 use Rattle.clock_nodes.specs.Reach.{Counted}
 use Rattle.clock_steps.specs.Claims.{Room, Stands}
 use Rattle.clock_steps.proofs.RowNumbers.{most-same}
-use Rattle.clock_run.specs.Running.{valuesFit, upperOf, putItems, handOn, numbersTo, flagsTo, answerOn, turnOn, settledOn}
+use Rattle.clock_run.specs.Running.{valuesFit, upperOf, putItems, handOn, numbersTo, flagsTo, wireNumbersTo, wireFlagsTo, answerOn}
+use Rattle.clock_run.specs.Running.{turnOn, settledOn}
 use Rattle.clock_run.specs.declared.Rounds.{Rounds}
 use Rattle.clock_run.specs.Rounds.{endedAt, lastOn, rowAt, rowFits, rowOn, roundsFrom, registersOf, repeatFrom}
-use Rattle.clock_run.specs.Traces.{putRow, traced, settledRow, traceFrom, repeatTrace}
+use Rattle.clock_run.specs.Traces.{wordOf, putWords, rowWord, putBoth, TurnTraced, turnTraced, highOn, traceTurn, traced, takenOn, fedOn}
+use Rattle.clock_run.specs.Traces.{traceFrom}
+use Rattle.clock_claims.specs.Traced.{cycleWord, lowBook, lowRow, highRow, repeatTrace}
 use Rattle.clock_claims.specs.Claims.{Whole, Ready, RowInputs}
 use Rattle.clock_claims.proofs.Lists.{setTo, to-length, to-at, to-above, to-twice}
-use Rattle.clock_claims.proofs.Answering.{numbers-are, flags-are}
+use Rattle.clock_claims.proofs.Answering.{numbers-are, flags-are, wires-are, unsure-are}
+use Rattle.clock_claims.proofs.Rows.{words-same, word-same}
 use Rattle.clock_claims.proofs.Holding.{lent, upper-is, width-same}
 use Rattle.clock_claims.proofs.Handing.{base, marked-value, handed-past, hand-are, hand-long, hand-clock, hand-register, fed}
-use Rattle.clock_claims.proofs.Handing.{fed-are, fed-long}
+use Rattle.clock_claims.proofs.Handing.{fed-are, fed-long, fed-input}
 use Rattle.clock_claims.proofs.Handing.{fed-clock, fed-past, fed-value}
 use Rattle.clock_claims.proofs.Fits.{handed-fits, first-waits, rise-fits}
 use Rattle.clock_claims.proofs.Cycling.{Turned, turned, cell-is, value-small, given-is, next-waits}
@@ -421,6 +425,130 @@ module _ (m : Module Expr) (z : Sound m) (ruled : Ruled m) (q : plan.Plan) (h : 
       unfolding rowOn
       row-is = ap (λ (l : List ℕ). turnOn q P tab numbers (stand l (s .places))) (fed-are m z vs xs (rowAt r) (s .cells) (x .long) q h)
 
+      -- ---- the words of its two rows
+
+      abbrev settled-low : List ℕ
+      settled-low = settle q cs
+
+      abbrev d : Clocked
+      d = clockedIn m T old a
+
+      fed-cell : (v : ℕ) → v < I - 1 → getD cs (1 + v) 0 ≡ cellOf (inputOf a v)
+      fed-cell v u = fed-input m z vs xs (rowAt r) (s .cells) (x .long) v u ∙ ap cellOf (sym (given-rows .item r v o u))
+
+      low-input : (v : ℕ) → v < I - 1 → getD settled-low (1 + v) 0 ≡ cellOf (inputOf a v)
+      low-input v u = turn .low (1 + v) (omega arith) ∙ fed-cell v u
+
+      low-register : (j : ℕ) → j < R → getD settled-low (I + j) 0 ≡ marked (getD (c .value) j 0) (getD (c .unknown) j false)
+      low-register j u = turn .low (I + j) (omega arith) ∙ mine-too j u
+
+      low-clock : (v : ℕ) → v ≢ 0 → v < I + R → handed m old a .values v ≡ book.put (handed m old a .values) 0 (Known 0) v
+      unfolding book.put
+      low-clock v e u = rw (ne-eqb v 0 e)
+
+      low-wire : (w : ℕ) → w < length (m .wires) → cellOf (cellAt settled-low (I + R + w)) ≡ cellOf (lowBook m old a .values (wireVariable m w))
+      unfolding lowBook book.settled wireVariable variables
+      low-wire w u =
+          let v = I + R + w in
+          ap cellOf
+          (turn .mid .value v (omega (arith, z .variables))
+          ∙ ap (λ (f : ℕ → Value). f v) settled-same
+          ∙ clock-apart m z ruled (handed m old a .values) (book.put (handed m old a .values) 0 (Known 0)) low-clock v
+          (λ e. omega (arith, z .inputs-some)) (omega (arith, z .variables)))
+
+      unwritten : (v : ℕ) → v < I → someThread m (λ i. writes m i v) ≡ false
+      unfolding someThread
+      unwritten v l = below-none (λ i. writes m i v) N (λ i u. by i u (writes m i v) refl)
+        where
+          by : (i : ℕ) → i < N → (w : Bool) → writes m i v ≡ w → w ≡ false
+          by i u true e = absurd (omega (arith, lent m z q h y .only i v u e .0))
+          by i u false e = refl
+
+      high-input : (v : ℕ) → v < I - 1 → getD ds (1 + v) 0 ≡ cellOf (inputOf a v)
+      high-input v u =
+          turn .high (1 + v) (omega arith)
+          ∙ turn .risen .cell (1 + v) (omega (arith, z .inputs-most))
+          ∙ rw (unwritten (1 + v) (omega arith)) (low-input v u)
+
+      wire-list : e .wire ≡ setTo (λ w. numberOf (cellAt ds (I + R + w))) (length (m .wires)) (replicate 32 0)
+      unfolding answerOn
+      wire-list =
+          ap (λ (i : ℕ). wireNumbersTo ds (i + q .registers) (atMost 32 (q .wires)) (replicate 32 0)) (h .inputs)
+          ∙ ap (λ (n : ℕ). wireNumbersTo ds (I + n) (atMost 32 (q .wires)) (replicate 32 0)) (h .registers)
+          ∙ ap (λ (n : ℕ). wireNumbersTo ds (I + R) (atMost 32 n) (replicate 32 0)) (h .wires)
+          ∙ ap (λ (n : ℕ). wireNumbersTo ds (I + R) n (replicate 32 0)) (most-same 32 (length (m .wires)) (z .wires-most))
+          ∙ wires-are ds (I + R) (length (m .wires)) (replicate 32 0)
+
+      unsure-list : e .unsure ≡ setTo (λ w. isUnknown (cellAt ds (I + R + w))) (length (m .wires)) (replicate 32 true)
+      unfolding answerOn
+      unsure-list =
+          ap (λ (i : ℕ). wireFlagsTo ds (i + q .registers) (atMost 32 (q .wires)) (replicate 32 true)) (h .inputs)
+          ∙ ap (λ (n : ℕ). wireFlagsTo ds (I + n) (atMost 32 (q .wires)) (replicate 32 true)) (h .registers)
+          ∙ ap (λ (n : ℕ). wireFlagsTo ds (I + R) (atMost 32 n) (replicate 32 true)) (h .wires)
+          ∙ ap (λ (n : ℕ). wireFlagsTo ds (I + R) n (replicate 32 true)) (most-same 32 (length (m .wires)) (z .wires-most))
+          ∙ unsure-are ds (I + R) (length (m .wires)) (replicate 32 true)
+
+      high-wire : (w : ℕ) → w < length (m .wires) →
+          cellOf (cellAt ds (I + R + w)) ≡ marked (getD (d .wire) w 0) (getD (d .unsure) w false)
+      high-wire w u =
+          let n : getD (d .wire) w 0 ≡ numberOf (cellAt ds (I + R + w)) =
+          ap (λ (k : Clocked). getD (k .wire) w 0) (sym answer-is)
+          ∙ ap (λ (l : List ℕ). getD l w 0) wire-list
+          ∙ to-at (λ w. numberOf (cellAt ds (I + R + w))) 0 (replicate 32 0) (length (m .wires)) w u
+          (omega (arith, z .wires-most, length-replicate {A = ℕ} 32 0)) in
+          let f : getD (d .unsure) w false ≡ isUnknown (cellAt ds (I + R + w)) =
+          ap (λ (k : Clocked). getD (k .unsure) w false) (sym answer-is)
+          ∙ ap (λ (l : List Bool). getD l w false) unsure-list
+          ∙ to-at (λ w. isUnknown (cellAt ds (I + R + w))) false (replicate 32 true) (length (m .wires)) w u
+          (omega (arith, z .wires-most, length-replicate {A = Bool} 32 true)) in
+          rw (n, f) (sym (value-again (cellAt ds (I + R + w))))
+
+      counts-are : (clock : ℕ) (b : Stand) (k : ℕ) →
+          rowWord q clock b k ≡ wordOf (I + R) (I + R + length (m .wires)) clock (b .cells) (b .places) k
+      unfolding rowWord
+      counts-are clock b k = rw (h .inputs, h .registers, h .wires)
+
+      low-word : (k : ℕ) → rowWord q 0 (stand settled-low (s .places)) k ≡ lowRow m old a k
+      unfolding lowRow
+      low-word k =
+          counts-are 0 (stand settled-low (s .places)) k
+          ∙ word-same m 0 a (λ j. marked (getD (c .value) j 0) (getD (c .unknown) j false))
+          (λ w. cellOf (lowBook m old a .values (wireVariable m w))) settled-low (s .places) low-input low-register low-wire k
+          ∙ ap
+          (λ (ps : List ℕ). cycleWord m 0 a (λ j. marked (getD (c .value) j 0) (getD (c .unknown) j false))
+          (λ w. cellOf (lowBook m old a .values (wireVariable m w))) ps k)
+          (x .places)
+
+      high-word : (k : ℕ) → rowWord q 1 (stand ds (t .places)) k ≡ highRow m d a k
+      unfolding highRow
+      high-word k =
+          counts-are 1 (stand ds (t .places)) k
+          ∙ word-same m 1 a (λ j. marked (getD (d .value) j 0) (getD (d .unknown) j false))
+          (λ w. marked (getD (d .wire) w 0) (getD (d .unsure) w false)) ds (t .places) high-input (held-settled .mine) high-wire k
+          ∙ ap
+          (λ (ps : List ℕ). cycleWord m 1 a (λ j. marked (getD (d .value) j 0) (getD (d .unknown) j false))
+          (λ w. marked (getD (d .wire) w 0) (getD (d .unsure) w false)) ps k)
+          (held-next .places)
+
+      fed-row : fedOn q P tab numbers g vs xs r s ≡ next
+      fed-row = ap (λ (l : List ℕ). stand l (s .places)) (fed-are m z vs xs (rowAt r) (s .cells) (x .long) q h)
+
+      traced-row : (ws : List ℕ) →
+          traceTurn q P tab numbers (176 * r) (fedOn q P tab numbers g vs xs r s) ws
+          ≡ turnTraced (stand ds (t .places)) (putBoth (lowRow m old a) (highRow m d a) (176 * r) ws)
+      unfolding traceTurn highOn settledOn turnOn putBoth
+      traced-row ws =
+          ap (λ (b : Stand). traceTurn q P tab numbers (176 * r) b ws) fed-row
+          ∙ ap (turnTraced (stand ds (t .places)))
+          (words-same (rowWord q 1 (stand ds (t .places))) (highRow m d a) (176 * r + 88) 88 high-word
+          (putWords (rowWord q 0 (stand settled-low (s .places))) (176 * r) 88 ws)
+          ∙ ap (putWords (highRow m d a) (176 * r + 88) 88)
+          (words-same (rowWord q 0 (stand settled-low (s .places))) (lowRow m old a) (176 * r) 88 low-word ws))
+
+      taken-next : takenOn q g (r + 1) (stand ds (t .places)) ≡ d
+      unfolding takenOn
+      taken-next = rw (ne-eqb (r + 1) 0 (λ e. omega arith)) answer-both
+
     -- ---- the rows
 
     off-is : (o : Registers) (a : Inputs) → registersFit m o ≡ true → upperInputsFit m a ≡ false → clockedIn m T o a ≡ refused 25 o
@@ -486,64 +614,67 @@ module _ (m : Module Expr) (z : Sound m) (ruled : Ruled m) (q : plan.Plan) (h : 
         (held-first e)
         first-last
 
-    -- ---- with the words of each
+    -- ---- with the rows of each
 
-    settled-row : (r : ℕ) (o : r < length vs / 16) (c : Clocked) (s : Stand) (x : Held c s) (w : upperInputsFit m (inputs r) ≡ true) →
-        settledRow q P tab numbers g vs xs r s ≡ stand (ds r o c s x w) (t r o c s x w .places)
-    unfolding settledOn
-    settled-row r o c s x w = ap (settledOn q P tab numbers) (row-is r o c s x w)
-
-    trace-same : (n r : ℕ) (c : Clocked) (s : Stand) (us : List ℕ) → r + n ≡ length vs / 16 → Held c s →
-        traceFrom q P tab numbers g vs xs n r c s us ≡ repeatTrace (clockedIn m T) inputs n r c us
+    trace-same : (n r : ℕ) (c : Clocked) (s : Stand) (us : List ℕ) → r + n ≡ length vs / 16 → Held c s → takenOn q g r s ≡ c →
+        traceFrom q P tab numbers g vs xs n r s us ≡ repeatTrace m (clockedIn m T) inputs n r c us
     unfolding traceFrom repeatTrace rowFits refused
-    trace-same zero r c s us l x = refl
-    trace-same (suc n) r c s us l x =
-        by (upperInputsFit m (inputs r)) refl (λ d f vs y. trace-same n (r + 1) d f vs (omega arith) y)
+    trace-same zero r c s us l x p = ap (λ (k : Clocked). traced (endedAt r 0 k) us) p
+    trace-same (suc n) r c s us l x p =
+        by (upperInputsFit m (inputs r)) refl (λ e f vs y p. trace-same n (r + 1) e f vs (omega arith) y p)
       where
         o : r < length vs / 16
         o = omega arith
 
-        row : Stand
-        row = settledRow q P tab numbers g vs xs r s
+        turned-row : TurnTraced
+        turned-row = traceTurn q P tab numbers (176 * r) (fedOn q P tab numbers g vs xs r s) us
 
-        d : Clocked
-        d = clockedIn m T (registersOf c) (inputs r)
+        e : Clocked
+        e = clockedIn m T (registersOf c) (inputs r)
+
+        after : List ℕ
+        after = putBoth (lowRow m (registersOf c) (inputs r)) (highRow m e (inputs r)) (176 * r) us
 
         Same : Type 0
         Same =
             pick (valuesFit q 1 vs xs (rowAt r) (upperOf q))
-            (traceFrom q P tab numbers g vs xs n (r + 1) (answerOn q g row) row (putRow r (answerOn q g row) us))
-            (traced (endedAt r 25 c) us)
-            ≡ pick (eqb (d .number) 0) (repeatTrace (clockedIn m T) inputs n (r + 1) d (putRow r d us))
-            (traced (endedAt r (d .number) c) us)
+            (traceFrom q P tab numbers g vs xs n (r + 1) (turned-row .stood) (turned-row .words))
+            (traced (endedAt r 25 (takenOn q g r s)) us)
+            ≡ pick (eqb (e .number) 0) (repeatTrace m (clockedIn m T) inputs n (r + 1) e after) (traced (endedAt r (e .number) c) us)
 
         Next : Type 0
-        Next = (e : Clocked) (f : Stand) (vs' : List ℕ) → Held e f →
-            traceFrom q P tab numbers g vs xs n (r + 1) e f vs' ≡ repeatTrace (clockedIn m T) inputs n (r + 1) e vs'
+        Next = (k : Clocked) (f : Stand) (vs' : List ℕ) → Held k f → takenOn q g (r + 1) f ≡ k →
+            traceFrom q P tab numbers g vs xs n (r + 1) f vs' ≡ repeatTrace m (clockedIn m T) inputs n (r + 1) k vs'
 
         on : upperInputsFit m (inputs r) ≡ true → Next → Same
         on w ih =
             let f = stand (ds r o c s x w) (t r o c s x w .places) in
             rw (row-same r o ∙ w)
             (ap
-            (λ (u : Stand). traceFrom q P tab numbers g vs xs n (r + 1) (answerOn q g u) u (putRow r (answerOn q g u) us))
-            (settled-row r o c s x w)
-            ∙ ap (λ (v : Clocked). traceFrom q P tab numbers g vs xs n (r + 1) v f (putRow r v us)) (answer-both r o c s x w)
-            ∙ ih d f (putRow r d us) (held-settled r o c s x w)
+            (λ (u : TurnTraced). traceFrom q P tab numbers g vs xs n (r + 1) (u .stood) (u .words))
+            (traced-row r o c s x w us)
+            ∙ ih e f after (held-settled r o c s x w) (taken-next r o c s x w)
             ∙ sym
             (ap
-            (λ (k : ℕ). pick (eqb k 0) (repeatTrace (clockedIn m T) inputs n (r + 1) d (putRow r d us)) (traced (endedAt r k c) us))
+            (λ (k : ℕ). pick (eqb k 0) (repeatTrace m (clockedIn m T) inputs n (r + 1) e after) (traced (endedAt r k c) us))
             (number-next r o c s x w)))
 
         off : upperInputsFit m (inputs r) ≡ false → Same
-        off w = rw (row-same r o ∙ w, off-is (registersOf c) (inputs r) (x .right) w)
+        off w =
+            rw (row-same r o ∙ w, off-is (registersOf c) (inputs r) (x .right) w)
+            (ap (λ (k : Clocked). traced (endedAt r 25 k) us) p)
 
         by : (u : Bool) → upperInputsFit m (inputs r) ≡ u → Next → Same
         by true w ih = on w ih
         by false w ih = off w
 
+    first-taken : takenOn q g 0 (stand (handOn q g (base m z q h g)) (g .places)) ≡ refused 0 g
+    unfolding takenOn
+    first-taken = refl
+
     pub trace-are : registersFit m g ≡ true → (us : List ℕ) →
-        traceFrom q P tab numbers g vs xs (length vs / 16) 0 (refused 0 g) (stand (handOn q g (base m z q h g)) (g .places)) us
-        ≡ repeatTrace (clockedIn m T) inputs (length vs / 16) 0 (refused 0 g) us
+        traceFrom q P tab numbers g vs xs (length vs / 16) 0 (stand (handOn q g (base m z q h g)) (g .places)) us
+        ≡ repeatTrace m (clockedIn m T) inputs (length vs / 16) 0 (refused 0 g) us
     trace-are e us =
         trace-same (length vs / 16) 0 (refused 0 g) (stand (handOn q g (base m z q h g)) (g .places)) us (omega arith) (held-first e)
+        first-taken

@@ -3,7 +3,7 @@
 use mathlib.Core.Path.{_≡_}
 use mathlib.Core.Bool.{Bool, true, false}
 use mathlib.Core.List.{List, []}
-use Prim.Native.Nat.{ℕ, _+_, _-_, _/_, _^_, _≤_, _<_}
+use Prim.Native.Nat.{ℕ, _+_, _-_, _*_, _/_, _^_, _≤_, _<_}
 use lib.Dec.{ltb}
 use lib.ListN.{length, getD}
 use Rattle.values.specs.Values.{pick}
@@ -28,8 +28,9 @@ use Rattle.clock_steps.specs.Numbers.{numberRows, fillRows}
 use Rattle.clock_nodes.specs.Reach.{Counted}
 use Rattle.clock_steps.specs.Claims.{Room}
 use Rattle.clock_run.specs.Running.{cycleOn}
-use Rattle.clock_run.specs.Traces.{traced, traceOn, repeatTrace}
+use Rattle.clock_run.specs.Traces.{traced, traceOn}
 use Rattle.clock_run.specs.Rounds.{endedAt, rowAt, cyclesOn, repeatFrom}
+use Rattle.clock_claims.specs.Traced.{repeatTrace}
 
 -- Registers as every caller has them: 32 numbers of 32 bits with their flags, and eight places.
 pub record Whole (g : Registers) : Type 0 where
@@ -71,15 +72,16 @@ CyclesAreTheRuns =
     (endedAt 0 25 (refused 25 g)))
     (endedAt 0 31 (refused 31 g))
 
--- With each cycle's registers, places and wires in words of its own.
+-- With the two rows of each cycle: the low one has the inputs, the clock 0, registers and places as before and the wires settled, the high
+-- one the inputs, the clock 1 and exactly what the cycle run gives.
 unfoldable pub TraceIsTheRuns : Type 0
 TraceIsTheRuns =
     (m : Module Expr) → Sound m → Ruled m → (q : plan.Plan) → Holds m q → (ns us rs written : List ℕ) → Ready m ns us rs written →
     (count : ℕ) → Counted rs count → (ws ls ts ms : List ℕ) → Room ws ls ts ms → (g : Registers) → Whole g →
     (vs : List ℕ) (xs : List Bool) (inputs : ℕ → Inputs) → (wholeRows vs xs ≡ true → RowInputs m vs xs inputs) → (out : List ℕ) →
     traceOn q (plan.nodeAt (copyAll ns us count ws)) (fillRows ns (lowAll ns count ls) rs q written ts) (numberRows q ms) g vs xs out
-    ≡ pick (ltb (length out / 72) (length vs / 16)) (traced (endedAt 0 23 (refused 23 g)) out)
+    ≡ pick (ltb (length out / 88) (2 * (length vs / 16))) (traced (endedAt 0 23 (refused 23 g)) out)
     (pick (registersFit m g)
-    (pick (wholeRows vs xs) (repeatTrace (clockedIn m (tablesIn ns rs)) inputs (length vs / 16) 0 (refused 0 g) out)
+    (pick (wholeRows vs xs) (repeatTrace m (clockedIn m (tablesIn ns rs)) inputs (length vs / 16) 0 (refused 0 g) out)
     (traced (endedAt 0 25 (refused 25 g)) out))
     (traced (endedAt 0 31 (refused 31 g)) out))

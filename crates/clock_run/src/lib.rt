@@ -14,7 +14,7 @@ use plan::Cells;
 use plan::PlanTable;
 use values::Value;
 ghost use mathlib.Core.Path.{_≡_};
-ghost use Prim.Native.Nat.{_+_, _*_, _/_, _≤_};
+ghost use Prim.Native.Nat.{_+_, _*_, _/_, _≤_, _<_};
 ghost use lib.ListN.{length};
 ghost use Rattle.values.specs.Planes.{valueAt};
 ghost use Rattle.plan.specs.Plan.{planOf};
@@ -24,7 +24,7 @@ ghost use Rattle.clock_run.specs.Running.{valuesFit, waitsAt, placesWait
 ghost use Rattle.clock_run.specs.Running.{putItems, handOn, numbersTo, flagsTo, wireNumbersTo, wireFlagsTo, answerOn, cycleOn};
 ghost use Rattle.clock_run.specs.Running.{turnOn};
 ghost use Rattle.clock_run.specs.Rounds.{lastOn, endedAt, roundsOn, cyclesOn};
-ghost use Rattle.clock_run.specs.Traces.{wordOf, putWords, traceRows, traceOn};
+ghost use Rattle.clock_run.specs.Traces.{wordOf, putWords, turnTraced, traceTurn, takenOn, traced, traceRows, traceOn};
 
 // A byte as a place.
 fn wide(b: u8) -> usize
@@ -424,7 +424,7 @@ pub fn cycles(
     run_rows(plan, lent, table, numbers, before, value, unknown)
 }
 
-// ---- traces: each cycle's registers, places and wires as 72 words
+// ---- traces: two rows of 88 words a cycle, the cells of 80 variables and the eight places
 
 // A byte as a long word.
 fn long(b: u8) -> u64
@@ -433,35 +433,94 @@ fn long(b: u8) -> u64
     b as u64
 }
 
-// Word `k` of what a cycle gave: 32 registers, eight places, 32 wires.
-fn word_of(c: Clocked, k: usize) -> u64
-    ensures { λ r. ⌜ r ≡ wordOf c k ⌝ }
+// Word `k` of a row: the clock as given, inputs and registers below `first` as their cells are, wires below `end` by their values, x past
+// them, then the places.
+fn word_of(first: usize, end: usize, clock: u64, cells: &Cells, places: &[u8; 8], k: usize) -> u64
+    requires { ⌜ k < 88 ⌝ }
+    ensures { λ r. ⌜ r ≡ wordOf first end clock (now (cells .entry)) (now (places .entry)) k ⌝ }
 {
-    if k < 32 {
-        return plan_state::marked(c.value[k], c.unknown[k]);
+    if k == 0 {
+        return clock;
     }
-    if k < 40 {
-        return long(c.places[k - 32]);
+    if 80 <= k {
+        return long(places[k - 80]);
     }
-    if k < 72 {
-        return plan_state::marked(c.wire[k - 40], c.unsure[k - 40]);
+    if k < first {
+        return cells[k];
     }
-    0
+    if k < end {
+        return cells::store(cells::load(cells[k]));
+    }
+    4294967296
 }
 
-// Puts the words of what a cycle gave.
-fn put_row(c: Clocked, at: usize, out: &mut [u64])
-    requires { ⌜ at + 72 ≤ length (now out) ⌝ }
-    ensures { λ _. ⌜ now (out .exit) ≡ putWords c at 72 (now (out .entry)) ⌝ }
+// Puts the words of a row.
+fn put_row(
+    first: usize,
+    end: usize,
+    clock: u64,
+    cells: &Cells,
+    places: &[u8; 8],
+    at: usize,
+    out: &mut [u64],
+)
+    requires { ⌜ at + 88 ≤ length (now out) ⌝ }
+    ensures { λ _. ⌜
+        now (out .exit)
+        ≡ putWords (wordOf first end clock (now (cells .entry)) (now (places .entry))) at 88 (now (out .entry))
+        ⌝ }
 {
     let mut k: usize = 0;
-    while k < 72 {
-        out[at + k] = word_of(c, k);
+    while k < 88 {
+        out[at + k] = word_of(first, end, clock, cells, places, k);
         k += 1;
     }
 }
 
-// A cycle for each row, up to the first that is refused; what each gave is put.
+// A cycle on fed cells: its low row is put once the wires have settled, its high row once they have after the rise.
+fn trace_turn(
+    plan: &PlanTable,
+    lent: &PlanTable,
+    table: &RowTable,
+    numbers: &RowNumbers,
+    cells: &mut Cells,
+    places: &mut [u8; 8],
+    at: usize,
+    out: &mut [u64],
+)
+    requires { ⌜ at + 176 ≤ length (now out) ⌝ }
+    ensures { λ _. ⌜
+        turnTraced (stand (now (cells .exit)) (now (places .exit))) (now (out .exit))
+        ≡ traceTurn (planOf (now (plan .entry))) (planOf (now (lent .entry)) .node) (now (table .entry)) (now (numbers .entry)) at
+        (stand (now (cells .entry)) (now (places .entry))) (now (out .entry))
+        ⌝ }
+{
+    let first = plan::inputs(plan) + plan::registers(plan);
+    let end = first + plan::wires(plan);
+    settle(plan, cells);
+    put_row(first, end, 0, cells, places, at, out);
+    rise(plan, lent, table, numbers, cells, places);
+    settle(plan, cells);
+    put_row(first, end, 1, cells, places, at + 88, out);
+}
+
+// What the last of `r` cycles gave, whose wires have settled; before the first the registers as handed, and wires x.
+fn taken_of(
+    plan: &PlanTable,
+    before: Registers,
+    r: usize,
+    cells: &Cells,
+    places: [u8; 8],
+) -> Clocked
+    ensures { λ c. ⌜ c ≡ takenOn (planOf (now (plan .entry))) before r (stand (now (cells .entry)) places) ⌝ }
+{
+    if r == 0 {
+        return refused(0, before);
+    }
+    answer(plan, before, cells, places)
+}
+
+// A cycle for each row of inputs, up to the first that is refused; the rows of each are put.
 fn trace_rows(
     plan: &PlanTable,
     lent: &PlanTable,
@@ -472,16 +531,11 @@ fn trace_rows(
     unknown: &[bool],
     out: &mut [u64],
 ) -> Rounds
-    requires { ⌜ 72 * (length (now value) / 16) ≤ length (now out) ⌝ }
+    requires { ⌜ 176 * (length (now value) / 16) ≤ length (now out) ⌝ }
     ensures { λ r. ⌜
-        r
+        traced r (now (out .exit))
         ≡ traceRows (planOf (now (plan .entry))) (planOf (now (lent .entry)) .node) (now (table .entry)) (now (numbers .entry)) before
-        (now (value .entry)) (now (unknown .entry)) (now (out .entry)) .rounds
-        ⌝ }
-    ensures { λ _. ⌜
-        now (out .exit)
-        ≡ traceRows (planOf (now (plan .entry))) (planOf (now (lent .entry)) .node) (now (table .entry)) (now (numbers .entry)) before
-        (now (value .entry)) (now (unknown .entry)) (now (out .entry)) .words
+        (now (value .entry)) (now (unknown .entry)) (now (out .entry))
         ⌝ }
 {
     let rows = value.len() / 16;
@@ -489,24 +543,32 @@ fn trace_rows(
     let mut cells = [4294967296u64; 4176];
     let mut places = before.places;
     hand(plan, before, &mut cells);
-    let mut last = refused(0, before);
     let mut r: usize = 0;
     while r < rows {
         let at = 16 * r + 1;
         if !values_fit(plan, 1, n, value, unknown, at) {
+            let last = taken_of(plan, before, r, &cells, places);
             return ended(r, 25, last);
         }
         put_items(n, value, unknown, at, &mut cells);
-        turn(plan, lent, table, numbers, &mut cells, &mut places);
-        settle(plan, &mut cells);
-        last = answer(plan, before, &cells, places);
-        put_row(last, 72 * r, out);
+        trace_turn(
+            plan,
+            lent,
+            table,
+            numbers,
+            &mut cells,
+            &mut places,
+            176 * r,
+            out,
+        );
         r += 1;
     }
+    let last = taken_of(plan, before, r, &cells, places);
     ended(r, 0, last)
 }
 
-// Many cycles as `cycles` runs them, and what each of them gave in 72 words of its own; 23 where not so many are lent.
+// Many cycles as `cycles` runs them, and two rows of 88 words for each: row 2c once the wires have settled on cycle c's inputs, with the
+// clock 0 and registers and places as before it, and row 2c + 1 what the cycle gives, with the clock 1. 23 where not so many are lent.
 pub fn trace(
     plan: &PlanTable,
     lent: &PlanTable,
@@ -518,17 +580,12 @@ pub fn trace(
     out: &mut [u64],
 ) -> Rounds
     ensures { λ r. ⌜
-        r
+        traced r (now (out .exit))
         ≡ traceOn (planOf (now (plan .entry))) (planOf (now (lent .entry)) .node) (now (table .entry)) (now (numbers .entry)) before
-        (now (value .entry)) (now (unknown .entry)) (now (out .entry)) .rounds
-        ⌝ }
-    ensures { λ _. ⌜
-        now (out .exit)
-        ≡ traceOn (planOf (now (plan .entry))) (planOf (now (lent .entry)) .node) (now (table .entry)) (now (numbers .entry)) before
-        (now (value .entry)) (now (unknown .entry)) (now (out .entry)) .words
+        (now (value .entry)) (now (unknown .entry)) (now (out .entry))
         ⌝ }
 {
-    if out.len() / 72 < value.len() / 16 {
+    if out.len() / 88 < 2 * (value.len() / 16) {
         return ended(0, 23, refused(23, before));
     }
     if !registers_fit(plan, before) {

@@ -43,14 +43,15 @@ use Rattle.clock_steps.specs.Claims.{Room}
 use Rattle.clock_run.specs.declared.Rounds.{Rounds}
 use Rattle.clock_run.specs.Running.{cycleOn}
 use Rattle.clock_run.specs.Rounds.{endedAt, cyclesOn, repeatFrom}
-use Rattle.clock_claims.specs.Claims.{Whole, Ready, CycleIsTheRun, CyclesAreTheRuns}
+use Rattle.clock_run.specs.Traces.{Traced, traceOn}
+use Rattle.clock_claims.specs.Claims.{Whole, Ready, CycleIsTheRun, CyclesAreTheRuns, TraceIsTheRuns}
 use Rattle.clock_claims.proofs.Writers.{writes-register}
-use Rattle.clock_claims.proofs.Claims.{cycle-is-the-run, cycles-are-the-runs}
+use Rattle.clock_claims.proofs.Claims.{cycle-is-the-run, cycles-are-the-runs, trace-is-the-runs}
 use Rattle.cycles.specs.declared.Cycled.{Cycled}
 use Rattle.cycles.specs.Many.{rowInputs, ended, cyclesOf, cyclesIn, cyclesOr, cyclesRun, atOnce}
 use Rattle.cycles.specs.Preparing.{tablesNumber, preparedNumber, Filled, filled, writtenBy, fillLent, sheetPlan, filledIn, filledOr}
 use Rattle.cycles.specs.Preparing.{prepared}
-use Rattle.cycles.specs.Claims.{Long, cycledOf, Same, OnTheSheet}
+use Rattle.cycles.specs.Claims.{Long, cycledOf, tracedRun, Same, OnTheSheet}
 use Rattle.cycles.proofs.Masks.{below-32}
 use Rattle.cycles.proofs.Sheets.{Numbered, number-same}
 use Rattle.cycles.proofs.Rows.{row-inputs, repeat-is}
@@ -173,6 +174,9 @@ module _ (s ns rs : List ℕ) (t : Filled) (long : Long t) (a : Accepted s ns rs
   abbrev Cycles : Filled → Registers → List ℕ → List Bool → Rounds
   Cycles u g vs xs = cyclesOn (plan.planOf (u .plan)) (plan.nodeAt (u .lent)) (u .table) (u .numbers) g vs xs
 
+  abbrev Trace : Filled → Registers → List ℕ → List Bool → List ℕ → Traced
+  Trace u g vs xs out = traceOn (plan.planOf (u .plan)) (plan.nodeAt (u .lent)) (u .table) (u .numbers) g vs xs out
+
   module _ (g : Registers) (w : Whole g) where
     pub cycle-same : (b : Inputs) → Cycle (prepared s ns rs t) g b ≡ cycleRun s ns rs g b
     unfolding CycleIsTheRun filledIn fillLent
@@ -224,11 +228,30 @@ module _ (s ns rs : List ℕ) (t : Filled) (long : Long t) (a : Accepted s ns rs
         ∙ rw (a .lengths, a .extracts)
         (ap (λ (call : Registers → Inputs → Clocked). cyclesIn call g vs xs m T) (λ i g b. single g b i))
 
+    -- ---- with the rows
+
+    pub trace-same : (d : Module Expr) → extractable s ≡ ok d → (vs : List ℕ) (xs : List Bool) (out : List ℕ) →
+        Trace (prepared s ns rs t) g vs xs out ≡ tracedRun d (cycleRun s ns rs) g vs xs out
+    unfolding TraceIsTheRuns filledIn fillLent tracedRun
+    trace-same d o vs xs out =
+        let e : ok m ≡ ok d = sym (a .extracts) ∙ o in
+        let own : m ≡ d = cc in
+        ap (λ (u : Filled). Trace u g vs xs out) filled-is
+        ∙ trace-is-the-runs m z (ruled m z (a .unbroken)) (plan.planOf ws) holds ns us rs (writtenBy m) ready (reach rs)
+        (reach-counted rs) (t .lent) (replicate 4096 0) (t .table) (t .numbers) room g w vs xs (rowInputs (m .scope .inputs) vs xs)
+        (λ e. row-inputs m z vs xs e) out
+        ∙ ap (λ (call : Registers → Inputs → Clocked). tracedRun m call g vs xs out) (λ i g b. single g b i)
+        ∙ ap (λ (n : Module Expr). tracedRun n (cycleRun s ns rs) g vs xs out) own
+
 pub on-the-sheet : OnTheSheet
 unfolding OnTheSheet
 on-the-sheet s ns rs t long e g w =
     let a = accepted s ns rs e in
-    record { cycle = cycle-same s ns rs t long a g w; cycles = cycles-same s ns rs t long a g w }
+    record {
+      cycle = cycle-same s ns rs t long a g w;
+      cycles = cycles-same s ns rs t long a g w;
+      trace = trace-same s ns rs t long a g w;
+    }
 
 -- ---- what is refused
 
