@@ -1,19 +1,13 @@
 -- The claims of specs/Claims. Assumes nothing.
-use mathlib.Core.Path.{_≡_, refl, sym, _∙_}
+use mathlib.Core.Path.{_≡_, refl, _∙_}
 use mathlib.Core.Bool.{Bool, true, false, _&&_}
-use mathlib.Core.List.{List, []}
-use Prim.Native.Nat.{ℕ}
-use Rattle.sheet.specs.Expression.{Expr}
-use Rattle.sheet.specs.Module.{Module}
+use mathlib.Core.List.{[]}
 use Rattle.state.specs.Saved.{listOf}
-use Rattle.soundness.specs.Soundness.{Sound}
 use Rattle.events.proofs.Cycle.{and-left}
-use Rattle.plan.specs.Plan.{Plan}
-use Rattle.plan_fill.specs.Holding.{Holds}
 use Rattle.nextstate.specs.Nodes.{nodeAt}
 use Rattle.nextstate.specs.CycleRun.{nodesFit, rowsFit, tablesFit, tablesIn}
 use Rattle.clock_check.specs.Judging.{widthsBelow, nodesFitBelow, rowsFitOn, tablesFitOn}
-use Rattle.clock_check.specs.Claims.{Writers, JudgedIsFit, WidthsAreTheNodes}
+use Rattle.clock_check.specs.Claims.{JudgedIsFit, WidthsAreTheNodes}
 use Rattle.clock_check.proofs.Filling.{table-full}
 use Rattle.clock_check.proofs.Holding.{alike, rows-is-fit}
 

@@ -1,21 +1,24 @@
 -- The loops over the nodes: their widths and landings so far, stored in front of a table. Assumes nothing.
-use mathlib.Core.Path.{_≡_, refl, sym, ap, _∙_}
+use mathlib.Core.Path.{_≡_, refl, sym, _∙_}
 use mathlib.Core.Bool.{Bool, true, false, _&&_}
 use mathlib.Core.List.{List, [], _∷_, _++_, append-assoc, append-nil}
-use Prim.Native.Nat.{ℕ, zero, suc, _+_, _≤_, _<_}
+use Prim.Native.Nat.{ℕ, zero, suc, _+_, _-_, _≤_, _<_}
+use native.Mathlib.Nat.{le-refl}
 use native.Mathlib.Decide.{decLt}
 use native.Mathlib.Numerals.{add-one}
 use native.Mathlib.Omega.{arith}
-use borrow.Author.Tests.{lt-ltb, ltb-true}
+use borrow.Author.Tests.{lt-ltb}
 use lib.Dec.{ltb}
-use lib.ListN.{length, getD, set, drop, replicate, length-append, length-replicate, getD-replicate, drop-of-length-le, List·getD-append}
-use lib.Seq.{drop-cons, set-at}
-use Rattle.values.specs.Operators.{unaryWidth}
+use lib.ListN.{length, getD, set, drop, replicate}
+use lib.ListN.{length-append, length-drop, length-replicate, getD-replicate, replicate-append-replicate, drop-of-length-le, List·getD-append}
+use lib.Seq.{drop-cons, set-at, take-at, sets, sets-eq}
+use Rattle.state.proofs.Rows.{sets-append}
 use Rattle.plan.specs.Plan.{Plan}
 use Rattle.nextstate.specs.Nodes.{Node, aVariable, aConstant, anUnknown, aUnary, aBinary, aConditional, aBranch, nodeAt, nodeWidth}
 use Rattle.nodes.specs.Cells.{sizeIn, marksIn, fitsAt, widthAt, landsAt}
 use Rattle.nodes.proofs.Cells.{below-and, fits-same, width-same}
-use Rattle.clock_check.specs.Judging.{variablesIn, widthOn, widthsBelow, nodesFitBelow, orderedBelow, widthTable, landsBelow, rowsFitOn, tablesFitOn, Rest}
+use Rattle.clock_check.specs.Judging.{variablesIn, widthOn, widthsBelow, nodesFitBelow}
+use Rattle.clock_check.specs.Judging.{orderedBelow, widthTable, landsBelow, rowsFitOn, tablesFitOn, Rest}
 
 -- ---- one element more in front of a table
 
@@ -23,6 +26,31 @@ pub front-more : {A : Type 0} (p l : List A) (n : ℕ) (a d : A) → length p �
     set (p ++ drop n l) n a ≡ (p ++ (a ∷ [])) ++ drop (suc n) l
 front-more p l n a d e h =
     rw (drop-cons l n d h) (set-at p (getD l n d) (drop (suc n) l) a n e ∙ sym (append-assoc p (a ∷ []) (drop (suc n) l)))
+
+-- ---- a run of one value
+
+-- Stored to the end of a table, behind what stands in front.
+run-behind : (p l : List ℕ) (n k w : ℕ) → length p ≡ n → n + k ≡ length l → sets (p ++ drop n l) n (replicate k w) ≡ p ++ replicate k w
+run-behind p l n k w e h =
+    let long : length (p ++ drop n l) ≡ length l = length-append p (drop n l) ∙ omega (arith, length-drop n l) in
+    sets-eq (replicate k w) (p ++ drop n l) n (omega (arith, length-replicate k w))
+    ∙ rw (
+      take-at p (drop n l) n e,
+      drop-of-length-le (p ++ drop n l) {i = n + length (replicate k w)} (omega (arith, length-replicate k w)),
+    )
+    (append-nil (p ++ replicate k w))
+
+pub run-none : (us : List ℕ) (w from : ℕ) → us ≡ sets us from (replicate (from - from) w)
+run-none us w from = let e : from - from ≡ 0 = omega arith in rw e refl
+
+pub run-more :
+    (us vs : List ℕ) (w from n : ℕ) → from ≤ n → vs ≡ sets us from (replicate (n - from) w) →
+    set vs n w ≡ sets us from (replicate (n + 1 - from) w)
+run-more us vs w from n l o =
+    let k = n - from in
+    let e : n + 1 - from ≡ k + 1 = omega arith in
+    let at : from + length (replicate k w) ≡ n = omega (arith, length-replicate k w) in
+    rw (o, e, ← replicate-append-replicate k 1 w) (sym (sets-append us from (replicate k w) (w ∷ []) ∙ rw at))
 
 -- ---- a node's width and landing depend only on the nodes before it
 
@@ -144,6 +172,60 @@ module _ (q : Plan) (ns : List ℕ) where
   table-full f =
       rw (ordered-all 4096 f, drop-of-length-le zeros {i = 4096} (omega (arith, length-replicate {A = ℕ} 4096 0)))
       (append-nil (widthsBelow q ns 4096))
+
+  -- ---- nodes past the last in use are variable 0
+
+  module _ (used : ℕ) (rest : Rest ns used) where
+    rest-width : (n : ℕ) → used ≤ n → n < 4096 → widthsBelow q ns (suc n) ≡ widthsBelow q ns n ++ (q .width 0 ∷ [])
+    unfolding widthsBelow widthOn
+    rest-width n l b = rw (rest .zeros n l b)
+
+    rest-fit : (n : ℕ) → used ≤ n → n < 4096 → nodesFitBelow q ns (suc n) ≡ (nodesFitBelow q ns n && ltb 0 (variablesIn q))
+    unfolding nodesFitBelow fitsAt
+    rest-fit n l b = rw (rest .zeros n l b)
+
+    rest-widths : (k : ℕ) → used + k ≤ 4096 → widthsBelow q ns (used + k) ≡ widthsBelow q ns used ++ replicate k (q .width 0)
+    rest-widths zero l =
+        let e : used + 0 ≡ used = omega arith in
+        rw e (sym (append-nil (widthsBelow q ns used)))
+    rest-widths (suc k) l =
+        let e : used + suc k ≡ suc (used + k) = omega arith in
+        let w = q .width 0 in
+        let more : replicate k w ++ (w ∷ []) ≡ replicate (suc k) w = replicate-append-replicate k 1 w ∙ rw (add-one k) in
+        rw e
+        (rest-width (used + k) (omega arith) (omega arith)
+        ∙ rw (rest-widths k (omega arith), append-assoc (widthsBelow q ns used) (replicate k w) (w ∷ []), more))
+
+    rest-fits : 0 < variablesIn q → nodesFitBelow q ns used ≡ true → (k : ℕ) → used + k ≤ 4096 → nodesFitBelow q ns (used + k) ≡ true
+    rest-fits some f zero l = let e : used + 0 ≡ used = omega arith in rw e f
+    rest-fits some f (suc k) l =
+        let e : used + suc k ≡ suc (used + k) = omega arith in
+        rw e
+        (rest-fit (used + k) (omega arith) (omega arith)
+        ∙ rw (rest-fits some f k (omega arith), lt-ltb 0 (variablesIn q) some))
+
+    module _ (us : List ℕ) (p : Passing us used) where
+      pub rest-off : used < 4096 → 0 ≡ variablesIn q → (false ≡ nodesFitBelow q ns 4096) × (us ≡ widthTable q ns)
+      unfolding widthTable
+      rest-off b e =
+          let f : nodesFitBelow q ns (suc used) ≡ false = rest-fit used (le-refl used) b ∙ rw (p .fit, ← e) in (
+            sym (fit-off (suc used) 4096 f b),
+            rw (ordered-stop used 4096 f b, ordered-all used (p .fit)) (p .filled),
+          )
+
+      pub rest-on :
+          (w : ℕ) (vs : List ℕ) → 0 < variablesIn q → w ≡ q .width 0 → vs ≡ sets us used (replicate (4096 - used) w) →
+          (true ≡ nodesFitBelow q ns 4096) × (vs ≡ widthTable q ns)
+      rest-on w vs some e o =
+          let all : used + (4096 - used) ≡ 4096 = omega (arith, p .most) in
+          let f = rw all at (rest-fits some (p .fit) (4096 - used) (omega (arith, p .most))) in
+          let ws = rw all at (rest-widths (4096 - used) (omega (arith, p .most))) in
+          let run =
+          run-behind (widthsBelow q ns used) zeros used (4096 - used) w (length-widths used)
+          (omega (arith, p .most, length-replicate {A = ℕ} 4096 0)) in
+          let stored : sets us used (replicate (4096 - used) w) ≡ widthsBelow q ns used ++ replicate (4096 - used) w = rw (p .filled) run in
+          let full : widthsBelow q ns 4096 ≡ widthsBelow q ns used ++ replicate (4096 - used) w = rw e ws in
+          (sym f, o ∙ stored ∙ sym full ∙ sym (table-full f))
 
   -- ---- 24
 

@@ -5,7 +5,7 @@ use mathlib.Core.List.{List, [], _∷_, _++_}
 use Prim.Native.Nat.{ℕ, zero, suc, _+_, _*_, _≤_, _<_}
 use native.Mathlib.Decide.{decLt}
 use native.Mathlib.Omega.{arith}
-use borrow.Author.Tests.{lt-ltb, le-ltb, ltb-true, ltb-false}
+use borrow.Author.Tests.{lt-ltb, le-ltb, ltb-true}
 use lib.Dec.{ltb, eqb}
 use lib.ListN.{length, getD, List·getD-eq-default}
 use Rattle.sheet.specs.Expression.{Expr}
@@ -31,10 +31,10 @@ use Rattle.clock_steps.specs.Numbers.{waitsTo, rowsTo}
 use Rattle.clock_steps.specs.Claims.{Coded}
 use Rattle.clock_steps.proofs.RowNumbers.{most-same, rows-is, threads-is}
 use Rattle.nodes.specs.Cells.{fitsAt, widthAt, landsAt}
-use Rattle.nodes.proofs.Cells.{below-and, fits-list, width-same, lands-same}
+use Rattle.nodes.proofs.Cells.{fits-list, width-same, lands-same}
 use Rattle.nodes.proofs.FirstNodes.{widthsTo, widths-next, fit-next, length-widths, landings-next, length-landings}
-use Rattle.clock_check.specs.Judging.{variablesIn, widthOn, widthsBelow, nodesFitBelow, waitOf, landsBelow, registerFitsOn, entryFitsOn}
-use Rattle.clock_check.specs.Judging.{rowFitsOn, threadFitsOn, rowsFitOn}
+use Rattle.clock_check.specs.Judging.{variablesIn, widthOn, widthsBelow, nodesFitBelow, waitOf, landsBelow}
+use Rattle.clock_check.specs.Judging.{registerFitsOn, entryFitsOn, rowFitsOn, threadFitsOn, rowsFitOn}
 use Rattle.clock_check.specs.Claims.{Writers}
 
 planned-waits : {f : ℕ → plan.Node} {base end : ℕ} {a : Instr Expr} {b : Instruction} {t : Bool} → Planned f base end a b t → t ≡ isWait a

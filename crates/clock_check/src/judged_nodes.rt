@@ -3,15 +3,18 @@ use nodes::Cell;
 use nodes::cell_at;
 use nodes::size_at;
 use nodes::wide;
+use nodes::word_at;
 use plan::PlanTable;
 use values::Value;
 ghost use mathlib.Core.Path.{_≡_};
 ghost use mathlib.Core.Bool.{_&&_};
-ghost use Prim.Native.Nat.{_^_, _%_};
-ghost use lib.Dec.{ltb};
+ghost use Prim.Native.Nat.{_+_, _-_, _*_, _^_, _%_, _≤_};
+ghost use lib.Dec.{ltb, eqb};
+ghost use lib.ListN.{getD, replicate};
+ghost use lib.Seq.{sets};
 ghost use Rattle.plan.specs.Plan.{planOf};
 ghost use Rattle.nodes.specs.Cells.{nodeOf, sizeIn, isWidth, armsFit, fitsAt};
-ghost use Rattle.clock_check.specs.Judging.{variablesIn, widthOn, nodesFitBelow, widthTable};
+ghost use Rattle.clock_check.specs.Judging.{variablesIn, widthOn, nodesFitBelow, widthTable, Rest};
 
 // Is it a width?
 fn is_width(w: u16) -> bool
@@ -91,15 +94,55 @@ fn variables_in(plan: &PlanTable) -> usize
     plan::inputs(plan) + plan::registers(plan) + plan::wires(plan)
 }
 
-// Are all 4,096 nodes in order? Fills their widths, up to the first that isn't; from there on 0.
-pub fn nodes_fit(plan: &PlanTable, nodes: &[u16], sizes: &mut [u8; 4096]) -> bool
+// ---- nodes that aren't in use
+
+// Are the kind and the first operand of node `n` 0?
+fn is_zero(nodes: &[u16], n: u16) -> bool
+    ensures { λ r. ⌜ r ≡ (eqb (getD (now (nodes .entry)) (4 * n) 0) 0 && eqb (getD (now (nodes .entry)) (4 * n + 1) 0) 0) ⌝ }
+{
+    let i = 4 * wide(n);
+    word_at(nodes, i) == 0 && word_at(nodes, i + 1) == 0
+}
+
+// How many nodes there are up to the last that isn't variable 0.
+pub fn used_nodes(nodes: &[u16]) -> u16
+    ensures { λ r. ⌜ Rest (now (nodes .entry)) r ⌝ }
+{
+    let mut n: u16 = 4096;
+    while 0 < n {
+        if !is_zero(nodes, n - 1) {
+            return n;
+        }
+        n -= 1;
+    }
+    n
+}
+
+// ---- all nodes
+
+// The nodes from `from` on have this width.
+fn fill_rest(width: u8, from: u16, sizes: &mut [u8; 4096])
+    requires { ⌜ from ≤ 4096 ⌝ }
+    ensures { λ _. ⌜ now (sizes .exit) ≡ sets (now (sizes .entry)) from (replicate (4096 - from) width) ⌝ }
+{
+    let mut n = from;
+    while n < 4096 {
+        sizes[n as usize] = width;
+        n += 1;
+    }
+}
+
+// Are all 4,096 nodes in order, of which those from `used` on are variable 0? Fills their widths, up to the first that isn't; from
+// there on they are 0.
+pub fn nodes_fit(plan: &PlanTable, nodes: &[u16], used: u16, sizes: &mut [u8; 4096]) -> bool
+    requires { ⌜ Rest (now nodes) used ⌝ }
     ensures { λ r. ⌜ r ≡ nodesFitBelow (planOf (now (plan .entry))) (now (nodes .entry)) 4096 ⌝ }
     ensures { λ _. ⌜ now (sizes .exit) ≡ widthTable (planOf (now (plan .entry))) (now (nodes .entry)) ⌝ }
 {
     *sizes = [0; 4096];
     let variables = variables_in(plan);
     let mut n: u16 = 0;
-    while n < 4096 {
+    while n < used {
         let cell = cell_at(nodes, n);
         if !node_fits(variables, sizes, n, cell) {
             return false;
@@ -107,5 +150,12 @@ pub fn nodes_fit(plan: &PlanTable, nodes: &[u16], sizes: &mut [u8; 4096]) -> boo
         sizes[n as usize] = node_width(plan, sizes, cell);
         n += 1;
     }
+    if 4096 <= used {
+        return true;
+    }
+    if variables == 0 {
+        return false;
+    }
+    fill_rest(plan::width(plan, 0), used, sizes);
     true
 }

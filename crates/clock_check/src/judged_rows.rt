@@ -8,40 +8,17 @@ use nodes::word_at;
 use plan::PlanTable;
 ghost use mathlib.Core.Path.{_≡_};
 ghost use mathlib.Core.Bool.{false, not, _&&_, _||_};
-ghost use Prim.Native.Nat.{_+_, _*_, _≤_, _<_};
-ghost use lib.Dec.{ltb, eqb};
-ghost use lib.ListN.{getD, replicate};
+ghost use Prim.Native.Nat.{_≤_, _<_};
+ghost use lib.Dec.{ltb};
+ghost use lib.ListN.{replicate};
 ghost use Rattle.state.specs.Saved.{allBelow};
 ghost use Rattle.plan.specs.Plan.{planOf};
 ghost use Rattle.nextstate.specs.Rules.{one};
 ghost use Rattle.clock_nodes.specs.Rows.{entryAt};
 ghost use Rattle.clock_steps.specs.Numbers.{waitsIn};
 ghost use Rattle.nodes.specs.Cells.{nodeOf, marksIn, landsAt};
-ghost use Rattle.clock_check.specs.Judging.{waitOf, landsBelow, registerFitsOn, entryFitsOn, rowFitsOn, threadFitsOn, rowsFitOn, Rest};
-
-// ---- nodes that aren't in use
-
-// Are the kind and the first operand of node `n` 0?
-fn is_zero(nodes: &[u16], n: u16) -> bool
-    ensures { λ r. ⌜ r ≡ (eqb (getD (now (nodes .entry)) (4 * n) 0) 0 && eqb (getD (now (nodes .entry)) (4 * n + 1) 0) 0) ⌝ }
-{
-    let i = 4 * wide(n);
-    word_at(nodes, i) == 0 && word_at(nodes, i + 1) == 0
-}
-
-// How many nodes there are up to the last that isn't variable 0.
-fn used_nodes(nodes: &[u16]) -> u16
-    ensures { λ r. ⌜ Rest (now (nodes .entry)) r ⌝ }
-{
-    let mut n: u16 = 4096;
-    while 0 < n {
-        if !is_zero(nodes, n - 1) {
-            return n;
-        }
-        n -= 1;
-    }
-    n
-}
+ghost use Rattle.clock_check.specs.Judging.{waitOf, landsBelow, registerFitsOn, entryFitsOn, rowFitsOn};
+ghost use Rattle.clock_check.specs.Judging.{threadFitsOn, rowsFitOn, Rest};
 
 // ---- nodes that stand for a wait
 
@@ -293,14 +270,15 @@ pub fn rows_fit(
     plan: &PlanTable,
     written: &[u32; 8],
     nodes: &[u16],
+    used: u16,
     rows: &[u16],
     sizes: &[u8; 4096],
 ) -> bool
+    requires { ⌜ Rest (now nodes) used ⌝ }
     ensures { λ t. ⌜
         t ≡ rowsFitOn (planOf (now (plan .entry))) (now (sizes .entry)) (now (rows .entry)) (now (written .entry)) (now (nodes .entry))
         ⌝ }
 {
-    let used = used_nodes(nodes);
     let threads = at_most(8, plan::threads(plan));
     let mut first: u16 = 0;
     let mut i: usize = 0;

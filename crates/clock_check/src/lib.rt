@@ -4,6 +4,7 @@ mod judged_nodes;
 mod judged_rows;
 
 use judged_nodes::nodes_fit;
+use judged_nodes::used_nodes;
 use judged_rows::rows_fit;
 use plan::PlanTable;
 ghost use mathlib.Core.Path.{_≡_};
@@ -24,8 +25,9 @@ pub fn tables_fit(
         ⌝ }
     ensures { λ _. ⌜ now (sizes .exit) ≡ widthTable (planOf (now (plan .entry))) (now (nodes .entry)) ⌝ }
 {
-    if !nodes_fit(plan, nodes, sizes) {
+    let used = used_nodes(nodes);
+    if !nodes_fit(plan, nodes, used, sizes) {
         return false;
     }
-    rows_fit(plan, written, nodes, rows, sizes)
+    rows_fit(plan, written, nodes, used, rows, sizes)
 }

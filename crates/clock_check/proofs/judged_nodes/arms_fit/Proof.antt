@@ -15,7 +15,13 @@ returns-2 c = rw (lt-ltb _ _ (c .before .if1 .left), le-ltb _ _ (c .if2 .taken))
 
 returns-3 : tie.Need-returns-3
 unfolding armsFit
-returns-3 c = rw (lt-ltb _ _ (c .before .before .before .if1 .left), lt-ltb _ _ (c .before .before .if2 .left), c .before .size-at .ensures, c .size-at2 .ensures)
+returns-3 c =
+    rw (
+      lt-ltb _ _ (c .before .before .before .if1 .left),
+      lt-ltb _ _ (c .before .before .if2 .left),
+      c .before .size-at .ensures,
+      c .size-at2 .ensures,
+    )
 
 pub arms-fit-spec : {M : Type 1} → statement M
 arms-fit-spec =

@@ -1,6 +1,5 @@
 -- `clock_check::judged_nodes::variables_in` meets its contract. Assumes nothing.
 use borrow.Author.Needs.{needs}
-use native.Mathlib.Omega.{arith}
 use Rattle.clock_check.specs.Judging.{variablesIn}
 use Rattle.clock_check.proofs.judged_nodes.variables_in.Statement.{statement}
 use Rattle.clock_check.proofs.judged_nodes.variables_in.Tie as tie

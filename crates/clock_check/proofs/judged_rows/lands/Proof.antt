@@ -35,7 +35,9 @@ returns-7 c = rw (c .enum-told5 .given .1)
 
 returns-8 : tie.Need-returns-8
 unfolding nodeOf landsAt
-returns-8 c = rw (c .before .before .before .before .cell2 .given .1, ← c .before .before .marked .ensures, c .before .if2 .taken) (c .marked2 .ensures)
+returns-8 c =
+    rw (c .before .before .before .before .cell2 .given .1, ← c .before .before .marked .ensures, c .before .if2 .taken)
+    (c .marked2 .ensures)
 
 returns-9 : tie.Need-returns-9
 unfolding nodeOf landsAt

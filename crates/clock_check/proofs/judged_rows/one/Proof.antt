@@ -1,7 +1,6 @@
 -- `clock_check::judged_rows::one` meets its contract. Assumes nothing.
 use native.Mathlib.Omega.{arith}
 use Rattle.nextstate.specs.Rules.{one}
-use borrow.Author.Needs.{needs}
 use Rattle.clock_check.proofs.judged_rows.one.Statement.{statement}
 use Rattle.clock_check.proofs.judged_rows.one.Tie as tie
 

@@ -1,7 +1,6 @@
 -- `clock_check::judged_rows::register_fits` meets its contract, test by test. Assumes nothing.
 use borrow.Author.Needs.{needs}
 use native.Mathlib.Omega.{arith}
-use mathlib.Core.Path.{_∙_}
 use borrow.Author.Tests.{lt-ltb, le-ltb}
 use Rattle.nodes.specs.Cells.{sizeIn}
 use Rattle.clock_check.specs.Judging.{registerFitsOn}

@@ -1,6 +1,6 @@
 -- `clock_check::judged_rows::rows_fit` meets its contract. The loop: the rows of the threads so far are in order. Assumes nothing.
 use borrow.Author.Needs.{needs}
-use mathlib.Core.Path.{_≡_, sym, ap, _∙_}
+use mathlib.Core.Path.{_≡_, ap, _∙_}
 use mathlib.Core.Bool.{Bool, true}
 use mathlib.Core.List.{List}
 use Prim.Native.Nat.{ℕ, _+_, _*_, _-_, _≤_}
@@ -23,7 +23,7 @@ test plan written nodes rows sizes i =
     threadFitsOn (planOf plan) sizes rows (getD written i 0) (landsBelow (waitOf (planOf plan) i) nodes 4096) i (rowsTo (planOf plan) i)
 
 abbrev Inv-loop : tie.InvT-loop
-Inv-loop plan written nodes rows sizes used threads first₀ i₀ first i =
+Inv-loop plan written nodes used rows sizes threads first₀ i₀ first i =
     (threads ≡ atMost 8 (planOf plan .threads))
     × (threads ≤ 8)
     × (i ≤ threads)
@@ -33,17 +33,18 @@ Inv-loop plan written nodes rows sizes used threads first₀ i₀ first i =
     × (allBelow i (test plan written nodes rows sizes) ≡ true)
 
 abbrev μ-loop : tie.MeasureT-loop
-μ-loop plan written nodes rows sizes used threads first₀ i₀ first i = threads - i
+μ-loop plan written nodes used rows sizes threads first₀ i₀ first i = threads - i
 
 loop-holds : tie.Need-loop-holds Inv-loop μ-loop
 loop-holds c =
-    let a = c .before .before .before .before .before .args in (
+    let s = c .before .before .before .before in
+    let a = s .args in (
       c .at-most .ensures .0 ∙ ap (atMost 8) (c .before .threads .ensures),
       c .at-most .ensures .1,
       omega arith,
       omega arith,
       rows-none (planOf (a .plan .now)),
-      c .before .before .used-nodes .ensures,
+      s .pre,
       all-none (test (a .plan .now) (a .written .now) (a .nodes .now) (a .rows .now) (a .sizes .now)),
     )
 
@@ -55,7 +56,7 @@ unfolding rowsFitOn
 returns c =
     let f = c .before in
     let l = f .before .before .before in
-    let a = l .before .before .before .before .before .before .args in
+    let a = l .before .before .before .before .before .args in
     all-fails (test (a .plan .now) (a .written .now) (a .nodes .now) (a .rows .now) (a .sizes .now)) (l .loop .i)
     (atMost 8 (planOf (a .plan .now) .threads)) (omega arith)
     (thread-found (planOf (a .plan .now)) (a .sizes .now) (a .rows .now) (a .nodes .now) (l .loop .i)
@@ -66,7 +67,7 @@ loop-again : tie.Need-loop-again Inv-loop μ-loop
 loop-again c =
     let f = c .before .before in
     let l = f .before .before .before in
-    let a = l .before .before .before .before .before .before .args in (
+    let a = l .before .before .before .before .before .args in (
       l .loop .inv .0,
       l .loop .inv .1,
       omega arith,
@@ -83,7 +84,7 @@ returns-2 : tie.Need-returns-2 Inv-loop μ-loop
 unfolding rowsFitOn
 returns-2 c =
     let l = c .before in
-    let a = l .before .before .before .before .before .before .args in
+    let a = l .before .before .before .before .before .args in
     all-done (test (a .plan .now) (a .written .now) (a .nodes .now) (a .rows .now) (a .sizes .now)) (l .loop .i)
     (atMost 8 (planOf (a .plan .now) .threads)) (omega arith) (omega arith) (l .loop .inv .6)
 
@@ -93,7 +94,6 @@ rows-fit-spec =
     (tie.spec
     Inv-loop
     μ-loop
-    (λ c κs. search needs)
     (λ c κs. search needs)
     (λ c κs. search needs)
     loop-holds

@@ -1,6 +1,6 @@
 -- `clock_check::judged_rows::thread_fits` meets its contract. The loop: the rows so far are in order. Assumes nothing.
 use borrow.Author.Needs.{needs}
-use mathlib.Core.Path.{_≡_, sym, ap, _∙_}
+use mathlib.Core.Path.{_≡_, ap, _∙_}
 use mathlib.Core.Bool.{Bool, true, not, _||_}
 use mathlib.Core.List.{List}
 use Prim.Native.Nat.{ℕ, _+_, _-_, _≤_}
@@ -54,7 +54,8 @@ returns c =
     let a = l .before .before .before .before .args in
     all-fails (test (a .plan .now) (a .sizes .now) (a .rows .now) (a .written) (a .marks .now) (a .i) (a .first)) (l .loop .p)
     (atMost 256 (planOf (a .plan .now) .size (a .i))) (omega arith)
-    (wait-found (planOf (a .plan .now)) (a .sizes .now) (a .rows .now) (a .written) (a .marks .now) (a .i) (a .first) (l .loop .p) (l .loop .inv .4)
+    (wait-found (planOf (a .plan .now)) (a .sizes .now) (a .rows .now) (a .written) (a .marks .now) (a .i) (a .first) (l .loop .p)
+    (l .loop .inv .4)
     (w .before .byte .ensures) (w .waits .ensures) (f .wait-fits .ensures) (not-true (f .wait-fits .result) (c .if1 .taken)))
 
 loop-again : tie.Need-loop-again Inv-loop μ-loop
@@ -71,7 +72,8 @@ loop-again c =
           (c .one .ensures .0),
       all-more (test (a .plan .now) (a .sizes .now) (a .rows .now) (a .written) (a .marks .now) (a .i) (a .first)) (l .loop .p)
           (l .loop .inv .5)
-          (wait-found (planOf (a .plan .now)) (a .sizes .now) (a .rows .now) (a .written) (a .marks .now) (a .i) (a .first) (l .loop .p) (l .loop .inv .4)
+          (wait-found (planOf (a .plan .now)) (a .sizes .now) (a .rows .now) (a .written) (a .marks .now) (a .i) (a .first) (l .loop .p)
+          (l .loop .inv .4)
           (w .before .byte .ensures) (w .waits .ensures) (f .wait-fits .ensures)
           (not-false (f .wait-fits .result) (c .before .if1 .left))),
     )

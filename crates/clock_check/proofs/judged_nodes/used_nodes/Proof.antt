@@ -1,11 +1,11 @@
--- `clock_check::judged_rows::used_nodes` meets its contract. The loop: the nodes from `n` on are variable 0. Assumes nothing.
+-- `clock_check::judged_nodes::used_nodes` meets its contract. The loop: the nodes from `n` on are variable 0. Assumes nothing.
 use borrow.Author.Needs.{needs}
 use native.Mathlib.Omega.{arith}
 use borrow.Author.Tests.{not-false}
 use Rattle.clock_check.specs.Judging.{Rest}
 use Rattle.clock_check.proofs.Tests.{rest-none, rest-more}
-use Rattle.clock_check.proofs.judged_rows.used_nodes.Statement.{statement}
-use Rattle.clock_check.proofs.judged_rows.used_nodes.Tie as tie
+use Rattle.clock_check.proofs.judged_nodes.used_nodes.Statement.{statement}
+use Rattle.clock_check.proofs.judged_nodes.used_nodes.Tie as tie
 
 abbrev Inv-loop : tie.InvT-loop
 Inv-loop nodes n₀ n = Rest nodes n

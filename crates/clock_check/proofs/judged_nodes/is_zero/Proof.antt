@@ -1,9 +1,9 @@
--- `clock_check::judged_rows::is_zero` meets its contract, test by test. Assumes nothing.
+-- `clock_check::judged_nodes::is_zero` meets its contract, test by test. Assumes nothing.
 use borrow.Author.Needs.{needs}
 use mathlib.Core.Path.{sym, _∙_}
 use borrow.Author.Tests.{eq-eqb, ne-eqb}
-use Rattle.clock_check.proofs.judged_rows.is_zero.Statement.{statement}
-use Rattle.clock_check.proofs.judged_rows.is_zero.Tie as tie
+use Rattle.clock_check.proofs.judged_nodes.is_zero.Statement.{statement}
+use Rattle.clock_check.proofs.judged_nodes.is_zero.Tie as tie
 
 returns : tie.Need-returns
 returns c =
