@@ -28,7 +28,7 @@ use Rattle.prepared.proofs.Sheets.{prepared-holds}
 use Rattle.prepared_cycles.specs.declared.Cycled.{Cycled}
 use Rattle.prepared_cycles.specs.Cycles.{cycled, rowInputs, phases, runCycles}
 use Rattle.prepared_cycles.specs.Phases.{phasesAt, ended, laidOut, cyclesAt}
-use Rattle.prepared_cycles.specs.Traces.{Lent, hasRoom, rounds, traceFrom, traceCycles, tracedCycles, traceFromAt, traceAt, tracedAt}
+use Rattle.prepared_cycles.specs.Traces.{hasRoom, rounds, traceFrom, traceCycles, tracedCycles, traceFromAt, traceAt, tracedAt}
 use Rattle.prepared_cycles.specs.Claims.{OnTheSheet}
 use Rattle.prepared_cycles.proofs.Courses.{Stood, phases-stood}
 use Rattle.prepared_cycles.proofs.Traced.{trace-stood}
@@ -67,11 +67,11 @@ module _ (s : List ℕ) {m : Module Expr} {q : Plan} (k : PlanOf m q) (inputs-fi
             ap (λ (n : ℕ). ended (phasesAt q (rowInputs n ns xs) rounds 0 (laidOut q st))) (k .inputs)
             ∙ phases-stood s k inputs-fit e (rowInputs (m .scope .inputs) ns xs) rounds 0 st (laidOut q st) (stood f)
 
-    trace-of : (ns : List ℕ) (xs : List Bool) (w : Lent) → traceAt q st ns xs w ≡ traceCycles s st ns xs w
+    trace-of : (ns : List ℕ) (xs : List Bool) (w : List ℕ) → traceAt q st ns xs w ≡ traceCycles s st ns xs w
     unfolding traceAt traceCycles
     trace-of ns xs w = ap (λ (r : Cycled). pick (hasRoom (rounds ns) w) r (cycled 0 23 false st)) (cycles-of ns xs)
 
-    traced-of : (ns : List ℕ) (xs : List Bool) (w : Lent) → tracedAt q st ns xs w ≡ tracedCycles s st ns xs w
+    traced-of : (ns : List ℕ) (xs : List Bool) (w : List ℕ) → tracedAt q st ns xs w ≡ tracedCycles s st ns xs w
     unfolding tracedAt tracedCycles judged
     traced-of ns xs w = rw (e, same) (by (hasRoom (rounds ns) w) (stateFits m st) refl (wholeRows ns xs))
       where

@@ -1,5 +1,5 @@
 // Many clock cycles in one call on a prepared plan. The state is laid out once, each instant and the plain run after it go on in the same
-// cells, and it is packed at the end; a trace writes what each of them leaves into lent arrays. Each function equals its definition in
+// cells, and it is packed at the end; a trace writes what each of them leaves into a lent array. Each function equals its definition in
 // specs/, for plans, states and rows of any contents.
 mod phases;
 mod rows;
@@ -10,13 +10,13 @@ use plan::PlanTable;
 use plan_changes::Marks;
 use state::State;
 ghost use mathlib.Core.Path.{_≡_};
-ghost use mathlib.Core.Bool.{true, false};
-ghost use Prim.Native.Nat.{_*_, _/_};
+ghost use mathlib.Core.Bool.{false};
+ghost use Prim.Native.Nat.{_*_, _/_, _≤_};
 ghost use lib.ListN.{length};
 ghost use Rattle.plan.specs.Plan.{planOf};
 ghost use Rattle.prepared_cycles.specs.Cycles.{cycled, rowInputs};
 ghost use Rattle.prepared_cycles.specs.Phases.{momentOf, course, phasesAt, ended, laidOut, cyclesAt};
-ghost use Rattle.prepared_cycles.specs.Traces.{lent, hasRoom, rounds, traceFromAt, traceAt, tracedAt};
+ghost use Rattle.prepared_cycles.specs.Traces.{rounds, traceFromAt, traceAt, tracedAt};
 
 // What many cycles give: how many instants were accepted and run to rest or to 65,535 choices; where they were stopped earlier,
 // the number that stopped them and whether it was the run after an instant that did; the state reached.
@@ -131,12 +131,10 @@ fn trace_phases(
     st: State,
     value: &[u32],
     unknown: &[bool],
-    numbers: &mut [u32],
-    flags: &mut [bool],
-    places: &mut [u8],
+    out: &mut [u64],
 ) -> Cycled
     requires { ⌜ length (now unknown) ≡ length (now value) ⌝ }
-    requires { ⌜ hasRoom (rounds (now value)) (lent (now numbers) (now flags) (now places)) ≡ true ⌝ }
+    requires { ⌜ rounds (now value) ≤ length (now out) / 88 ⌝ }
     ensures { λ r. ⌜
         r ≡ ended
         (phasesAt (planOf (now (plan .entry)))
@@ -144,11 +142,10 @@ fn trace_phases(
         (rounds (now (value .entry))) 0 (laidOut (planOf (now (plan .entry))) st))
         ⌝ }
     ensures { λ _. ⌜
-        lent (now (numbers .exit)) (now (flags .exit)) (now (places .exit))
+        now (out .exit)
         ≡ traceFromAt (planOf (now (plan .entry)))
         (rowInputs (planOf (now (plan .entry)) .inputs) (now (value .entry)) (now (unknown .entry)))
-        (rounds (now (value .entry))) 0 (laidOut (planOf (now (plan .entry))) st)
-        (lent (now (numbers .entry)) (now (flags .entry)) (now (places .entry)))
+        (rounds (now (value .entry))) 0 (laidOut (planOf (now (plan .entry))) st) (now (out .entry))
         ⌝ }
 {
     let mut cells = [0u64; 4176];
@@ -169,36 +166,32 @@ fn trace_phases(
         if f.number != 0 {
             return ended(&cells, &pending, stood, standing, p, f.number, f.running);
         }
-        traces::put_row(&cells, &stood, numbers, flags, places, p);
+        traces::put_row(&cells, &stood, out, p);
         p += 1;
     }
     ended(&cells, &pending, stood, standing, p, 0, false)
 }
 
-// The cycles of `run_cycles`, and for each instant that is accepted and run a row of 80 numbers, 80 unknown flags and 8 places in the
-// arrays that are lent, two rows to a cycle; where the arrays are too short for all instants nothing is run. An instant whose run was
+// The cycles of `run_cycles`, and for each instant that is accepted and run a row of 88 words in the array that is lent, two rows to a
+// cycle: the 80 variables, then the 8 places. Where the array is too short for all instants nothing is run. An instant whose run was
 // spent has its row too; the next one is refused with 32.
 pub fn trace(
     plan: &PlanTable,
     st: State,
     value: &[u32],
     unknown: &[bool],
-    numbers: &mut [u32],
-    flags: &mut [bool],
-    places: &mut [u8],
+    out: &mut [u64],
 ) -> Cycled
     ensures { λ r. ⌜
-        r ≡ traceAt (planOf (now (plan .entry))) st (now (value .entry)) (now (unknown .entry))
-        (lent (now (numbers .entry)) (now (flags .entry)) (now (places .entry)))
+        r ≡ traceAt (planOf (now (plan .entry))) st (now (value .entry)) (now (unknown .entry)) (now (out .entry))
         ⌝ }
     ensures { λ _. ⌜
-        lent (now (numbers .exit)) (now (flags .exit)) (now (places .exit))
-        ≡ tracedAt (planOf (now (plan .entry))) st (now (value .entry)) (now (unknown .entry))
-        (lent (now (numbers .entry)) (now (flags .entry)) (now (places .entry)))
+        now (out .exit)
+        ≡ tracedAt (planOf (now (plan .entry))) st (now (value .entry)) (now (unknown .entry)) (now (out .entry))
         ⌝ }
 {
     let n = 2 * (value.len() / 16);
-    if !traces::room_for(n, numbers.len(), flags.len(), places.len()) {
+    if out.len() / 88 < n {
         return refused_with(23, st);
     }
     if !plan_fitting::state_fits(plan, st) {
@@ -207,5 +200,5 @@ pub fn trace(
     if !fitting::rows_whole(value, unknown) {
         return refused_with(25, st);
     }
-    trace_phases(plan, st, value, unknown, numbers, flags, places)
+    trace_phases(plan, st, value, unknown, out)
 }

@@ -1,22 +1,22 @@
--- `prepared_cycles::traces::put_flags` meets its contract. The loop's invariant: the flags so far are written. Assumes nothing.
+-- `prepared_cycles::traces::put_words` meets its contract. The loop's invariant: the words so far are written. Assumes nothing.
 use mathlib.Core.Path.{_≡_, refl}
 use Prim.Native.Nat.{_≤_, _-_}
 use native.Mathlib.Omega.{arith}
 use lib.ListN.{length, getD, length-set}
 use lib.Seq.{sets}
 use Rattle.state.specs.Saved.{listOf}
-use Rattle.plan_state.specs.Planes.{unknownIn}
+use Rattle.prepared_cycles.specs.Traces.{wordIn}
 use Rattle.prepared_cycles.proofs.Items.{listOf-on}
 use borrow.Author.Needs.{needs}
-use Rattle.prepared_cycles.proofs.traces.put_flags.Statement.{statement}
-use Rattle.prepared_cycles.proofs.traces.put_flags.Tie as tie
+use Rattle.prepared_cycles.proofs.traces.put_words.Statement.{statement}
+use Rattle.prepared_cycles.proofs.traces.put_words.Tie as tie
 
 abbrev Inv-loop : tie.InvT-loop
-Inv-loop cells flags₀ at v₀ flags v =
-    (v ≤ 80) × (length flags ≡ length flags₀) × (flags ≡ sets flags₀ at (listOf v (λ j. unknownIn (getD cells j 0))))
+Inv-loop cells out₀ at v₀ out v =
+    (v ≤ 80) × (length out ≡ length out₀) × (out ≡ sets out₀ at (listOf v (λ j. wordIn (getD cells j 0))))
 
 abbrev μ-loop : tie.MeasureT-loop
-μ-loop cells flags₀ at v₀ flags v = 80 - v
+μ-loop cells out₀ at v₀ out v = 80 - v
 
 loop-holds : tie.Need-loop-holds Inv-loop μ-loop
 unfolding listOf
@@ -28,8 +28,7 @@ loop-again c =
     let p = l .before .before .args in (
       omega arith,
       simp length-set (l .loop .inv .1),
-      rw (c .unknown-in .ensures, l .loop .inv .2)
-          (listOf-on (λ j. unknownIn (getD (p .cells .now) j 0)) (p .flags .now) (p .at) (l .loop .v)),
+      rw (c .word-in .ensures, l .loop .inv .2) (listOf-on (λ j. wordIn (getD (p .cells .now) j 0)) (p .out .now) (p .at) (l .loop .v)),
     )
 
 returns : tie.Need-returns Inv-loop μ-loop
@@ -38,8 +37,8 @@ returns c =
     let e : l .loop .v ≡ 80 = omega arith in
     rw e at (l .loop .inv .2)
 
-pub put-flags-spec : {M : Type 1} → statement M
-put-flags-spec =
+pub put-words-spec : {M : Type 1} → statement M
+put-words-spec =
     tie.close
     (tie.spec
     Inv-loop
@@ -48,6 +47,7 @@ put-flags-spec =
     (λ c. search needs)
     (λ c. search needs)
     (λ c κs. search needs)
+    (λ c. omega arith)
     (λ c. omega arith)
     (λ c. omega arith)
     (λ c. search needs)
