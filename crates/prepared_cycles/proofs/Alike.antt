@@ -184,7 +184,8 @@ module _ (s : List ℕ) {m : Module Expr} {q : Plan} (w : PlanOf m q) (inputs-fi
     unfolding plainly
     plainly-like (like n b seed {st} {o} z) =
         rw (plain-fits s w inputs-fit e st (z .fit) 65535)
-        (subst (λ (t : Bool). Like m (going 0 (isQuiet (ran st o z .verdict)) seed (ran st o z .state)) (going 0 t seed (P .plain o .after)))
+        (subst
+        (λ (t : Bool). Like m (going 0 (isQuiet (ran st o z .verdict)) seed (ran st o z .state)) (going 0 t seed (P .plain o .after)))
         (run-rested st o z)
         (like 0 (isQuiet (ran st o z .verdict)) seed (run-stood st o z)))
 
@@ -237,7 +238,8 @@ module _ (s : List ℕ) {m : Module Expr} {q : Plan} (w : PlanOf m q) (inputs-fi
       onward (like n true seed z) y p = y
       onward (like n false seed z) y p = ends p (like n false seed z)
 
-      pub drives-like : (n p : ℕ) {g : Going State} {h : Going Moment} → Like m g h → Ends m (drives S b inputs n p g) (drives P b inputs n p h)
+      pub drives-like : (n p : ℕ) {g : Going State} {h : Going Moment} → Like m g h
+          → Ends m (drives S b inputs n p g) (drives P b inputs n p h)
       unfolding drives
       drives-like zero p l = ends p l
       drives-like (suc n) p l =

@@ -139,7 +139,9 @@ module _ (s : List ℕ) {m : Module Expr} {q : Plan} (k : PlanOf m q) (inputs-fi
           where
             by : (r t : Bool) → stateFits m st ≡ t → (u : Bool)
                 → pick r
-                (pick t (pick u (rows (onPlan q) draws (rowInputs (q .inputs) ns xs) (rounds ns) 0 (going 0 true seed (laidOut q st)) w) w) w)
+                (pick t
+                (pick u (rows (onPlan q) draws (rowInputs (q .inputs) ns xs) (rounds ns) 0 (going 0 true seed (laidOut q st)) w) w)
+                w)
                 w
                 ≡ pick r
                 (pick t

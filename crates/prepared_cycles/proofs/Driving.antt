@@ -26,7 +26,8 @@ use Rattle.prepared_cycles.specs.Cycles.{rowInputs}
 use Rattle.prepared_cycles.specs.Phases.{Moment, moment, refusalAt, laidOut}
 use Rattle.prepared_cycles.specs.Traces.{written, rounds, hasRoom, stateAt}
 use Rattle.prepared_cycles.specs.Drives.{Going, going, Drive, driven, onPlan, plainMost, drawnMost, nextSeed, drawnChoice}
-use Rattle.prepared_cycles.specs.Drives.{draw, drawn, plainly, toRest, drive, drives, rows, told, arrived, settledAt, driveAt, drivenAt}
+use Rattle.prepared_cycles.specs.Drives.{draw, drawn, plainly, toRest, drive, drives, rows, told, arrived}
+use Rattle.prepared_cycles.specs.Drives.{settledAt, driveAt, drivenAt}
 
 second : {A : Type 0} (t : Bool) (a b : A) → t ≡ false → pick t a b ≡ b
 second t a b e = rw e refl

@@ -10,7 +10,8 @@ ghost use mathlib.Core.Path.{_≡_};
 ghost use Prim.Native.Nat.{_+_, _≤_};
 ghost use Rattle.plan.specs.Plan.{planOf};
 ghost use Rattle.prepared.specs.Prepared.{counting};
-ghost use Rattle.prepared_cycles.specs.Drives.{nextSeed, drawnChoice, drawnMost, goingOf, onPlan, draw, drawn, plainly, toRest, drive};
+ghost use Rattle.prepared_cycles.specs.Drives.{nextSeed, drawnChoice, drawnMost, goingOf, onPlan};
+ghost use Rattle.prepared_cycles.specs.Drives.{draw, drawn, plainly, toRest, drive};
 
 // How many choices a run to rest may take, of a plain run and of one whose choices are drawn.
 const PLAIN_MOST: u16 = 65535;

@@ -1,5 +1,5 @@
--- `prepared_cycles::drive` meets its contract: arrays that are too short, a state that doesn't fit, rows that aren't whole, or the instants.
--- Assumes nothing.
+-- `prepared_cycles::drive` meets its contract: an array that is too short, a state that doesn't fit, rows that aren't whole, or the
+-- instants. Assumes nothing.
 use native.Mathlib.Omega.{arith}
 use borrow.Author.Needs.{needs}
 use borrow.Author.Tests.{not-true, not-false}

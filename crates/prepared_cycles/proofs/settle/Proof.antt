@@ -7,10 +7,16 @@ use Rattle.prepared_cycles.proofs.settle.Statement.{statement}
 use Rattle.prepared_cycles.proofs.settle.Tie as tie
 
 returns : tie.Need-returns
-returns c = settled-unfit _ _ _ _ (sym (c .before .before .state-fits .ensures) ∙ not-true _ (c .before .if1 .taken)) _ (c .undriven .ensures)
+returns c =
+    let at-then1 = c .before in
+    let at-state-fits = at-then1 .before in
+    settled-unfit _ _ _ _ (sym (at-state-fits .state-fits .ensures) ∙ not-true _ (at-then1 .if1 .taken)) _ (c .undriven .ensures)
 
 returns-2 : tie.Need-returns-2
-returns-2 c = settled-run _ _ _ _ (sym (c .before .before .state-fits .ensures) ∙ not-false _ (c .before .if1 .left)) _ (c .run-to-rest .ensures)
+returns-2 c =
+    let at-else1 = c .before in
+    let at-state-fits = at-else1 .before in
+    settled-run _ _ _ _ (sym (at-state-fits .state-fits .ensures) ∙ not-false _ (at-else1 .if1 .left)) _ (c .run-to-rest .ensures)
 
 pub settle-spec : {M : Type 1} → statement M
 settle-spec =

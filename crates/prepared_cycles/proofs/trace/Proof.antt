@@ -1,4 +1,4 @@
--- `prepared_cycles::trace` meets its contract: arrays that are too short, a state that doesn't fit, rows that aren't whole, or the trace.
+-- `prepared_cycles::trace` meets its contract: an array that is too short, a state that doesn't fit, rows that aren't whole, or the trace.
 -- Assumes nothing.
 use native.Mathlib.Omega.{arith}
 use borrow.Author.Needs.{needs}

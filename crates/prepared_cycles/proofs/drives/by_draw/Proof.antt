@@ -21,24 +21,33 @@ loop-holds c = refl
 
 returns : tie.Need-returns Inv-loop μ-loop
 returns c =
-    let l = c .before .before .loop in
-    let a = c .before .before .before .args in
+    let at-in-loop = c .before in
+    let at-at-loop = at-in-loop .before in
+    let at-start = at-at-loop .before in
+    let l = at-at-loop .loop in
+    let a = at-start .args in
     sym (drawn-rested (planOf (a .plan .now)) (goingOf (l .cells) (l .pending) (l .places) (l .e)) (l .turns)
-    (c .before .loop-test .taken) (c .if1 .taken))
+    (at-in-loop .loop-test .taken) (c .if1 .taken))
     ∙ l .inv
 
 loop-again : tie.Need-loop-again Inv-loop μ-loop
 loop-again c =
-    let l = c .before .before .before .before .before .before .loop in
-    let a = c .before .before .before .before .before .before .before .args in
+    let at-else1 = c .before .before .before .before in
+    let at-in-loop = at-else1 .before in
+    let at-at-loop = at-in-loop .before in
+    let at-start = at-at-loop .before in
+    let l = at-at-loop .loop in
+    let a = at-start .args in
     sym (drawn-more (planOf (a .plan .now)) (goingOf (l .cells) (l .pending) (l .places) (l .e)) (l .turns)
-    (c .before .before .before .before .before .loop-test .taken) (c .before .before .before .before .if1 .left) _ (c .draw .ensures))
+    (at-in-loop .loop-test .taken) (at-else1 .if1 .left) _ (c .draw .ensures))
     ∙ l .inv
 
 returns-2 : tie.Need-returns-2 Inv-loop μ-loop
 returns-2 c =
-    let l = c .before .loop in
-    let a = c .before .before .args in
+    let at-at-loop = c .before in
+    let at-start = at-at-loop .before in
+    let l = at-at-loop .loop in
+    let a = at-start .args in
     sym (drawn-none (planOf (a .plan .now)) (goingOf (l .cells) (l .pending) (l .places) (l .e)) (l .turns) (c .loop-test .left))
     ∙ l .inv
 

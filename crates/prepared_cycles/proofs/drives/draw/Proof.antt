@@ -13,10 +13,16 @@ counted-requires c κs = choice-left _ _ _ _ _ _ _ refl (c .before .take-choice 
 
 returns : tie.Need-returns
 returns c =
-    let a = c .before .before .before .before .before .before .before .before .before .before .before .before .before .args in
+    let at-counted = c .before in
+    let at-take-choice = at-counted .before .before in
+    let at-drawn-choice = at-take-choice .before .before .before .before .before in
+    let at-items = at-drawn-choice .before in
+    let at-next-seed = at-items .before in
+    let at-start = at-next-seed .before .before .before in
+    let a = at-start .args in
     draw-is (planOf (a .plan .now)) (goingOf (a .cells .now) (a .pending .now) (a .places .now) (a .g)) _ _ _ _
-    (c .before .before .before .before .before .before .before .before .before .before .next-seed .ensures) (c .before .before .before .before .before .before .before .before .before .items .ensures) (c .before .before .before .before .before .before .before .before .drawn-choice .ensures) refl _ _
-    (c .before .before .before .take-choice .ensures) _ (c .before .counted .ensures)
+    (at-next-seed .next-seed .ensures) (at-items .items .ensures) (at-drawn-choice .drawn-choice .ensures) refl _ _
+    (at-take-choice .take-choice .ensures) _ (at-counted .counted .ensures)
 
 pub draw-spec : {M : Type 1} → statement M
 draw-spec =

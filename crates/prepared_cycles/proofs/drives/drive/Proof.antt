@@ -12,25 +12,34 @@ use Rattle.prepared_cycles.proofs.drives.drive.Tie as tie
 
 returns : tie.Need-returns
 returns c =
-    let a = c .before .before .before .before .args in
+    let at-refusal = c .before in
+    let at-start = at-refusal .before .before .before in
+    let a = at-start .args in
     drive-off (planOf (a .plan .now)) (goingOf (a .cells .now) (a .pending .now) (a .places .now) (a .g)) (a .drawn) (a .t7) _
-    (c .before .refusal .ensures (a .cells .now) (a .pending .now) (a .places .now) (a .g .standing .count)) (c .if1 .taken)
+    (at-refusal .refusal .ensures (a .cells .now) (a .pending .now) (a .places .now) (a .g .standing .count)) (c .if1 .taken)
 
 add-time : tie.Need-add-time
 add-time c =
-    let a = c .before .before .before .before .before .before .before .before .before .before .before .before .args in
-    let e = c .before .before .before .before .before .before .before .before .before .refusal .ensures (a .cells .now) (a .pending .now) (a .places .now) (a .g .standing .count) in
-    let d : a .g .standing .time ≡ 4294967295 → ⊥ = time-room _ _ _ (sym e ∙ c .before .before .before .before .before .before .before .before .if1 .left) in
+    let at-else1 = c .before .before .before .before .before .before .before .before in
+    let at-refusal = at-else1 .before in
+    let at-start = at-refusal .before .before .before in
+    let a = at-start .args in
+    let e = at-refusal .refusal .ensures (a .cells .now) (a .pending .now) (a .places .now) (a .g .standing .count) in
+    let d : a .g .standing .time ≡ 4294967295 → ⊥ = time-room _ _ _ (sym e ∙ at-else1 .if1 .left) in
     omega arith
 
 returns-2 : tie.Need-returns-2
 unfolding inputOf
 returns-2 c =
-    let a = c .before .before .before .before .before .before .before .before .before .before .before .before .before .before .before .before .args in
+    let at-feed = c .before .before .before .before .before in
+    let at-else1 = at-feed .before .before .before .before .before .before .before in
+    let at-refusal = at-else1 .before in
+    let at-start = at-refusal .before .before .before in
+    let a = at-start .args in
     c .to-rest .ensures
     ∙ drive-on (planOf (a .plan .now)) (goingOf (a .cells .now) (a .pending .now) (a .places .now) (a .g)) (a .drawn) (a .t7) _
-    (c .before .before .before .before .before .before .before .before .before .before .before .before .before .refusal .ensures (a .cells .now) (a .pending .now) (a .places .now) (a .g .standing .count)) (c .before .before .before .before .before .before .before .before .before .before .before .before .if1 .left) _
-    (c .before .before .before .before .before .feed .ensures)
+    (at-refusal .refusal .ensures (a .cells .now) (a .pending .now) (a .places .now) (a .g .standing .count)) (at-else1 .if1 .left) _
+    (at-feed .feed .ensures)
 
 pub drive-spec : {M : Type 1} → statement M
 drive-spec =

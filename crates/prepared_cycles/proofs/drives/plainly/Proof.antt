@@ -16,9 +16,11 @@ add-count c =
 
 returns : tie.Need-returns
 returns c =
-    let a = c .before .before .before .before .before .before .before .before .before .before .before .args in
+    let at-run-plain = c .before .before .before .before in
+    let at-start = at-run-plain .before .before .before .before .before .before .before in
+    let a = at-start .args in
     plainly-is (planOf (a .plan .now)) (goingOf (a .cells .now) (a .pending .now) (a .places .now) (a .g)) _ refl _ _ _
-    (c .before .before .before .before .run-plain .ensures) _ (c .busy .ensures _ _ _)
+    (at-run-plain .run-plain .ensures) _ (c .busy .ensures _ _ _)
 
 pub plainly-spec : {M : Type 1} → statement M
 plainly-spec =

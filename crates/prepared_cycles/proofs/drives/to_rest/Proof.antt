@@ -6,10 +6,14 @@ use Rattle.prepared_cycles.proofs.drives.to_rest.Statement.{statement}
 use Rattle.prepared_cycles.proofs.drives.to_rest.Tie as tie
 
 returns : tie.Need-returns
-returns c = c .by-draw .ensures ∙ rest-drawn _ _ _ (c .before .before .before .before .if1 .taken)
+returns c =
+    let at-then1 = c .before .before .before .before in
+    c .by-draw .ensures ∙ rest-drawn _ _ _ (at-then1 .if1 .taken)
 
 returns-2 : tie.Need-returns-2
-returns-2 c = c .plainly .ensures ∙ rest-plain _ _ _ (c .before .before .before .before .if1 .left)
+returns-2 c =
+    let at-else1 = c .before .before .before .before in
+    c .plainly .ensures ∙ rest-plain _ _ _ (at-else1 .if1 .left)
 
 pub to-rest-spec : {M : Type 1} → statement M
 to-rest-spec =
