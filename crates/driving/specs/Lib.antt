@@ -1,2 +1,5 @@
 pub mod Driving
+pub mod Plans
 pub mod Endings
+pub mod Saying
+pub mod Claims

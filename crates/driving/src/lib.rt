@@ -1,14 +1,24 @@
 // A module driven by events through the halves of clock cycles: an instant, and then the plain run, or choices drawn by a seed until
 // nothing is left to choose. Each function equals its definition in specs/.
+mod saying;
+mod states;
+
 use events::Inputs;
 use events::Verdict;
 use options::Outcome;
 use options::Way;
+use plan::PlanTable;
+use prepared_cycles::Driven;
+pub use saying::put_restless;
 use state::State;
+pub use states::registers_of;
+pub use states::row_of;
 ghost use mathlib.Core.Path.{_≡_};
+ghost use Rattle.plan.specs.Plan.{planOf};
 ghost use Rattle.driving.specs.Driving.{left, isQuiet, plainly, nextSeed, drawnChoice, draw, drawn, seedOf, toRest, begun, inputsOf};
 ghost use Rattle.driving.specs.Driving.{byEvents, drawnMost};
-ghost use Rattle.driving.specs.Endings.{mostOf, endingOf, outcomeOf};
+ghost use Rattle.driving.specs.Endings.{mostOf, endingOf, outcomeOf, isExpressed, lineOutcome, timeOf};
+ghost use Rattle.driving.specs.Plans.{isDrawn, restOf, begunAt, tracedAt, rowsAt};
 
 // How many choices a run to rest may take, of a plain run and of one whose choices are drawn.
 const PLAIN_MOST: u16 = 65535;
@@ -22,6 +32,12 @@ pub struct Rest {
     pub rested: bool,
     pub state: State,
     pub seed: u64,
+}
+
+// What a trace gives: how many instants were accepted and came to rest, whose rows are written, and how it goes on from there.
+pub struct Traced {
+    pub phases: usize,
+    pub rest: Rest,
 }
 
 // A cycle's inputs, the clock's slot in front.
@@ -157,7 +173,7 @@ fn seed_of(way: Way) -> u64
 }
 
 // The state at the start, at rest.
-pub fn begin(sheet: &[u8], items: u64, way: Way) -> Rest
+pub fn begin_sheet(sheet: &[u8], items: u64, way: Way) -> Rest
     ensures { λ e. ⌜ e ≡ begun (now (sheet .entry)) items way ⌝ }
 {
     let c = simulator::start(sheet);
@@ -202,6 +218,64 @@ pub fn by_events(sheet: &[u8], items: u64, before: Rest, count: u8, clock: u32, 
     to_rest(sheet, items, r)
 }
 
+// ---- on a plan
+
+// Are the choices drawn?
+fn is_drawn(way: Way) -> bool
+    ensures { λ r. ⌜ r ≡ isDrawn way ⌝ }
+{
+    match way {
+        Way::Plain => false,
+        Way::Drawn(_) => true,
+        Way::Expressed => false,
+    }
+}
+
+// What driven cycles leave.
+fn rest_of(way: Way, d: Driven) -> Rest
+    ensures { λ e. ⌜ e ≡ restOf way d ⌝ }
+{
+    let state = d.state;
+    Rest {
+        way,
+        number: d.number,
+        rested: d.rested,
+        state,
+        seed: d.seed,
+    }
+}
+
+// The state at the start, at rest.
+pub fn begin(plan: &PlanTable, way: Way) -> Rest
+    ensures { λ e. ⌜ e ≡ begunAt (planOf (now (plan .entry))) way ⌝ }
+{
+    let st = prepared::start(plan);
+    let seed = seed_of(way);
+    let d = prepared_cycles::settle(plan, st, is_drawn(way), seed);
+    rest_of(way, d)
+}
+
+// Rows of 16 inputs, for each an instant with the clock low and one with the clock high, each run to rest; the row of each that came to
+// rest is written into what is lent, 88 words.
+pub fn trace(plan: &PlanTable, r: Rest, value: &[u32], unknown: &[bool], out: &mut [u64]) -> Traced
+    ensures { λ t. ⌜ t ≡ tracedAt (planOf (now (plan .entry))) r (now (value .entry)) (now (unknown .entry)) (now (out .entry)) ⌝ }
+    ensures { λ _. ⌜
+        now (out .exit) ≡ rowsAt (planOf (now (plan .entry))) r (now (value .entry)) (now (unknown .entry)) (now (out .entry))
+        ⌝ }
+{
+    if value.len() < 16 {
+        return Traced { phases: 0, rest: r };
+    }
+    let way = r.way;
+    let st = r.state;
+    let d = prepared_cycles::drive(plan, st, is_drawn(way), r.seed, value, unknown, out);
+    let rest = rest_of(way, d);
+    Traced {
+        phases: d.phases,
+        rest,
+    }
+}
+
 // ---- what is said of it
 
 // How many choices a run may take.
@@ -238,4 +312,32 @@ pub fn outcome_of(e: Ending) -> Outcome
         Ending::Refused(_) => Outcome::Refused,
         Ending::Restless(_) => Outcome::Refused,
     }
+}
+
+// Is it by the extracted expressions?
+pub fn is_expressed(way: Way) -> bool
+    ensures { λ r. ⌜ r ≡ isExpressed way ⌝ }
+{
+    match way {
+        Way::Plain => false,
+        Way::Drawn(_) => false,
+        Way::Expressed => true,
+    }
+}
+
+// How a run ends at a line of its inputs that is none of a cycle: its end is right, and so is a blank one.
+pub fn line_outcome(error: u8) -> Outcome
+    ensures { λ o. ⌜ o ≡ lineOutcome error ⌝ }
+{
+    if error < 2 {
+        return Outcome::Done;
+    }
+    Outcome::Mistaken
+}
+
+// The time of a cycle's inputs, or of its rise, in a waveform.
+pub fn time_of(cycle: usize, clock: u32) -> usize
+    ensures { λ t. ⌜ t ≡ timeOf cycle clock ⌝ }
+{
+    10 * (cycle % 4294967296) + 10 + 5 * (clock % 2) as usize
 }

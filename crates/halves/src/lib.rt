@@ -230,7 +230,7 @@ fn items(m: Shape) -> u64
 pub fn begin(sheet: &[u8], m: Shape, way: Way) -> Rest
     ensures { λ e. ⌜ e ≡ started (now (sheet .entry)) m way ⌝ }
 {
-    driving::begin(sheet, items(m), way)
+    driving::begin_sheet(sheet, items(m), way)
 }
 
 // The cycle run of a row, from a state.

@@ -6,7 +6,7 @@ use Rattle.halves.proofs.begin.Statement.{statement}
 use Rattle.halves.proofs.begin.Tie as tie
 
 returns : tie.Need-returns
-returns c = c .begin .ensures ∙ started-is _ _ _ _ (c .before .items .ensures)
+returns c = c .begin-sheet .ensures ∙ started-is _ _ _ _ (c .before .items .ensures)
 
 pub begin-spec : {M : Type 1} → statement M
 begin-spec =
