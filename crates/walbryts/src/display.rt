@@ -39,7 +39,7 @@ pub fn put_row(
     pos: usize,
 ) -> usize {
     let q = tabulate::print_cycle(cycle, text, pos);
-    let r = tabulate::print_values(
+    let r = tabulate::print_plane_values(
         widths,
         names,
         p.inputs as usize,
@@ -63,15 +63,24 @@ pub fn spilled(text: &[u8; 65536], pos: usize) -> usize {
 
 // ---- the waveform
 
+// How many variables of each kind there are.
+fn kinds_of(p: Plan) -> waveform::Counts {
+    waveform::Counts {
+        inputs: p.inputs,
+        registers: p.registers,
+        wires: p.wires,
+    }
+}
+
 // Its head, and every value at time 0.
 pub fn begin_wave(p: Plan, widths: &[u8], names: &[u8; 2560], st: State) {
     if p.wave < 0 {
         return;
     }
     let mut text = [0u8; 65536];
-    let q = waveform::print_header(widths, names, p.inputs, p.registers, p.wires, &mut text, 0);
+    let q = waveform::print_header(widths, names, kinds_of(p), b"", &mut text, 0);
     let r = waveform::print_time(0, &mut text, q);
-    let s = waveform::print_all(widths, variables(p), &st.value, &st.unknown, &mut text, r);
+    let s = waveform::print_plane_all(widths, variables(p), &st.value, &st.unknown, &mut text, r);
     flush(p.wave, &text, s);
 }
 
@@ -82,7 +91,7 @@ pub fn put_wave(p: Plan, widths: &[u8], time: usize, old: State, new: State) {
     }
     let mut text = [0u8; 65536];
     let q = waveform::print_time(time, &mut text, 0);
-    let r = waveform::print_changes(
+    let r = waveform::print_plane_changes(
         widths,
         variables(p),
         &old.value,
