@@ -1,3 +1,4 @@
 pub mod Differences
+pub mod StateRows
 pub mod Verdicts
 pub mod Samples

@@ -1,3 +1,4 @@
 pub mod Comparison
+pub mod StateRows
 pub mod Verdicts
 pub mod Saying

@@ -1,1 +1,3 @@
+pub mod Judging
 pub mod Rivals
+pub mod Samples

@@ -14,7 +14,7 @@ use Rattle.comparison.specs.declared.Verdict.the-variants.{Agreed}
 use Rattle.comparison.specs.Verdicts.{isAgreed}
 use Rattle.rivals.specs.declared.Runs.{Runs}
 use Rattle.rivals.specs.declared.Standing.{Standing}
-use Rattle.rivals.specs.Rivals.{runs, begun, advanced, judged, standing, stopped, opened, turned}
+use Rattle.rivals.specs.Rivals.{runs, begun, advanced, runsJudged, standing, stopped, opened, turned}
 
 -- ---- begun
 
@@ -84,7 +84,7 @@ module _ (s : List ℕ) (m : Shape) (ns rs : List ℕ) (t : Standing) (row : Row
   unfolding turned
   turned-stopped h k = k ∙ rw (← e, h)
 
-  pub turned-on : {v : Verdict} {on : Bool} → q .last .rested ≡ true → v ≡ judged m (t .verdict) q → on ≡ isAgreed v
+  pub turned-on : {v : Verdict} {on : Bool} → q .last .rested ≡ true → v ≡ runsJudged m (t .verdict) q → on ≡ isAgreed v
       → standing on Done v q ≡ turned s m ns rs t row
   unfolding turned
   turned-on h k l = rw (l, k, ← e, h)

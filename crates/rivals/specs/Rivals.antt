@@ -15,7 +15,7 @@ use Rattle.halves.specs.Halves.{started, whole, lineOutcome}
 use Rattle.comparison.specs.declared.Counts.{Counts}
 use Rattle.comparison.specs.declared.Verdict.{Verdict}
 use Rattle.comparison.specs.declared.Verdict.the-variants.{Agreed}
-use Rattle.comparison.specs.Comparison.{finding}
+use Rattle.comparison.specs.StateRows.{stateFinding}
 use Rattle.comparison.specs.Verdicts.{after, isAgreed, outcomeOf}
 use Rattle.rivals.specs.declared.Runs.{Runs}
 use Rattle.rivals.specs.declared.Standing.{Standing}
@@ -49,14 +49,14 @@ advanced s m ns rs q row =
     (runs a b (q .second) (q .expressed) b))
     (runs a (q .first) (q .second) (q .expressed) a)
 
--- ---- judged: the verdict with the cycle that was run
+-- ---- runsJudged: the verdict with the cycle that was run
 
 abbrev pub countsOf : Shape → Counts
 countsOf m = record { inputs = m .inputs; registers = m .registers; wires = m .wires; threads = m .threads }
 
-unfoldable pub judged : Shape → Verdict → Runs → Verdict
-judged m v q =
-    after v (finding (countsOf m) (q .plain .state ∷ q .first .state ∷ q .second .state ∷ []) (q .expressed .state))
+unfoldable pub runsJudged : Shape → Verdict → Runs → Verdict
+runsJudged m v q =
+    after v (stateFinding (countsOf m) (q .plain .state ∷ q .first .state ∷ q .second .state ∷ []) (q .expressed .state))
 
 -- ---- where a comparison stands: whether it goes on, how it ends where something keeps it from its end, and the verdict so far
 
@@ -75,7 +75,7 @@ opened s m = let q = begun s m in pick (q .last .rested) (standing true Done (Ag
 unfoldable pub turned : List ℕ → Shape → List ℕ → List ℕ → Standing → Row → Standing
 turned s m ns rs t row =
     let q = advanced s m ns rs (t .runs) row in
-    let v = judged m (t .verdict) q in
+    let v = runsJudged m (t .verdict) q in
     pick (q .last .rested) (standing (isAgreed v) Done v q) (stopped (t .verdict) q)
 
 -- A line of the inputs that gives no cycle, by its error.

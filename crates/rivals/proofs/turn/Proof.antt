@@ -13,7 +13,7 @@ returns c =
 returns-2 : tie.Need-returns-2
 returns-2 c =
     turned-on _ _ _ _ _ _ (c .before .before .before .before .before .advance .ensures) (not-false _ (c .before .before .if1 .left))
-    (c .before .judge .ensures) (c .is-agreed .ensures)
+    (c .before .judge-runs .ensures) (c .is-agreed .ensures)
 
 pub turn-spec : {M : Type 1} → statement M
 turn-spec =
