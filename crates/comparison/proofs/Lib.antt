@@ -1,4 +1,3 @@
 pub mod Differences
-pub mod StateRows
 pub mod Verdicts
 pub mod Samples

@@ -1,4 +1,3 @@
 pub mod Comparison
-pub mod StateRows
 pub mod Verdicts
 pub mod Saying

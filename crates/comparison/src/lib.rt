@@ -1,11 +1,9 @@
 // What a comparison of runs says: where the rows of two runs differ after a cycle, which of several orders differs first from the
 // extracted expressions, and the verdict over all cycles, with its words. Each function equals its definition in specs/.
 mod saying;
-mod states;
 
 use options::Outcome;
 pub use saying::put_verdict;
-pub use states::compare_states;
 use stimulus::counted;
 use trace_row::place_in;
 use trace_row::value_in;

@@ -1,3 +1,2 @@
 pub mod Judging
-pub mod Rivals
 pub mod Samples

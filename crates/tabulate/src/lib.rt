@@ -9,7 +9,6 @@ use writing::put_word;
 ghost use mathlib.Core.Path.{_≡_};
 ghost use Prim.Native.Nat.{_+_, _-_};
 ghost use lib.ListN.{length};
-ghost use Rattle.values.specs.Planes.{valueAt};
 ghost use Rattle.cells.specs.Cells.{cellAt};
 ghost use Rattle.writing.specs.Numbers.{decimal};
 ghost use Rattle.writing.specs.Buffer.{filled, puts};
@@ -189,32 +188,6 @@ pub fn print_values(
     while v < end {
         let width = column_width(widths, names, v);
         let a = value_in(row, v);
-        p = put_cell(width, a, text, p);
-        v += 1;
-    }
-    p
-}
-
-// The values of `count` variables from `from` on, out of planes.
-pub fn print_plane_values<'a>(
-    widths: &[u8],
-    names: &[u8; 2560],
-    from: usize,
-    count: usize,
-    value: &'a [u32; 80],
-    unknown: &'a [bool; 80],
-    text: &mut [u8; 65536],
-    pos: usize,
-) -> usize
-    ensures { λ r. ⌜ filled (now (text .exit)) r ≡ puts (filled (now (text .entry)) pos)
-        (entries (now (widths .entry)) (now (names .entry)) (valueAt (now (value .entry)) (now (unknown .entry))) from count) ⌝ }
-{
-    let end = last_of(from, count);
-    let mut p = pos;
-    let mut v = from;
-    while v < end {
-        let width = column_width(widths, names, v);
-        let a = values::value_at(value, unknown, v);
         p = put_cell(width, a, text, p);
         v += 1;
     }

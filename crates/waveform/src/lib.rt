@@ -9,7 +9,6 @@ ghost use mathlib.Core.Path.{_≡_};
 ghost use mathlib.Core.List.{_∷_, [], map};
 ghost use Prim.Native.Nat.{_+_, _<_};
 ghost use lib.ListN.{getD};
-ghost use Rattle.values.specs.Planes.{valueAt};
 ghost use Rattle.cells.specs.Cells.{cellAt};
 ghost use Rattle.values.specs.Values.{pick, same};
 ghost use Rattle.writing.specs.Ascii.{byte};
@@ -285,77 +284,6 @@ pub fn print_changes(
         let a = value_in(old, v);
         let b = value_in(new, v);
         p = put_change(w, v, a, b, text, p);
-        v += 1;
-    }
-    p
-}
-
-// ---- out of planes
-
-// The lines of the values of the first n variables, out of planes.
-fn put_plane_values<'a>(
-    widths: &[u8],
-    n: usize,
-    value: &'a [u32; 80],
-    unknown: &'a [bool; 80],
-    text: &mut [u8; 65536],
-    pos: usize,
-) -> usize
-    ensures { λ r. ⌜ filled (now (text .exit)) r ≡ puts (filled (now (text .entry)) pos)
-        (texts (valueOf (now (widths .entry)) (valueAt (now (value .entry)) (now (unknown .entry)))) (within n) 0) ⌝ }
-{
-    let end = naming::within(n);
-    let mut p = pos;
-    let mut v: usize = 0;
-    while v < end {
-        let w = byte_at(widths, v);
-        let a = values::value_at(value, unknown, v);
-        p = put_value(w, v, a, text, p);
-        v += 1;
-    }
-    p
-}
-
-// The values of the first n variables, as a dump begins, out of planes.
-pub fn print_plane_all<'a>(
-    widths: &[u8],
-    n: usize,
-    value: &'a [u32; 80],
-    unknown: &'a [bool; 80],
-    text: &mut [u8; 65536],
-    pos: usize,
-) -> usize
-    ensures { λ r. ⌜ filled (now (text .exit)) r ≡ puts (filled (now (text .entry)) pos)
-        (allValues (now (widths .entry)) n (valueAt (now (value .entry)) (now (unknown .entry)))) ⌝ }
-{
-    let p = put_word(b"$dumpvars\n", text, pos);
-    let q = put_plane_values(widths, n, value, unknown, text, p);
-    put_word(b"$end\n", text, q)
-}
-
-// The values of those of the first n variables that differ, out of planes.
-pub fn print_plane_changes<'a>(
-    widths: &[u8],
-    n: usize,
-    before: &'a [u32; 80],
-    blank: &'a [bool; 80],
-    value: &'a [u32; 80],
-    unknown: &'a [bool; 80],
-    text: &mut [u8; 65536],
-    pos: usize,
-) -> usize
-    ensures { λ r. ⌜ filled (now (text .exit)) r ≡ puts (filled (now (text .entry)) pos)
-        (changes (now (widths .entry)) n (valueAt (now (before .entry)) (now (blank .entry)))
-        (valueAt (now (value .entry)) (now (unknown .entry)))) ⌝ }
-{
-    let end = naming::within(n);
-    let mut p = pos;
-    let mut v: usize = 0;
-    while v < end {
-        let w = byte_at(widths, v);
-        let old = values::value_at(before, blank, v);
-        let new = values::value_at(value, unknown, v);
-        p = put_change(w, v, old, new, text, p);
         v += 1;
     }
     p
