@@ -1,7 +1,6 @@
 // What is shown of a run: a line of the table a cycle, and the waveform.
-use crate::files::flush;
 use crate::machine::Plan;
-use libc::STDOUT_FILENO;
+use driving::Rest;
 use state::State;
 use writing::put_byte;
 
@@ -22,25 +21,26 @@ fn columns(p: Plan) -> usize {
 }
 
 // The titles.
-pub fn put_titles(p: Plan, widths: &[u8], names: &[u8; 2560], text: &mut [u8; 65536]) -> usize {
+pub fn put_titles(p: Plan, names: &[u8; 2560], text: &mut [u8; 65536]) -> usize {
+    let widths = p.widths;
     let q = tabulate::print_cycle_title(text, 0);
-    let r = tabulate::print_titles(widths, names, p.inputs as usize, columns(p), text, q);
+    let r = tabulate::print_titles(&widths, names, p.inputs as usize, columns(p), text, q);
     put_byte(b'\n', text, r)
 }
 
 // A cycle's line.
 pub fn put_row(
     p: Plan,
-    widths: &[u8],
     names: &[u8; 2560],
     cycle: usize,
     st: State,
     text: &mut [u8; 65536],
     pos: usize,
 ) -> usize {
+    let widths = p.widths;
     let q = tabulate::print_cycle(cycle, text, pos);
     let r = tabulate::print_values(
-        widths,
+        &widths,
         names,
         p.inputs as usize,
         columns(p),
@@ -52,45 +52,52 @@ pub fn put_row(
     put_byte(b'\n', text, r)
 }
 
-// The text so far goes out where the buffer is nearly full.
-pub fn spilled(text: &[u8; 65536], pos: usize) -> usize {
-    if pos < 60000 {
-        return pos;
-    }
-    flush(STDOUT_FILENO, text, pos);
-    0
-}
-
 // ---- the waveform
 
 // Its head, and every value at time 0.
-pub fn begin_wave(p: Plan, widths: &[u8], names: &[u8; 2560], st: State) {
-    if p.wave < 0 {
-        return;
-    }
-    let mut text = [0u8; 65536];
-    let q = waveform::print_header(widths, names, p.inputs, p.registers, p.wires, &mut text, 0);
-    let r = waveform::print_time(0, &mut text, q);
-    let s = waveform::print_all(widths, variables(p), &st.value, &st.unknown, &mut text, r);
-    flush(p.wave, &text, s);
+pub fn put_start(p: Plan, names: &[u8; 2560], st: State, text: &mut [u8; 65536]) -> usize {
+    let widths = p.widths;
+    let q = waveform::print_header(&widths, names, p.inputs, p.registers, p.wires, text, 0);
+    let r = waveform::print_time(0, text, q);
+    waveform::print_all(&widths, variables(p), &st.value, &st.unknown, text, r)
 }
 
 // What has changed, at a time.
-pub fn put_wave(p: Plan, widths: &[u8], time: usize, old: State, new: State) {
-    if p.wave < 0 {
-        return;
-    }
-    let mut text = [0u8; 65536];
-    let q = waveform::print_time(time, &mut text, 0);
-    let r = waveform::print_changes(
-        widths,
+fn put_changes(
+    p: Plan,
+    time: usize,
+    old: State,
+    new: State,
+    text: &mut [u8; 65536],
+    pos: usize,
+) -> usize {
+    let widths = p.widths;
+    let q = waveform::print_time(time, text, pos);
+    waveform::print_changes(
+        &widths,
         variables(p),
         &old.value,
         &old.unknown,
         &new.value,
         &new.unknown,
-        &mut text,
+        text,
         q,
-    );
-    flush(p.wave, &text, r);
+    )
+}
+
+// The two halves of a cycle.
+pub fn put_cycle(
+    p: Plan,
+    cycle: usize,
+    before: Rest,
+    low: Rest,
+    high: Rest,
+    text: &mut [u8; 65536],
+    pos: usize,
+) -> usize {
+    let a = before.state;
+    let b = low.state;
+    let c = high.state;
+    let q = put_changes(p, halves::time_of(cycle, 0), a, b, text, pos);
+    put_changes(p, halves::time_of(cycle, 1), b, c, text, q)
 }

@@ -1,25 +1,38 @@
-// A run's clock cycles, with their part of the waveform, and what is said where one does not come to rest. The cycles are those of
-// `halves`.
-use crate::display;
+// What a run goes by, its clock cycles, and what is said where one does not come to rest. The cycles are those of `halves`.
 use crate::feed::Row;
+use crate::files::byte_at;
 use crate::report;
 use driving::Ending;
 use driving::Rest;
 use engine::Shape;
+use halves::Cycle;
 use options::Way;
 
-// What a run goes by: the sheet's counts, the word that names the inputs, the wires shown or not, only the last cycle or all, how far
-// it has come told or not, and the waveform's descriptor, or -1.
+// What a run goes by: the sheet's counts and widths, the words that name the module and the inputs, the wires shown or not, only the last
+// cycle or all, how far it has come told or not, and a waveform or none.
 pub struct Plan {
     pub inputs: u8,
     pub registers: u8,
     pub wires: u8,
     pub threads: u8,
+    pub widths: [u8; 80],
+    pub sheet: usize,
     pub index: usize,
     pub shown: bool,
     pub last: bool,
     pub told: bool,
-    pub wave: i32,
+    pub waved: bool,
+}
+
+// The widths of a sheet's variables.
+pub fn widths_of(sheet: &[u8]) -> [u8; 80] {
+    let mut widths = [0u8; 80];
+    let mut i = 0;
+    while i < 80 {
+        widths[i] = byte_at(sheet, i + 4);
+        i += 1;
+    }
+    widths
 }
 
 // The sheet's counts.
@@ -37,30 +50,13 @@ pub fn begin(p: Plan, sheet: &[u8], way: Way) -> Rest {
     halves::begin(sheet, shape_of(p), way)
 }
 
-// Did it come to rest? If not, says why.
-pub fn at_rest(index: usize, cycle: usize, r: Rest) -> bool {
+// Says why it did not come to rest.
+pub fn say_unrest(index: usize, cycle: usize, r: Rest) {
     match driving::ending_of(r) {
-        Ending::Rested => true,
-        Ending::Refused(number) => {
-            report::stopped(index, cycle, number);
-            false
-        }
-        Ending::Restless(most) => {
-            report::restless(index, cycle, most);
-            false
-        }
+        Ending::Rested => {}
+        Ending::Refused(number) => report::stopped(index, cycle, number),
+        Ending::Restless(most) => report::restless(index, cycle, most),
     }
-}
-
-// Half a cycle's part of the waveform; where it does not come to rest, says why.
-fn show(p: Plan, widths: &[u8], cycle: usize, clock: u32, before: Rest, after: Rest) -> bool {
-    if !at_rest(p.index, cycle, after) {
-        return false;
-    }
-    let old = before.state;
-    let new = after.state;
-    display::put_wave(p, widths, halves::time_of(cycle, clock), old, new);
-    true
 }
 
 // A cycle.
@@ -69,19 +65,11 @@ pub fn whole(
     sheet: &[u8],
     nodes: &[u16; 16384],
     rows: &[u16; 1056],
-    widths: &[u8],
-    cycle: usize,
     before: Rest,
     row: Row,
-) -> Rest {
+) -> Cycle {
     let value = row.value;
     let unknown = row.unknown;
     let fed = driving::Row { value, unknown };
-    let c = halves::whole(sheet, shape_of(p), nodes, rows, before, fed);
-    let low = c.low;
-    let high = c.high;
-    if show(p, widths, cycle, 0, before, low) {
-        show(p, widths, cycle, 1, low, high);
-    }
-    high
+    halves::whole(sheet, shape_of(p), nodes, rows, before, fed)
 }

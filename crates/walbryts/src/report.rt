@@ -2,8 +2,10 @@
 // numbers come from the table in `reasons`, those of lines and rules from `findings` and `named_findings`, those of
 // places from `overview`.
 use crate::files::flush;
+use crate::files::unshown;
 use crate::say::say;
 use libc::STDERR_FILENO;
+use options::Outcome;
 use witness::Witness;
 use writing::put_byte;
 use writing::put_word;
@@ -32,6 +34,20 @@ pub fn wrong_hex(index: usize, line: usize, column: usize, error: u8) {
 // Something wrong with a line of inputs.
 pub fn wrong_inputs(index: usize, line: usize, column: usize, error: u8) {
     say_spot(index, line, column);
+    if error == 6 {
+        io::write_all(
+            STDERR_FILENO,
+            b"an empty cell: a value in front of each comma and behind it is allowed\n",
+        );
+        return;
+    }
+    if error == 7 {
+        io::write_all(
+            STDERR_FILENO,
+            b"a line that is too long: at most 65,535 bytes are allowed\n",
+        );
+        return;
+    }
     let mut text = [0u8; 65536];
     let p = findings::put_input_error(error, &mut text, 0);
     flush(STDERR_FILENO, &text, p);
@@ -103,13 +119,26 @@ fn say_witness(fd: i32, sheet: &[u8], w: Witness, names: &[u8; 2560]) {
 }
 
 // A sheet that is read and not extracted: the number, the witness and what is allowed.
-pub fn unextracted(fd: i32, sheet: &[u8], names: &[u8; 2560]) {
+pub fn unextracted(fd: i32, sheet: &[u8], names: &[u8; 2560]) -> Outcome {
     let w = witness::witness_of(sheet);
     say_number(fd, w.number);
     io::write_all(fd, b"  found: ");
     say_witness(fd, sheet, w, names);
-    io::write_all(fd, b"\n");
+    if !io::write_all(fd, b"\n") {
+        unshown();
+        return Outcome::Mistaken;
+    }
     say_allowed(fd, w.number);
+    Outcome::Done
+}
+
+// A run of a sheet that extraction refuses: what it shows.
+pub fn one_order(index: usize, sheet: &[u8], names: &[u8; 2560]) {
+    refuse_extraction(index, sheet, names);
+    io::write_all(
+        STDERR_FILENO,
+        b"  this table is one order among several; --any-order leaves this out\n",
+    );
 }
 
 // The same on standard error, behind the file.
