@@ -23,6 +23,8 @@
 extern "C" {
 #endif
 
+#define WALBRYTS_VERSION "0.2.0" /* of the library, the command and the Rust crate */
+
 /* ---- lengths */
 
 #define WALBRYTS_VERILOG 16384 /* bytes of the longest Verilog text that is read */

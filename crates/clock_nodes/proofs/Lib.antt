@@ -1,4 +1,5 @@
 pub mod Turns
+pub mod Reaching
 pub mod Worth
 pub mod Copied
 pub mod Lows

@@ -8,6 +8,7 @@ ghost use lib.ListN.{getD};
 ghost use Rattle.masks.specs.Masks.{bits};
 ghost use Rattle.clock_nodes.specs.Copying.{cellIn, firstOf, secondOf, thirdOf, copyNode, copyAll, lowIn, lower, lowest, lowNode};
 ghost use Rattle.clock_nodes.specs.Copying.{lowAll};
+ghost use Rattle.clock_nodes.specs.Reach.{furthest, reach};
 ghost use Rattle.clock_nodes.specs.Rows.{entryAt, putEntries, lowBy, lowTo, higher, highBy, highTo, fillRow};
 
 // For each node the lowest node that its value needs.
@@ -51,6 +52,31 @@ fn size_at(sizes: &[u8], n: u16) -> u32
 {
     let i = wide(n);
     if i < sizes.len() { widen(sizes[i]) } else { 0 }
+}
+
+// ---- how many nodes the rows reach
+
+// How many nodes there are up to an entry, if it is one of the 4,096, and to `n`.
+fn further(n: u16, entry: u16) -> u16
+    ensures { λ r. ⌜ r ≡ furthest n entry ⌝ }
+{
+    if 4096 <= entry {
+        return n;
+    }
+    if entry < n { n } else { entry + 1 }
+}
+
+// How many nodes the rows reach.
+pub fn reach(rows: &[u16]) -> u16
+    ensures { λ n. ⌜ n ≡ reach (now (rows .entry)) ⌝ }
+{
+    let mut n: u16 = 1;
+    let mut j: usize = 0;
+    while j < rows.len() {
+        n = further(n, rows[j]);
+        j += 1;
+    }
+    n
 }
 
 // ---- nodes

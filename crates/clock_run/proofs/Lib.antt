@@ -1,9 +1,1 @@
 pub mod Turns
-pub mod Lists
-pub mod Answering
-pub mod Holding
-pub mod Handing
-pub mod Cycling
-pub mod Fits
-pub mod Repeating
-pub mod Claims

@@ -2,7 +2,7 @@
 use mathlib.Core.Path.{_≡_, refl, sym, ap, _∙_}
 use mathlib.Core.Bool.{Bool, true, false}
 use mathlib.Core.List.{List}
-use Prim.Native.Nat.{ℕ, zero, suc, _+_, _-_, _/_, _≤_, _<_}
+use Prim.Native.Nat.{ℕ, zero, suc, _+_, _-_, _*_, _/_, _≤_, _<_}
 use native.Mathlib.Numerals.{add-one}
 use native.Mathlib.Omega.{arith}
 use borrow.Author.Tests.{eq-eqb, ne-eqb, lt-ltb, le-ltb}
@@ -23,7 +23,8 @@ use Rattle.clock_run.specs.Running.{valuesFit, upperOf, registersFitOn, 
 use Rattle.clock_run.specs.Running.{flagsTo}
 use Rattle.clock_run.specs.Running.{wireNumbersTo, wireFlagsTo, answerOn, turnOn, settledOn, clockedOn, cycleOn}
 use Rattle.clock_run.specs.declared.Rounds.{Rounds}
-use Rattle.clock_run.specs.Traces.{wordOf, putWords, putRow, Traced, traced, traceFrom, traceRows, traceOn}
+use Rattle.clock_run.specs.Traces.{wordOf, putWords, rowWord, putBoth, TurnTraced, turnTraced, highOn, traceTurn, traced}
+use Rattle.clock_run.specs.Traces.{takenOn, traceFrom, traceRows, traceOn}
 use Rattle.clock_run.specs.Rounds.{lastOn, endedAt, rowAt, rowFits, rowOn, roundsFrom, roundsOn, cyclesOn}
 
 -- ---- upperOf
@@ -194,102 +195,152 @@ module _ (q : Plan) (f : ℕ → Node) (ts numbers : List ℕ) (g : Registers) (
 
 -- ---- putWords
 
-module _ (c : Clocked) (at : ℕ) where
-  pub words-none : (ws : List ℕ) → ws ≡ putWords c at 0 ws
+module _ (word : ℕ → ℕ) (at : ℕ) where
+  pub words-none : (ws : List ℕ) → ws ≡ putWords word at 0 ws
   unfolding putWords
   words-none ws = refl
 
-  pub words-more : (k : ℕ) (ws : List ℕ) {us : List ℕ} {a : ℕ} → us ≡ putWords c at k ws → a ≡ wordOf c k →
-      set us (at + k) a ≡ putWords c at (k + 1) ws
+  pub words-more : (k : ℕ) (ws : List ℕ) {us : List ℕ} {a : ℕ} → us ≡ putWords word at k ws → a ≡ word k →
+      set us (at + k) a ≡ putWords word at (k + 1) ws
   unfolding putWords
   words-more k ws p e = rw (add-one k, ← p, ← e)
 
-  pub words-length : (n : ℕ) (ws : List ℕ) → length (putWords c at n ws) ≡ length ws
+  pub words-length : (n : ℕ) (ws : List ℕ) → length (putWords word at n ws) ≡ length ws
   unfolding putWords
   words-length zero ws = refl
-  words-length (suc n) ws = length-set (putWords c at n ws) (at + n) _ ∙ words-length n ws
+  words-length (suc n) ws = length-set (putWords word at n ws) (at + n) _ ∙ words-length n ws
+
+-- ---- wordOf, by the kinds of words
+
+module _ (first end clock : ℕ) (cs ps : List ℕ) (k : ℕ) where
+  pub word-clock : k ≡ 0 → clock ≡ wordOf first end clock cs ps k
+  unfolding wordOf
+  word-clock e = rw (eq-eqb k 0 e)
+
+  module _ (d : k ≡ 0 → ⊥) where
+    pub word-place : 80 ≤ k → {a : ℕ} → a ≡ getD ps (k - 80) 0 → a ≡ wordOf first end clock cs ps k
+    unfolding wordOf
+    word-place l e = rw (ne-eqb k 0 d, le-ltb k 80 l) e
+
+    module _ (l : k < 80) where
+      pub word-kept : k < first → getD cs k 0 ≡ wordOf first end clock cs ps k
+      unfolding wordOf
+      word-kept o = rw (ne-eqb k 0 d, lt-ltb k 80 l, lt-ltb k first o)
+
+      module _ (o : first ≤ k) where
+        pub word-wire : k < end → {a : Value} {b : ℕ} → a ≡ valueOf (getD cs k 0) → b ≡ cellOf a → b ≡ wordOf first end clock cs ps k
+        unfolding wordOf cellAt
+        word-wire u e h = rw (ne-eqb k 0 d, lt-ltb k 80 l, le-ltb k first o, lt-ltb k end u) (h ∙ ap cellOf e)
+
+        pub word-past : end ≤ k → 4294967296 ≡ wordOf first end clock cs ps k
+        unfolding wordOf
+        word-past u = rw (ne-eqb k 0 d, lt-ltb k 80 l, le-ltb k first o, le-ltb k end u)
+
+-- ---- traceTurn
+
+module _ (q : Plan) (f : ℕ → Node) (ts numbers : List ℕ) (at : ℕ) (cs ps ws : List ℕ) where
+  pub turn-traced :
+      {i r w : ℕ} {ds us es os hs vs : List ℕ} → i ≡ q .inputs → r ≡ q .registers → w ≡ q .wires → ds ≡ settle q cs →
+      us ≡ putWords (wordOf (i + r) (i + r + w) 0 ds ps) at 88 ws → stand es os ≡ rise q f ts numbers (stand ds ps) → hs ≡ settle q es →
+      vs ≡ putWords (wordOf (i + r) (i + r + w) 1 hs os) (at + 88) 88 us →
+      turnTraced (stand hs os) vs ≡ traceTurn q f ts numbers at (stand cs ps) ws
+  unfolding traceTurn highOn settledOn putBoth rowWord
+  turn-traced {i} {r} {w} {ds} {us} {es} {os} {hs} {vs} a b c d e u h v =
+      let low : Stand = stand (settle q cs) ps in
+      let n = q .inputs + q .registers in
+      let word : ℕ → Stand → ℕ → ℕ = λ clock b. wordOf n (n + q .wires) clock (b .cells) (b .places) in
+      let put : Stand → List ℕ = λ b. putWords (word 1 b) (at + 88) 88 (putWords (word 0 low) at 88 ws) in
+      let high : stand hs os ≡ stand (settle q (rise q f ts numbers low .cells)) (rise q f ts numbers low .places) =
+      ap (λ (l : List ℕ). stand l os) h
+      ∙ ap (λ (b : Stand). stand (settle q (b .cells)) (b .places)) (u ∙ ap (λ (l : List ℕ). rise q f ts numbers (stand l ps)) d) in
+      let one : us ≡ putWords (word 0 low) at 88 ws = e ∙ rw (a, b, c, d) in
+      let two : vs ≡ put (stand hs os) = v ∙ rw (a, b, c, one) in
+      ap (turnTraced (stand hs os)) two ∙ ap (λ (b : Stand). turnTraced b (put b)) high
+
+  pub turn-length : {b : Stand} {vs : List ℕ} → turnTraced b vs ≡ traceTurn q f ts numbers at (stand cs ps) ws → length vs ≡ length ws
+  unfolding traceTurn putBoth
+  turn-length e = ap (λ (t : TurnTraced). length (t .words)) e ∙ words-length _ (at + 88) 88 _ ∙ words-length _ at 88 ws
+
+-- ---- takenOn
+
+module _ (q : Plan) (g : Registers) (r : ℕ) (b : Stand) where
+  pub taken-none : r ≡ 0 → {c : Clocked} → c ≡ refused 0 g → c ≡ takenOn q g r b
+  unfolding takenOn
+  taken-none e h = rw (eq-eqb r 0 e) h
+
+  pub taken-some : (r ≡ 0 → ⊥) → {c : Clocked} → c ≡ answerOn q g b → c ≡ takenOn q g r b
+  unfolding takenOn
+  taken-some d h = rw (ne-eqb r 0 d) h
 
 -- ---- traceFrom: the rows that are left end where all of them do
 
 module _ (q : Plan) (f : ℕ → Node) (ts numbers : List ℕ) (g : Registers) (ns : List ℕ) (xs : List Bool) (ws : List ℕ) where
-  abbrev pub Left : ℕ → ℕ → Clocked → Stand → List ℕ → Type 0
-  Left n r c b us =
-      traceFrom q f ts numbers g ns xs (n - r) r c b us
-      ≡ traceFrom q f ts numbers g ns xs n 0 (refused 0 g) (stand (handOn q g (replicate 4176 4294967296)) (g .places)) ws
+  abbrev start : Stand
+  start = stand (handOn q g (replicate 4176 4294967296)) (g .places)
 
-  pub left-first : (n : ℕ) {cs : List ℕ} {c : Clocked} → cs ≡ handOn q g (replicate 4176 4294967296) → c ≡ refused 0 g →
-      Left n 0 c (stand cs (g .places)) ws
-  left-first n e h =
+  abbrev pub Left : ℕ → ℕ → Stand → List ℕ → Type 0
+  Left n r b us = traceFrom q f ts numbers g ns xs (n - r) r b us ≡ traceFrom q f ts numbers g ns xs n 0 start ws
+
+  pub left-first : (n : ℕ) {cs : List ℕ} → cs ≡ handOn q g (replicate 4176 4294967296) → Left n 0 (stand cs (g .places)) ws
+  left-first n e =
       let k : n - 0 ≡ n = omega arith in
-      rw (k, e, h)
+      rw (k, e)
 
-  module _ (n r : ℕ) (c : Clocked) (b : Stand) (us : List ℕ) (left : Left n r c b us) where
-    pub left-end : (x : Rounds) → n ≤ r → x ≡ endedAt r 0 c → n ≡ length ns / 16 → traced x us ≡ traceRows q f ts numbers g ns xs ws
+  module _ (n r : ℕ) (b : Stand) (us : List ℕ) (left : Left n r b us) where
+    pub left-end : {c : Clocked} (x : Rounds) → n ≤ r → c ≡ takenOn q g r b → x ≡ endedAt r 0 c → n ≡ length ns / 16 →
+        traced x us ≡ traceRows q f ts numbers g ns xs ws
     unfolding traceRows traceFrom
-    left-end x h k l =
+    left-end x h e k l =
         let z : n - r ≡ 0 = omega arith in
-        ap (λ (y : Rounds). traced y us) k
+        ap (λ (y : Rounds). traced y us) (k ∙ ap (endedAt r 0) e)
         ∙ (rw z at left)
-        ∙ ap
-        (λ (j : ℕ). traceFrom q f ts numbers g ns xs j 0 (refused 0 g) (stand (handOn q g (replicate 4176 4294967296)) (g .places)) ws)
-        l
+        ∙ ap (λ (j : ℕ). traceFrom q f ts numbers g ns xs j 0 start ws) l
 
     module _ (h : r < n) (s : n - r ≡ suc (n - (r + 1))) {u : ℕ} (up : u ≡ upperOf q) where
-      pub left-off : (x : Rounds) → valuesFit q 1 ns xs (rowAt r) u ≡ false → x ≡ endedAt r 25 c → n ≡ length ns / 16 →
-          traced x us ≡ traceRows q f ts numbers g ns xs ws
+      pub left-off : {c : Clocked} (x : Rounds) → valuesFit q 1 ns xs (rowAt r) u ≡ false → c ≡ takenOn q g r b → x ≡ endedAt r 25 c →
+          n ≡ length ns / 16 → traced x us ≡ traceRows q f ts numbers g ns xs ws
       unfolding traceRows traceFrom rowFits
-      left-off x t k l =
-          ap (λ (y : Rounds). traced y us) k
+      left-off x t e k l =
+          ap (λ (y : Rounds). traced y us) (k ∙ ap (endedAt r 25) e)
           ∙ (rw (s, rw up at t) at left)
-          ∙ ap
-          (λ (j : ℕ). traceFrom q f ts numbers g ns xs j 0 (refused 0 g) (stand (handOn q g (replicate 4176 4294967296)) (g .places)) ws)
-          l
+          ∙ ap (λ (j : ℕ). traceFrom q f ts numbers g ns xs j 0 start ws) l
 
       pub left-on :
-          {ds es os fs vs : List ℕ} {d : Clocked} → valuesFit q 1 ns xs (rowAt r) u ≡ true → ds ≡ putItems ns xs (rowAt r) u (b .cells) →
-          stand es os ≡ turnOn q f ts numbers (stand ds (b .places)) → fs ≡ settle q es → d ≡ answerOn q g (stand fs os) →
-          vs ≡ putRow r d us → Left n (r + 1) d (stand fs os) vs
-      unfolding traceFrom rowFits rowOn settledOn
-      left-on {es = es} {os = os} {fs = fs} {d = d} t e v w a p =
+          {ds vs : List ℕ} {o : Stand} → valuesFit q 1 ns xs (rowAt r) u ≡ true → ds ≡ putItems ns xs (rowAt r) u (b .cells) →
+          turnTraced o vs ≡ traceTurn q f ts numbers (176 * r) (stand ds (b .places)) us → Left n (r + 1) o vs
+      unfolding traceFrom rowFits
+      left-on t e v =
           let x =
           v
-          ∙ ap (λ (l : List ℕ). turnOn q f ts numbers (stand l (b .places)))
+          ∙ ap (λ (l : List ℕ). traceTurn q f ts numbers (176 * r) (stand l (b .places)) us)
           (e ∙ ap (λ (j : ℕ). putItems ns xs (rowAt r) j (b .cells)) up) in
-          let y = ap (λ (l : List ℕ). stand l os) w ∙ ap (λ (z : Stand). stand (settle q (z .cells)) (z .places)) x in
-          ap (traceFrom q f ts numbers g ns xs (n - (r + 1)) (r + 1) d (stand fs os)) p
-          ∙ ap (λ (k : Clocked). traceFrom q f ts numbers g ns xs (n - (r + 1)) (r + 1) k (stand fs os) (putRow r k us)) a
-          ∙ ap
-          (λ (z : Stand). traceFrom q f ts numbers g ns xs (n - (r + 1)) (r + 1) (answerOn q g z) z (putRow r (answerOn q g z) us))
-          y
+          ap (λ (z : TurnTraced). traceFrom q f ts numbers g ns xs (n - (r + 1)) (r + 1) (z .stood) (z .words)) x
           ∙ (rw (s, rw up at t) at left)
 
 -- ---- traceOn
-
-pub parts : {x : Rounds} {us : List ℕ} {t : Traced} → traced x us ≡ t → (x ≡ t .rounds) × (us ≡ t .words)
-parts e = (ap (λ (t : Traced). t .rounds) e, ap (λ (t : Traced). t .words) e)
 
 module _ (q : Plan) (f : ℕ → Node) (ts numbers : List ℕ) (g : Registers) (ns : List ℕ) (xs : List Bool) (ws : List ℕ) where
   abbrev Trace : Rounds → List ℕ → Type 0
   Trace x us = traced x us ≡ traceOn q f ts numbers g ns xs ws
 
-  pub trace-23 : {c : Clocked} {x : Rounds} → length ws / 72 < length ns / 16 → c ≡ refused 23 g → x ≡ endedAt 0 23 c → Trace x ws
+  pub trace-23 : {c : Clocked} {x : Rounds} → length ws / 88 < 2 * (length ns / 16) → c ≡ refused 23 g → x ≡ endedAt 0 23 c → Trace x ws
   unfolding traceOn
-  trace-23 l e h = rw (lt-ltb (length ws / 72) (length ns / 16) l) (ap (λ (y : Rounds). traced y ws) (h ∙ ap (endedAt 0 23) e))
+  trace-23 l e h = rw (lt-ltb (length ws / 88) (2 * (length ns / 16)) l) (ap (λ (y : Rounds). traced y ws) (h ∙ ap (endedAt 0 23) e))
 
-  module _ (l : length ns / 16 ≤ length ws / 72) where
+  module _ (l : 2 * (length ns / 16) ≤ length ws / 88) where
     pub trace-31 : {c : Clocked} {x : Rounds} → registersFitOn q g ≡ false → c ≡ refused 31 g → x ≡ endedAt 0 31 c → Trace x ws
     unfolding traceOn
     trace-31 t e h =
-        rw (le-ltb (length ws / 72) (length ns / 16) l, t) (ap (λ (y : Rounds). traced y ws) (h ∙ ap (endedAt 0 31) e))
+        rw (le-ltb (length ws / 88) (2 * (length ns / 16)) l, t) (ap (λ (y : Rounds). traced y ws) (h ∙ ap (endedAt 0 31) e))
 
     pub trace-25 : {c : Clocked} {x : Rounds} → registersFitOn q g ≡ true → wholeRows ns xs ≡ false → c ≡ refused 25 g → x
         ≡ endedAt 0 25 c → Trace x ws
     unfolding traceOn
     trace-25 t u e h =
-        rw (le-ltb (length ws / 72) (length ns / 16) l, t, u) (ap (λ (y : Rounds). traced y ws) (h ∙ ap (endedAt 0 25) e))
+        rw (le-ltb (length ws / 88) (2 * (length ns / 16)) l, t, u) (ap (λ (y : Rounds). traced y ws) (h ∙ ap (endedAt 0 25) e))
 
     pub trace-all :
-        {x : Rounds} {us : List ℕ} → registersFitOn q g ≡ true → wholeRows ns xs ≡ true → x ≡ traceRows q f ts numbers g ns xs ws .rounds →
-        us ≡ traceRows q f ts numbers g ns xs ws .words → Trace x us
+        {x : Rounds} {us : List ℕ} → registersFitOn q g ≡ true → wholeRows ns xs ≡ true →
+        traced x us ≡ traceRows q f ts numbers g ns xs ws → Trace x us
     unfolding traceOn
-    trace-all t u e h = rw (le-ltb (length ws / 72) (length ns / 16) l, t, u) (λ i. traced (e i) (h i))
+    trace-all t u e = rw (le-ltb (length ws / 88) (2 * (length ns / 16)) l, t, u) e

@@ -1,4 +1,3 @@
 pub mod Running
 pub mod Rounds
 pub mod Traces
-pub mod Claims

@@ -1,39 +1,65 @@
--- Many cycles on a plan and on tables that are filled, with each cycle's registers, places and wires in words that the caller lends.
--- Defined for plans and tables of any contents.
-use mathlib.Core.Bool.{Bool, false}
+-- Many cycles on a plan and on tables that are filled, with two rows of each in words that the caller lends. Defined for plans and tables of
+-- any contents.
+use mathlib.Core.Bool.{Bool}
 use mathlib.Core.List.{List}
 use Prim.Native.Nat.{ℕ, zero, suc, _+_, _-_, _*_, _/_}
 use lib.Dec.{ltb, eqb}
 use lib.ListN.{length, getD, set, replicate}
 use Rattle.values.specs.Values.{pick}
-use Rattle.events.specs.declared.Inputs.{Inputs}
+use Rattle.cells.specs.Cells.{cellOf, cellAt}
 use Rattle.events.specs.Rows.{wholeRows}
 use Rattle.plan.specs.Plan.{Node, Plan}
-use Rattle.plan_state.specs.Planes.{marked}
 use Rattle.nextstate.specs.declared.Registers.{Registers}
 use Rattle.nextstate.specs.declared.Clocked.{Clocked}
 use Rattle.nextstate.specs.CycleRun.{refused}
-use Rattle.clock_steps.specs.Taking.{Stand, stand}
+use Rattle.clock_steps.specs.Taking.{Stand, stand, rise}
 use Rattle.clock_run.specs.declared.Rounds.{Rounds}
-use Rattle.clock_run.specs.Running.{registersFitOn, handOn, answerOn, settledOn}
-use Rattle.clock_run.specs.Rounds.{endedAt, rowFits, rowOn, registersOf}
+use Rattle.clock_run.specs.Running.{upperOf, registersFitOn, putItems, handOn, answerOn, settledOn}
+use Rattle.clock_run.specs.Rounds.{endedAt, rowAt, rowFits}
 
--- ---- what a cycle gave as 72 words: 32 registers, eight places, 32 wires; of a value its number, and 4,294,967,296 more where it is x
+-- ---- a row of 88 words: the cells of 80 variables, of which `first` are inputs and registers and those below `end` wires too, then eight
+-- places. A cell is its number, and 4,294,967,296 more where it is x.
 
-unfoldable pub wordOf : Clocked → ℕ → ℕ
-wordOf c k =
-    pick (ltb k 32) (marked (getD (c .value) k 0) (getD (c .unknown) k false))
-    (pick (ltb k 40) (getD (c .places) (k - 32) 0)
-    (pick (ltb k 72) (marked (getD (c .wire) (k - 40) 0) (getD (c .unsure) (k - 40) false))
-    0))
+-- Under a wire's x lies 0; past the wires it is x.
+unfoldable pub wordOf : ℕ → ℕ → ℕ → List ℕ → List ℕ → ℕ → ℕ
+wordOf first end clock cs ps k =
+    pick (eqb k 0) clock
+    (pick (ltb k 80)
+    (pick (ltb k first) (getD cs k 0) (pick (ltb k end) (cellOf (cellAt cs k)) 4294967296))
+    (getD ps (k - 80) 0))
 
--- The first n of them, from place `at` on.
-unfoldable pub putWords : Clocked → ℕ → ℕ → List ℕ → List ℕ
-putWords c at zero ws = ws
-putWords c at (suc k) ws = set (putWords c at k ws) (at + k) (wordOf c k)
+-- The first n words of a row, from place `at` on.
+unfoldable pub putWords : (ℕ → ℕ) → ℕ → ℕ → List ℕ → List ℕ
+putWords word at zero ws = ws
+putWords word at (suc k) ws = set (putWords word at k ws) (at + k) (word k)
 
-abbrev pub putRow : ℕ → Clocked → List ℕ → List ℕ
-putRow r c ws = putWords c (72 * r) 72 ws
+-- The words of a stand, with the clock as given.
+unfoldable pub rowWord : Plan → ℕ → Stand → ℕ → ℕ
+rowWord q clock b k = wordOf (q .inputs + q .registers) (q .inputs + q .registers + q .wires) clock (b .cells) (b .places) k
+
+-- Both rows of a cycle.
+unfoldable pub putBoth : (ℕ → ℕ) → (ℕ → ℕ) → ℕ → List ℕ → List ℕ
+putBoth low high at ws = putWords high (at + 88) 88 (putWords low at 88 ws)
+
+-- ---- a cycle on fed cells, and its rows
+
+pub record TurnTraced : Type 0 where
+  pub stood : Stand
+  pub words : List ℕ
+
+abbrev pub turnTraced : Stand → List ℕ → TurnTraced
+turnTraced b ws = record { stood = b; words = ws }
+
+module _ (q : Plan) (f : ℕ → Node) (ts numbers : List ℕ) where
+  -- The wires settled after the rise.
+  unfoldable pub highOn : Stand → Stand
+  highOn b = settledOn q f ts numbers (rise q f ts numbers b)
+
+  unfoldable pub traceTurn : ℕ → Stand → List ℕ → TurnTraced
+  traceTurn at b ws =
+      let low = settledOn q f ts numbers b in
+      let high = highOn low in
+      turnTraced high (putBoth (rowWord q 0 low) (rowWord q 1 high) at ws)
 
 -- ---- the cycles, and the words
 
@@ -44,35 +70,29 @@ pub record Traced : Type 0 where
 abbrev pub traced : Rounds → List ℕ → Traced
 traced x ws = record { rounds = x; words = ws }
 
-module _ (q : Plan) (f : ℕ → Node) (ts numbers : List ℕ) (g : Registers) (ns : List ℕ) (xs : List Bool) where
-  -- Row r run, and the wires settled again.
-  abbrev pub settledRow : ℕ → Stand → Stand
-  settledRow r b = settledOn q f ts numbers (rowOn q f ts numbers g ns xs r b)
+-- What the last of r cycles gave, whose wires have settled.
+unfoldable pub takenOn : Plan → Registers → ℕ → Stand → Clocked
+takenOn q g r b = pick (eqb r 0) (refused 0 g) (answerOn q g b)
 
-  -- From row r on, n of them, where the cycle before gave c.
-  unfoldable pub traceFrom : ℕ → ℕ → Clocked → Stand → List ℕ → Traced
-  traceFrom zero r c b ws = traced (endedAt r 0 c) ws
-  traceFrom (suc n) r c b ws =
-      let t = settledRow r b in
-      pick (rowFits q f ts numbers g ns xs r) (traceFrom n (r + 1) (answerOn q g t) t (putRow r (answerOn q g t) ws))
-      (traced (endedAt r 25 c) ws)
+module _ (q : Plan) (f : ℕ → Node) (ts numbers : List ℕ) (g : Registers) (ns : List ℕ) (xs : List Bool) where
+  -- The inputs of row r put.
+  abbrev pub fedOn : ℕ → Stand → Stand
+  fedOn r b = stand (putItems ns xs (rowAt r) (upperOf q) (b .cells)) (b .places)
+
+  -- From row r on, n of them.
+  unfoldable pub traceFrom : ℕ → ℕ → Stand → List ℕ → Traced
+  traceFrom zero r b ws = traced (endedAt r 0 (takenOn q g r b)) ws
+  traceFrom (suc n) r b ws =
+      let t = traceTurn q f ts numbers (176 * r) (fedOn r b) ws in
+      pick (rowFits q f ts numbers g ns xs r) (traceFrom n (r + 1) (t .stood) (t .words)) (traced (endedAt r 25 (takenOn q g r b)) ws)
 
   unfoldable pub traceRows : List ℕ → Traced
-  traceRows ws = traceFrom (length ns / 16) 0 (refused 0 g) (stand (handOn q g (replicate 4176 4294967296)) (g .places)) ws
+  traceRows ws = traceFrom (length ns / 16) 0 (stand (handOn q g (replicate 4176 4294967296)) (g .places)) ws
 
-  -- "23 a lent table of another length": 72 words for each row.
+  -- "23 a lent table of another length": two rows of words for each row of inputs.
   unfoldable pub traceOn : List ℕ → Traced
   traceOn ws =
-      pick (ltb (length ws / 72) (length ns / 16)) (traced (endedAt 0 23 (refused 23 g)) ws)
+      pick (ltb (length ws / 88) (2 * (length ns / 16))) (traced (endedAt 0 23 (refused 23 g)) ws)
       (pick (registersFitOn q g)
       (pick (wholeRows ns xs) (traceRows ws) (traced (endedAt 0 25 (refused 25 g)) ws))
       (traced (endedAt 0 31 (refused 31 g)) ws))
-
--- ---- cycle run after cycle run, with the words
-
-module _ (call : Registers → Inputs → Clocked) (inputs : ℕ → Inputs) where
-  unfoldable pub repeatTrace : ℕ → ℕ → Clocked → List ℕ → Traced
-  repeatTrace zero r c ws = traced (endedAt r 0 c) ws
-  repeatTrace (suc n) r c ws =
-      let d = call (registersOf c) (inputs r) in
-      pick (eqb (d .number) 0) (repeatTrace n (r + 1) d (putRow r d ws)) (traced (endedAt r (d .number) c) ws)

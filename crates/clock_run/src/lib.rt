@@ -12,9 +12,11 @@ use nextstate::Clocked;
 use nextstate::Registers;
 use plan::Cells;
 use plan::PlanTable;
+use values::Value;
 ghost use mathlib.Core.Path.{_≡_};
-ghost use Prim.Native.Nat.{_+_, _*_, _/_, _≤_};
+ghost use Prim.Native.Nat.{_+_, _*_, _/_, _≤_, _<_};
 ghost use lib.ListN.{length};
+ghost use Rattle.values.specs.Planes.{valueAt};
 ghost use Rattle.plan.specs.Plan.{planOf};
 ghost use Rattle.nextstate.specs.CycleRun.{refused};
 ghost use Rattle.clock_steps.specs.Taking.{stand};
@@ -22,7 +24,7 @@ ghost use Rattle.clock_run.specs.Running.{valuesFit, waitsAt, placesWait
 ghost use Rattle.clock_run.specs.Running.{putItems, handOn, numbersTo, flagsTo, wireNumbersTo, wireFlagsTo, answerOn, cycleOn};
 ghost use Rattle.clock_run.specs.Running.{turnOn};
 ghost use Rattle.clock_run.specs.Rounds.{lastOn, endedAt, roundsOn, cyclesOn};
-ghost use Rattle.clock_run.specs.Traces.{wordOf, putWords, traceRows, traceOn};
+ghost use Rattle.clock_run.specs.Traces.{wordOf, putWords, turnTraced, traceTurn, takenOn, traced, traceRows, traceOn};
 
 // A byte as a place.
 fn wide(b: u8) -> usize
@@ -33,13 +35,30 @@ fn wide(b: u8) -> usize
 
 // ---- 31 and 25
 
+// The value in slot `v` of two planes.
+fn item_at(value: &[u32], unknown: &[bool], v: usize) -> Value
+    ensures { λ r. ⌜ r ≡ valueAt (now (value .entry)) (now (unknown .entry)) v ⌝ }
+{
+    if value.len() <= v {
+        return Value::Unknown;
+    }
+    if unknown.len() <= v {
+        return Value::Unknown;
+    }
+    if unknown[v] {
+        Value::Unknown
+    } else {
+        Value::Known(value[v])
+    }
+}
+
 // Do `n` values from a place on fit the widths of the variables from `from` on?
-fn values_fit<'a>(
+fn values_fit(
     plan: &PlanTable,
     from: usize,
     n: usize,
-    value: &'a [u32],
-    unknown: &'a [bool],
+    value: &[u32],
+    unknown: &[bool],
     at: usize,
 ) -> bool
     requires { ⌜ from + n ≤ 1024 ⌝ }
@@ -48,10 +67,7 @@ fn values_fit<'a>(
 {
     let mut v: usize = 0;
     while v < n {
-        if !values::fits(
-            plan::width(plan, from + v),
-            values::value_at(value, unknown, at + v),
-        ) {
+        if !values::fits(plan::width(plan, from + v), item_at(value, unknown, at + v)) {
             return false;
         }
         v += 1;
@@ -102,7 +118,9 @@ fn registers_fit(plan: &PlanTable, before: Registers) -> bool
 {
     let first = plan::inputs(plan);
     let n = plan::registers(plan);
-    if !values_fit(plan, first, n, &before.value, &before.unknown, 0) {
+    let value = before.value;
+    let unknown = before.unknown;
+    if !values_fit(plan, first, n, &value, &unknown, 0) {
         return false;
     }
     places_wait(plan, &before.places)
@@ -115,7 +133,9 @@ fn inputs_fit(plan: &PlanTable, given: Inputs) -> bool
     if wide(given.count) + 1 != plan::inputs(plan) {
         return false;
     }
-    values_fit(plan, 1, upper(plan), &given.value, &given.unknown, 0)
+    let value = given.value;
+    let unknown = given.unknown;
+    values_fit(plan, 1, upper(plan), &value, &unknown, 0)
 }
 
 // ---- values into cells
@@ -141,14 +161,14 @@ fn put_registers<'a>(
 }
 
 // The inputs' cells, from input 1 on.
-fn put_items<'a>(n: usize, value: &'a [u32], unknown: &'a [bool], at: usize, cells: &mut Cells)
+fn put_items(n: usize, value: &[u32], unknown: &[bool], at: usize, cells: &mut Cells)
     requires { ⌜ n ≤ 15 ⌝ }
     requires { ⌜ at + n ≤ 18446744073709551615 ⌝ }
     ensures { λ _. ⌜ now (cells .exit) ≡ putItems (now (value .entry)) (now (unknown .entry)) at n (now (cells .entry)) ⌝ }
 {
     let mut v: usize = 0;
     while v < n {
-        let a = cells::store(values::value_at(value, unknown, at + v));
+        let a = cells::store(item_at(value, unknown, at + v));
         put_cell(cells, 1 + v, a);
         v += 1;
     }
@@ -275,8 +295,10 @@ pub fn cycle(
     }
     let mut cells = [4294967296u64; 4176];
     let mut places = before.places;
+    let value = given.value;
+    let unknown = given.unknown;
     hand(plan, before, &mut cells);
-    put_items(upper(plan), &given.value, &given.unknown, 0, &mut cells);
+    put_items(upper(plan), &value, &unknown, 0, &mut cells);
     settle(plan, &mut cells);
     rise(plan, lent, table, numbers, &mut cells, &mut places);
     settle(plan, &mut cells);
@@ -340,14 +362,14 @@ fn turn(
 }
 
 // A cycle for each row of 16, the clock's in front, up to the first that is refused.
-fn run_rows<'a>(
+fn run_rows(
     plan: &PlanTable,
     lent: &PlanTable,
     table: &RowTable,
     numbers: &RowNumbers,
     before: Registers,
-    value: &'a [u32],
-    unknown: &'a [bool],
+    value: &[u32],
+    unknown: &[bool],
 ) -> Rounds
     ensures { λ r. ⌜
         r
@@ -378,14 +400,14 @@ fn run_rows<'a>(
 // Many cycles by tables that are filled: whole rows of 16 inputs, each with its flag; a cycle for each row, from what the last one
 // left, up
 // to the first that is refused.
-pub fn cycles<'a>(
+pub fn cycles(
     plan: &PlanTable,
     lent: &PlanTable,
     table: &RowTable,
     numbers: &RowNumbers,
     before: Registers,
-    value: &'a [u32],
-    unknown: &'a [bool],
+    value: &[u32],
+    unknown: &[bool],
 ) -> Rounds
     ensures { λ r. ⌜
         r
@@ -402,7 +424,7 @@ pub fn cycles<'a>(
     run_rows(plan, lent, table, numbers, before, value, unknown)
 }
 
-// ---- traces: each cycle's registers, places and wires as 72 words
+// ---- traces: two rows of 88 words a cycle, the cells of 80 variables and the eight places
 
 // A byte as a long word.
 fn long(b: u8) -> u64
@@ -411,55 +433,109 @@ fn long(b: u8) -> u64
     b as u64
 }
 
-// Word `k` of what a cycle gave: 32 registers, eight places, 32 wires.
-fn word_of(c: Clocked, k: usize) -> u64
-    ensures { λ r. ⌜ r ≡ wordOf c k ⌝ }
+// Word `k` of a row: the clock as given, inputs and registers below `first` as their cells are, wires below `end` by their values, x past
+// them, then the places.
+fn word_of(first: usize, end: usize, clock: u64, cells: &Cells, places: &[u8; 8], k: usize) -> u64
+    requires { ⌜ k < 88 ⌝ }
+    ensures { λ r. ⌜ r ≡ wordOf first end clock (now (cells .entry)) (now (places .entry)) k ⌝ }
 {
-    if k < 32 {
-        return plan_state::marked(c.value[k], c.unknown[k]);
+    if k == 0 {
+        return clock;
     }
-    if k < 40 {
-        return long(c.places[k - 32]);
+    if 80 <= k {
+        return long(places[k - 80]);
     }
-    if k < 72 {
-        return plan_state::marked(c.wire[k - 40], c.unsure[k - 40]);
+    if k < first {
+        return cells[k];
     }
-    0
+    if k < end {
+        return cells::store(cells::load(cells[k]));
+    }
+    4294967296
 }
 
-// Puts the words of what a cycle gave.
-fn put_row(c: Clocked, at: usize, out: &mut [u64])
-    requires { ⌜ at + 72 ≤ length (now out) ⌝ }
-    ensures { λ _. ⌜ now (out .exit) ≡ putWords c at 72 (now (out .entry)) ⌝ }
+// Puts the words of a row.
+fn put_row(
+    first: usize,
+    end: usize,
+    clock: u64,
+    cells: &Cells,
+    places: &[u8; 8],
+    at: usize,
+    out: &mut [u64],
+)
+    requires { ⌜ at + 88 ≤ length (now out) ⌝ }
+    ensures { λ _. ⌜
+        now (out .exit)
+        ≡ putWords (wordOf first end clock (now (cells .entry)) (now (places .entry))) at 88 (now (out .entry))
+        ⌝ }
 {
     let mut k: usize = 0;
-    while k < 72 {
-        out[at + k] = word_of(c, k);
+    while k < 88 {
+        out[at + k] = word_of(first, end, clock, cells, places, k);
         k += 1;
     }
 }
 
-// A cycle for each row, up to the first that is refused; what each gave is put.
-fn trace_rows<'a>(
+// A cycle on fed cells: its low row is put once the wires have settled, its high row once they have after the rise.
+fn trace_turn(
+    plan: &PlanTable,
+    lent: &PlanTable,
+    table: &RowTable,
+    numbers: &RowNumbers,
+    cells: &mut Cells,
+    places: &mut [u8; 8],
+    at: usize,
+    out: &mut [u64],
+)
+    requires { ⌜ at + 176 ≤ length (now out) ⌝ }
+    ensures { λ _. ⌜
+        turnTraced (stand (now (cells .exit)) (now (places .exit))) (now (out .exit))
+        ≡ traceTurn (planOf (now (plan .entry))) (planOf (now (lent .entry)) .node) (now (table .entry)) (now (numbers .entry)) at
+        (stand (now (cells .entry)) (now (places .entry))) (now (out .entry))
+        ⌝ }
+{
+    let first = plan::inputs(plan) + plan::registers(plan);
+    let end = first + plan::wires(plan);
+    settle(plan, cells);
+    put_row(first, end, 0, cells, places, at, out);
+    rise(plan, lent, table, numbers, cells, places);
+    settle(plan, cells);
+    put_row(first, end, 1, cells, places, at + 88, out);
+}
+
+// What the last of `r` cycles gave, whose wires have settled; before the first the registers as handed, and wires x.
+fn taken_of(
+    plan: &PlanTable,
+    before: Registers,
+    r: usize,
+    cells: &Cells,
+    places: [u8; 8],
+) -> Clocked
+    ensures { λ c. ⌜ c ≡ takenOn (planOf (now (plan .entry))) before r (stand (now (cells .entry)) places) ⌝ }
+{
+    if r == 0 {
+        return refused(0, before);
+    }
+    answer(plan, before, cells, places)
+}
+
+// A cycle for each row of inputs, up to the first that is refused; the rows of each are put.
+fn trace_rows(
     plan: &PlanTable,
     lent: &PlanTable,
     table: &RowTable,
     numbers: &RowNumbers,
     before: Registers,
-    value: &'a [u32],
-    unknown: &'a [bool],
+    value: &[u32],
+    unknown: &[bool],
     out: &mut [u64],
 ) -> Rounds
-    requires { ⌜ 72 * (length (now value) / 16) ≤ length (now out) ⌝ }
+    requires { ⌜ 176 * (length (now value) / 16) ≤ length (now out) ⌝ }
     ensures { λ r. ⌜
-        r
+        traced r (now (out .exit))
         ≡ traceRows (planOf (now (plan .entry))) (planOf (now (lent .entry)) .node) (now (table .entry)) (now (numbers .entry)) before
-        (now (value .entry)) (now (unknown .entry)) (now (out .entry)) .rounds
-        ⌝ }
-    ensures { λ _. ⌜
-        now (out .exit)
-        ≡ traceRows (planOf (now (plan .entry))) (planOf (now (lent .entry)) .node) (now (table .entry)) (now (numbers .entry)) before
-        (now (value .entry)) (now (unknown .entry)) (now (out .entry)) .words
+        (now (value .entry)) (now (unknown .entry)) (now (out .entry))
         ⌝ }
 {
     let rows = value.len() / 16;
@@ -467,46 +543,49 @@ fn trace_rows<'a>(
     let mut cells = [4294967296u64; 4176];
     let mut places = before.places;
     hand(plan, before, &mut cells);
-    let mut last = refused(0, before);
     let mut r: usize = 0;
     while r < rows {
         let at = 16 * r + 1;
         if !values_fit(plan, 1, n, value, unknown, at) {
+            let last = taken_of(plan, before, r, &cells, places);
             return ended(r, 25, last);
         }
         put_items(n, value, unknown, at, &mut cells);
-        turn(plan, lent, table, numbers, &mut cells, &mut places);
-        settle(plan, &mut cells);
-        last = answer(plan, before, &cells, places);
-        put_row(last, 72 * r, out);
+        trace_turn(
+            plan,
+            lent,
+            table,
+            numbers,
+            &mut cells,
+            &mut places,
+            176 * r,
+            out,
+        );
         r += 1;
     }
+    let last = taken_of(plan, before, r, &cells, places);
     ended(r, 0, last)
 }
 
-// Many cycles as `cycles` runs them, and what each of them gave in 72 words of its own; 23 where not so many are lent.
-pub fn trace<'a>(
+// Many cycles as `cycles` runs them, and two rows of 88 words for each: row 2c once the wires have settled on cycle c's inputs, with the
+// clock 0 and registers and places as before it, and row 2c + 1 what the cycle gives, with the clock 1. 23 where not so many are lent.
+pub fn trace(
     plan: &PlanTable,
     lent: &PlanTable,
     table: &RowTable,
     numbers: &RowNumbers,
     before: Registers,
-    value: &'a [u32],
-    unknown: &'a [bool],
+    value: &[u32],
+    unknown: &[bool],
     out: &mut [u64],
 ) -> Rounds
     ensures { λ r. ⌜
-        r
+        traced r (now (out .exit))
         ≡ traceOn (planOf (now (plan .entry))) (planOf (now (lent .entry)) .node) (now (table .entry)) (now (numbers .entry)) before
-        (now (value .entry)) (now (unknown .entry)) (now (out .entry)) .rounds
-        ⌝ }
-    ensures { λ _. ⌜
-        now (out .exit)
-        ≡ traceOn (planOf (now (plan .entry))) (planOf (now (lent .entry)) .node) (now (table .entry)) (now (numbers .entry)) before
-        (now (value .entry)) (now (unknown .entry)) (now (out .entry)) .words
+        (now (value .entry)) (now (unknown .entry)) (now (out .entry))
         ⌝ }
 {
-    if out.len() / 72 < value.len() / 16 {
+    if out.len() / 88 < 2 * (value.len() / 16) {
         return ended(0, 23, refused(23, before));
     }
     if !registers_fit(plan, before) {

@@ -14,7 +14,8 @@ use Rattle.nextstate.specs.CycleRun.{tablesIn}
 use Rattle.clock_nodes.specs.Copying.{copyTo, copyAll, lowsTo, lowAll}
 use Rattle.clock_nodes.proofs.Lows.{copied-at}
 use Rattle.clock_nodes.proofs.Ranges.{Copies}
-use Rattle.clock_steps.specs.Claims.{Wired, Coded, Lent, Counted, Room, RiseIsTheBooks}
+use Rattle.clock_nodes.specs.Reach.{Counted}
+use Rattle.clock_steps.specs.Claims.{Wired, Coded, Lent, Room, RiseIsTheBooks}
 use Rattle.clock_steps.specs.Numbers.{numberRows, fillRows}
 use Rattle.clock_steps.proofs.Rows.{RowIs, row-filled}
 use Rattle.clock_steps.proofs.RowNumbers.{row-inside, row-small, row-from, rows-is, thread-waits, threads-is, number-row}

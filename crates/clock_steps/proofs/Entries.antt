@@ -21,7 +21,8 @@ use Rattle.nextstate.specs.Extraction.{Tables}
 use Rattle.nextstate.specs.Book.{rowOf, entry}
 use Rattle.nextstate.specs.CycleRun.{nodesFit, widthsFrom, lands, landings, registerFits, rowFits, rowsFit, tablesFit, tablesIn}
 use Rattle.clock_nodes.specs.Rows.{entryAt}
-use Rattle.clock_steps.specs.Claims.{Lent, Counted}
+use Rattle.clock_nodes.specs.Reach.{Counted}
+use Rattle.clock_steps.specs.Claims.{Lent}
 use Rattle.clock_steps.proofs.RowNumbers.{wait-inside}
 
 landings-length : (m : Module Expr) (i : ℕ) (ds : List Node) (ls : List Bool) → length (landings m i ds ls) ≡ length ls + length ds

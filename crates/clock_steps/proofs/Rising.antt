@@ -32,7 +32,8 @@ use Rattle.nextstate.specs.CycleRun.{tablesIn}
 use Rattle.clock_nodes.specs.Copying.{cellIn, lowsTo}
 use Rattle.clock_nodes.specs.Rows.{rowPlace, entryAt, lowTo, highTo}
 use Rattle.clock_nodes.proofs.Ranges.{Copies, Done, range-done, book-worth, row-low, row-low-place, row-high, row-high-place, row-most}
-use Rattle.clock_steps.specs.Claims.{Wired, Coded, Lent, Counted, Stands, Waiting, Risen}
+use Rattle.clock_nodes.specs.Reach.{Counted}
+use Rattle.clock_steps.specs.Claims.{Wired, Coded, Lent, Stands, Waiting, Risen}
 use Rattle.clock_steps.specs.Taking.{rowIn, entryCell, workRow, takeRegisters, Taking, taking, placeOf, takeRow, takeThread}
 use Rattle.clock_steps.specs.Taking.{takeBelow}
 use Rattle.clock_steps.specs.Taking.{loadTo, storeTo, Stand, stand, atMost, rise}

@@ -20,6 +20,7 @@ use Rattle.nextstate.specs.Nodes.{nodeAt}
 use Rattle.nextstate.specs.Extraction.{Tables}
 use Rattle.nextstate.specs.Book as book
 use Rattle.nextstate.specs.CycleRun.{widthsFrom, tablesFit, tablesIn}
+use Rattle.clock_nodes.specs.Reach.{Counted}
 use Rattle.clock_nodes.specs.Copying.{copyAll, lowAll}
 use Rattle.clock_steps.specs.Taking.{Stand, rise}
 use Rattle.clock_steps.specs.Numbers.{numberRows, fillRows}
@@ -60,11 +61,6 @@ pub record Lent (m : Module Expr) (ns us rs written : List ℕ) : Type 0 where
   pub writers : (i r : ℕ) → i < length (m .threads) → getD (bits (getD written i 0)) r false ≡ writes m i (m .scope .inputs + r)
   pub only : (i v : ℕ) → i < length (m .threads) → writes m i v ≡ true →
       (m .scope .inputs ≤ v) × (v < m .scope .inputs + m .scope .registers)
-
--- So many nodes are copied that every entry is one of them, or none of the 4,096.
-pub record Counted (rs : List ℕ) (count : ℕ) : Type 0 where
-  pub most : count ≤ 4096
-  pub entry : (j : ℕ) → getD rs j 0 < 4096 → getD rs j 0 < count
 
 -- The words that are filled, of any contents.
 pub record Room (ws ls ts ms : List ℕ) : Type 0 where

@@ -1,29 +1,25 @@
--- Where two states differ, row by row, and how the search goes along the orders. Assumes nothing.
+-- Where two rows differ, case by case, and how the search goes along the orders. Assumes nothing.
 use mathlib.Core.Path.{_≡_}
 use mathlib.Core.Bool.{Bool, true, false, not}
-use mathlib.Core.List.{List}
+use mathlib.Core.List.{List, [], _∷_}
 use Prim.Native.Nat.{ℕ, _+_, _<_, _≤_}
-use native.Mathlib.Numerals.{add-one}
 use borrow.Author.Tests.{lt-ltb, le-ltb, eq-eqb, ne-eqb}
 use lib.Dec.{eqb}
-use lib.ListN.{length, getD, drop, drop-of-length-le}
-use lib.Seq.{drop-cons}
 use Rattle.values.specs.declared.Value.{Value}
 use Rattle.values.specs.Values.{same}
 use Rattle.stimulus.specs.Counting.{firstFrom}
-use Rattle.state.specs.declared.State.{State}
-use Rattle.state.specs.State.{valueOf}
+use Rattle.cells.specs.Cells.{cellAt}
 use Rattle.comparison.specs.declared.Counts.{Counts}
 use Rattle.comparison.specs.declared.Difference.{Difference}
 use Rattle.comparison.specs.declared.Difference.the-variants.{Nowhere, Variable, Place}
 use Rattle.comparison.specs.declared.Finding.the-variants.{Same, Apart}
-use Rattle.comparison.specs.Comparison.{valuesDiffer, placesDiffer, difference, differs, findingFrom}
+use Rattle.comparison.specs.Comparison.{valuesDiffer, placesDiffer, difference, differs, findingFrom, finding}
 
--- ---- difference, row by row
+-- ---- difference, case by case
 
-module _ (m : Counts) (a b : State) (v : ℕ) (e : v ≡ firstFrom (valuesDiffer a b) (m .registers + m .wires) (m .inputs)) where
+module _ (m : Counts) (a b : List ℕ) (v : ℕ) (e : v ≡ firstFrom (valuesDiffer a b) (m .registers + m .wires) (m .inputs)) where
   pub difference-variable :
-      v < m .inputs + (m .registers + m .wires) → Variable v (valueOf a v) (valueOf b v) ≡ difference m a b
+      v < m .inputs + (m .registers + m .wires) → Variable v (cellAt a v) (cellAt b v) ≡ difference m a b
   unfolding difference
   difference-variable l = rw (← e, lt-ltb v (m .inputs + (m .registers + m .wires)) l)
 
@@ -36,22 +32,26 @@ module _ (m : Counts) (a b : State) (v : ℕ) (e : v ≡ firstFrom (valuesDiffer
     unfolding difference
     difference-none k = rw (← e, le-ltb v (m .inputs + (m .registers + m .wires)) l, ← h, le-ltb i (m .threads) k)
 
--- ---- findingFrom, order by order
+-- ---- finding, order by order
 
-module _ (m : Counts) (expressed : State) (orders : List State) (blank : State) (k : ℕ) where
-  pub finding-none : length orders ≤ k → findingFrom m expressed k (drop k orders) ≡ Same
-  unfolding findingFrom
-  finding-none l = rw (drop-of-length-le orders l)
+module _ (m : Counts) (p a b expressed : List ℕ) {d : Difference} (e : d ≡ difference m p expressed) where
+  pub finding-1 : differs d ≡ true → Apart 0 d ≡ finding m (p ∷ a ∷ b ∷ []) expressed
+  unfolding finding findingFrom
+  finding-1 h = rw (← e, h)
 
-  module _ (l : k < length orders) (d : Difference) (e : d ≡ difference m (getD orders k blank) expressed) where
-    pub finding-apart : differs d ≡ true → findingFrom m expressed k (drop k orders) ≡ Apart k d
-    unfolding findingFrom
-    finding-apart h = rw (drop-cons orders k blank l, ← e, h)
+  module _ (h : differs d ≡ false) {f : Difference} (g : f ≡ difference m a expressed) where
+    pub finding-2 : differs f ≡ true → Apart 1 f ≡ finding m (p ∷ a ∷ b ∷ []) expressed
+    unfolding finding findingFrom
+    finding-2 k = rw (← e, h, ← g, k)
 
-    pub finding-more :
-        differs d ≡ false → findingFrom m expressed k (drop k orders) ≡ findingFrom m expressed (k + 1) (drop (k + 1) orders)
-    unfolding findingFrom
-    finding-more h = rw (drop-cons orders k blank l, ← e, h, add-one k)
+    module _ (k : differs f ≡ false) {o : Difference} (q : o ≡ difference m b expressed) where
+      pub finding-3 : differs o ≡ true → Apart 2 o ≡ finding m (p ∷ a ∷ b ∷ []) expressed
+      unfolding finding findingFrom
+      finding-3 l = rw (← e, h, ← g, k, ← q, l)
+
+      pub finding-4 : differs o ≡ false → Same ≡ finding m (p ∷ a ∷ b ∷ []) expressed
+      unfolding finding findingFrom
+      finding-4 l = rw (← e, h, ← g, k, ← q, l)
 
 -- ---- what a turn of a search has found, from what its calls answered
 

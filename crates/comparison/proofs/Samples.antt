@@ -1,15 +1,13 @@
--- Samples, computed from the definitions: one input, two registers, a wire, two threads. The states differ in a register, in a wire,
+-- Samples, computed from the definitions: one input, two registers, a wire, two threads. The rows differ in a register, in a wire,
 -- in a place, or nowhere; what stands past the module's counts does not matter. Assumes nothing.
 use mathlib.Core.Path.{_≡_, refl}
-use mathlib.Core.Bool.{Bool, true, false}
-use mathlib.Core.List.{List, [], _∷_}
+use mathlib.Core.List.{List, [], _∷_, _++_}
 use Prim.Native.Nat.{ℕ}
 use lib.ListN.{replicate}
 use Rattle.values.specs.declared.Value.the-variants.{Known, Unknown}
 use Rattle.values.specs.Values.{same}
-use Rattle.values.specs.Planes.{valueAt}
-use Rattle.state.specs.declared.State.{State}
-use Rattle.state.specs.State.{valueOf, placeOf}
+use Rattle.cells.specs.Cells.{valueOf, cellAt}
+use Rattle.trace_row.specs.TraceRow.{placeIn}
 use Rattle.comparison.specs.declared.Counts.{Counts}
 use Rattle.comparison.specs.declared.Difference.the-variants.{Nowhere, Variable, Place}
 use Rattle.comparison.specs.declared.Finding.the-variants.{Same, Apart}
@@ -26,55 +24,39 @@ use Rattle.comparison.specs.Saying.{byOrder, variableLine, placeLine, di
 abbrev counts : Counts
 counts = record { inputs = 1; registers = 2; wires = 1; threads = 2 }
 
--- The clock, two registers, a wire, and one value past them; two places, and one past them.
-abbrev sample : List ℕ → List Bool → List ℕ → State
-sample ns xs ps =
-    record {
-      value = ns;
-      unknown = xs;
-      pending = replicate 32 0;
-      unsure = replicate 32 false;
-      held = replicate 32 false;
-      places = ps;
-      due = replicate 32 false;
-      time = 4;
-      count = 9;
-    }
+-- Rows: the clock, two registers, a wire, and one value past them; behind the 80 cells two places, and one past them.
+abbrev sample : List ℕ → List ℕ → List ℕ
+sample cells places = cells ++ replicate 75 0 ++ places
 
-abbrev known : List Bool
-known = false ∷ false ∷ false ∷ false ∷ false ∷ []
-
-abbrev expressed : State
-expressed = sample (1 ∷ 5 ∷ 7 ∷ 1 ∷ 0 ∷ []) known (2 ∷ 0 ∷ 0 ∷ [])
+abbrev expressed : List ℕ
+expressed = sample (1 ∷ 5 ∷ 7 ∷ 1 ∷ 0 ∷ []) (2 ∷ 0 ∷ 0 ∷ [])
 
 -- Another clock, another value past the wires and another place past the threads are no difference.
-pub sample-nowhere : difference counts (sample (0 ∷ 5 ∷ 7 ∷ 1 ∷ 9 ∷ []) known (2 ∷ 0 ∷ 3 ∷ [])) expressed ≡ Nowhere
-unfolding difference firstFrom valuesDiffer placesDiffer valueOf placeOf valueAt same
+pub sample-nowhere : difference counts (sample (0 ∷ 5 ∷ 7 ∷ 1 ∷ 9 ∷ []) (2 ∷ 0 ∷ 3 ∷ [])) expressed ≡ Nowhere
+unfolding difference firstFrom valuesDiffer placesDiffer cellAt valueOf placeIn same
 sample-nowhere = refl
 
 -- A register, and after it a wire and a place: the register.
 pub sample-register :
-    difference counts (sample (1 ∷ 5 ∷ 6 ∷ 0 ∷ 0 ∷ []) known (0 ∷ 0 ∷ 0 ∷ [])) expressed ≡ Variable 2 (Known 6) (Known 7)
-unfolding difference firstFrom valuesDiffer placesDiffer valueOf placeOf valueAt same
+    difference counts (sample (1 ∷ 5 ∷ 6 ∷ 0 ∷ 0 ∷ []) (0 ∷ 0 ∷ 0 ∷ [])) expressed ≡ Variable 2 (Known 6) (Known 7)
+unfolding difference firstFrom valuesDiffer placesDiffer cellAt valueOf placeIn same
 sample-register = refl
 
 -- A wire that is x in one of them.
 pub sample-wire :
-    difference counts (sample (1 ∷ 5 ∷ 7 ∷ 1 ∷ 0 ∷ []) (false ∷ false ∷ false ∷ true ∷ false ∷ []) (2 ∷ 0 ∷ 0 ∷ [])) expressed
-    ≡ Variable 3 Unknown (Known 1)
-unfolding difference firstFrom valuesDiffer placesDiffer valueOf placeOf valueAt same
+    difference counts (sample (1 ∷ 5 ∷ 7 ∷ 4294967297 ∷ 0 ∷ []) (2 ∷ 0 ∷ 0 ∷ [])) expressed ≡ Variable 3 Unknown (Known 1)
+unfolding difference firstFrom valuesDiffer placesDiffer cellAt valueOf placeIn same
 sample-wire = refl
 
 -- A place alone.
-pub sample-place : difference counts (sample (1 ∷ 5 ∷ 7 ∷ 1 ∷ 0 ∷ []) known (2 ∷ 3 ∷ 0 ∷ [])) expressed ≡ Place 1
-unfolding difference firstFrom valuesDiffer placesDiffer valueOf placeOf valueAt same
+pub sample-place : difference counts (sample (1 ∷ 5 ∷ 7 ∷ 1 ∷ 0 ∷ []) (2 ∷ 3 ∷ 0 ∷ [])) expressed ≡ Place 1
+unfolding difference firstFrom valuesDiffer placesDiffer cellAt valueOf placeIn same
 sample-place = refl
 
 -- Of three orders the third.
 pub sample-order :
-    finding counts (expressed ∷ expressed ∷ sample (1 ∷ 5 ∷ 7 ∷ 1 ∷ 0 ∷ []) known (2 ∷ 3 ∷ 0 ∷ []) ∷ []) expressed
-    ≡ Apart 2 (Place 1)
-unfolding finding findingFrom differs difference firstFrom valuesDiffer placesDiffer valueOf placeOf valueAt same
+    finding counts (expressed ∷ expressed ∷ sample (1 ∷ 5 ∷ 7 ∷ 1 ∷ 0 ∷ []) (2 ∷ 3 ∷ 0 ∷ []) ∷ []) expressed ≡ Apart 2 (Place 1)
+unfolding finding findingFrom differs difference firstFrom valuesDiffer placesDiffer cellAt valueOf placeIn same
 sample-order = refl
 
 -- Two cycles agree, the third does not, and what comes after it does not matter.
@@ -101,3 +83,14 @@ pub sample-words-place :
     ≡ ascii "cycle 12: thread 1 waits elsewhere by the order of seed 2 than by the expressions\n"
 unfolding ascii verdictLine differenceLine placeLine byOrder decimal digits
 sample-words-place = refl
+
+-- Agreement over two cycles, and over none.
+pub sample-words-agreed :
+    verdictLine names (Agreed 2)
+    ≡ ascii "compared 2 cycles: the plain run, the orders of seeds 1 and 2 and the expressions agree in every register, wire and place\n"
+unfolding ascii verdictLine agreementLine decimal digits
+sample-words-agreed = refl
+
+pub sample-words-none : verdictLine names (Agreed 0) ≡ ascii "there was nothing to compare: the inputs have no cycle\n"
+unfolding ascii verdictLine agreementLine
+sample-words-none = refl

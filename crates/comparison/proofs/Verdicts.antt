@@ -9,7 +9,7 @@ use Rattle.comparison.specs.declared.Verdict.the-variants.{Agreed, Diffe
 use Rattle.stimulus.specs.Counting.{counted}
 use Rattle.comparison.specs.Verdicts.{verdictFrom, verdict, after, afterAll, ByCycles}
 
-after-differs : (n k : ℕ) (d : Difference) (fs : List Finding) → afterAll (Differs n k d) fs ≡ Differs n k d
+pub after-differs : (n k : ℕ) (d : Difference) (fs : List Finding) → afterAll (Differs n k d) fs ≡ Differs n k d
 unfolding afterAll after
 after-differs n k d [] = refl
 after-differs n k d (f ∷ fs) = after-differs n k d fs

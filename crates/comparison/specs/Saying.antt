@@ -33,10 +33,12 @@ differenceLine names k (Place i) = placeLine k i
 
 -- ---- verdictLine
 
+-- Over no cycle nothing agrees.
 unfoldable pub agreementLine : ℕ → List ℕ
 agreementLine n =
-    ascii "compared " ++ decimal n ++ ascii " cycles: the plain run, the orders of seeds 1 and 2 and the expressions"
-    ++ ascii " agree in every register, wire and place\n"
+    n is 0 then ascii "there was nothing to compare: the inputs have no cycle\n"
+    else (ascii "compared " ++ decimal n ++ ascii " cycles: the plain run, the orders of seeds 1 and 2 and the expressions"
+    ++ ascii " agree in every register, wire and place\n")
 
 unfoldable pub verdictLine : List ℕ → Verdict → List ℕ
 verdictLine names (Agreed n) = agreementLine n

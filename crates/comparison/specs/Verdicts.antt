@@ -3,9 +3,10 @@ use mathlib.Core.Bool.{Bool, true, false}
 use mathlib.Core.List.{List, [], _∷_}
 use mathlib.Core.Path.{_≡_}
 use Prim.Native.Nat.{ℕ}
+use Rattle.values.specs.Values.{_is_then_else_}
 use Rattle.stimulus.specs.Counting.{counted}
 use Rattle.options.specs.declared.Outcome.{Outcome}
-use Rattle.options.specs.declared.Outcome.the-variants.{Done, Different}
+use Rattle.options.specs.declared.Outcome.the-variants.{Done, Different, Mistaken}
 use Rattle.comparison.specs.declared.Finding.{Finding}
 use Rattle.comparison.specs.declared.Finding.the-variants.{Same, Apart}
 use Rattle.comparison.specs.declared.Verdict.{Verdict}
@@ -47,6 +48,10 @@ unfoldable pub cycleOf : Verdict → ℕ
 cycleOf (Agreed n) = n
 cycleOf (Differs n k d) = n
 
+-- Agreement over no cycle is none: there was nothing to compare.
+unfoldable pub agreedOutcome : ℕ → Outcome
+agreedOutcome n = n is 0 then Mistaken else Done
+
 unfoldable pub outcomeOf : Verdict → Outcome
-outcomeOf (Agreed n) = Done
+outcomeOf (Agreed n) = agreedOutcome n
 outcomeOf (Differs n k d) = Different

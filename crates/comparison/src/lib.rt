@@ -1,24 +1,19 @@
-// What a comparison of runs says: where the states of two runs differ after a cycle, which of several orders differs first from the
+// What a comparison of runs says: where the rows of two runs differ after a cycle, which of several orders differs first from the
 // extracted expressions, and the verdict over all cycles, with its words. Each function equals its definition in specs/.
 mod saying;
 
 use options::Outcome;
 pub use saying::put_verdict;
-use sheet::byte_at;
-use state::State;
 use stimulus::counted;
+use trace_row::place_in;
+use trace_row::value_in;
 use values::Value;
-use values::value_at;
 ghost use mathlib.Core.Path.{_≡_};
-ghost use mathlib.Core.Bool.{not};
+ghost use mathlib.Core.List.{_∷_, []};
 ghost use Prim.Native.Nat.{_-_};
-ghost use lib.ListN.{getD};
-ghost use lib.Dec.{eqb};
-ghost use Rattle.values.specs.Values.{same};
-ghost use Rattle.values.specs.Planes.{valueAt};
 ghost use Rattle.stimulus.specs.Counting.{firstFrom};
-ghost use Rattle.comparison.specs.Comparison.{difference, differs, finding};
-ghost use Rattle.comparison.specs.Verdicts.{after, isAgreed, cycleOf, outcomeOf};
+ghost use Rattle.comparison.specs.Comparison.{valuesDiffer, placesDiffer, difference, differs, finding};
+ghost use Rattle.comparison.specs.Verdicts.{after, isAgreed, cycleOf, agreedOutcome, outcomeOf};
 
 // How many of each kind a module has.
 pub struct Counts {
@@ -28,7 +23,7 @@ pub struct Counts {
     pub threads: u8,
 }
 
-// Where two states differ first: nowhere, in a register or a wire, with the two values, or in the place of a thread.
+// Where two rows differ first: nowhere, in a register or a wire, with the two values, or in the place of a thread.
 pub enum Difference {
     Nowhere,
     Variable {
@@ -65,26 +60,17 @@ fn wide(b: u8) -> usize
     b as usize
 }
 
-// ---- two states
+// ---- two rows
 
-// The first variable from one number to another in which two pairs of planes differ, or the last.
-fn first_variable<'a>(
-    value: &'a [u32; 80],
-    unknown: &'a [bool; 80],
-    other: &'a [u32; 80],
-    blank: &'a [bool; 80],
-    from: usize,
-    to: usize,
-) -> usize
-    ensures { λ r. ⌜ r ≡ firstFrom
-        (λ v. not (same (valueAt (now (value .entry)) (now (unknown .entry)) v) (valueAt (now (other .entry)) (now (blank .entry)) v)))
-        (to - from) from ⌝ }
+// The first variable from one number to another in which two rows differ, or the last.
+fn first_variable(a: &[u64], b: &[u64], from: usize, to: usize) -> usize
+    ensures { λ r. ⌜ r ≡ firstFrom (valuesDiffer (now (a .entry)) (now (b .entry))) (to - from) from ⌝ }
 {
     let mut v = from;
     while v < to {
-        let a = value_at(value, unknown, v);
-        let b = value_at(other, blank, v);
-        if !values::same(a, b) {
+        let here = value_in(a, v);
+        let there = value_in(b, v);
+        if !values::same(here, there) {
             return v;
         }
         v += 1;
@@ -93,12 +79,12 @@ fn first_variable<'a>(
 }
 
 // The first of n threads whose places differ, or n.
-fn first_place<'a>(places: &'a [u8; 8], others: &'a [u8; 8], n: usize) -> usize
-    ensures { λ r. ⌜ r ≡ firstFrom (λ i. not (eqb (getD (now (places .entry)) i 0) (getD (now (others .entry)) i 0))) n 0 ⌝ }
+fn first_place(a: &[u64], b: &[u64], n: u8) -> u8
+    ensures { λ r. ⌜ r ≡ firstFrom (placesDiffer (now (a .entry)) (now (b .entry))) n 0 ⌝ }
 {
-    let mut i: usize = 0;
+    let mut i: u8 = 0;
     while i < n {
-        if byte_at(places, i) != byte_at(others, i) {
+        if place_in(a, i) != place_in(b, i) {
             return i;
         }
         i += 1;
@@ -106,26 +92,26 @@ fn first_place<'a>(places: &'a [u8; 8], others: &'a [u8; 8], n: usize) -> usize
     i
 }
 
-// Where two states of a module differ first.
-pub fn first_difference(m: Counts, a: State, b: State) -> Difference
-    ensures { λ r. ⌜ r ≡ difference m a b ⌝ }
+// Where two rows of a module differ first.
+pub fn first_difference(m: Counts, a: &[u64], b: &[u64]) -> Difference
+    ensures { λ r. ⌜ r ≡ difference m (now (a .entry)) (now (b .entry)) ⌝ }
 {
     let from = wide(m.inputs);
     let to = from + (wide(m.registers) + wide(m.wires));
-    let v = first_variable(&a.value, &a.unknown, &b.value, &b.unknown, from, to);
+    let v = first_variable(a, b, from, to);
     if v < to {
-        let here = value_at(&a.value, &a.unknown, v);
-        let there = value_at(&b.value, &b.unknown, v);
+        let here = value_in(a, v);
+        let there = value_in(b, v);
         return Difference::Variable {
             variable: v,
             here,
             there,
         };
     }
-    let n = wide(m.threads);
-    let i = first_place(&a.places, &b.places, n);
+    let n = m.threads;
+    let i = first_place(a, b, n);
     if i < n {
-        return Difference::Place(i);
+        return Difference::Place(wide(i));
     }
     Difference::Nowhere
 }
@@ -147,21 +133,34 @@ fn differs(d: Difference) -> bool
     }
 }
 
-// The first of three orders whose state differs from that of the expressions.
-pub fn compare(m: Counts, orders: [State; 3], expressed: State) -> Finding
-    ensures { λ r. ⌜ r ≡ finding m orders expressed ⌝ }
+// An order that differs.
+fn apart(order: usize, difference: Difference) -> Finding
+    ensures { λ r. ⌜ r ≡ Finding.Apart order difference ⌝ }
 {
-    let mut k: usize = 0;
-    while k < 3 {
-        let a = orders[k];
-        let d = first_difference(m, a, expressed);
-        if differs(d) {
-            return Finding::Apart {
-                order: k,
-                difference: d,
-            };
-        }
-        k += 1;
+    Finding::Apart { order, difference }
+}
+
+// The first of three orders whose row differs from that of the expressions.
+pub fn compare(
+    m: Counts,
+    plain: &[u64],
+    first: &[u64],
+    second: &[u64],
+    expressed: &[u64],
+) -> Finding
+    ensures { λ r. ⌜ r ≡ finding m (now (plain .entry) ∷ now (first .entry) ∷ now (second .entry) ∷ []) (now (expressed .entry)) ⌝ }
+{
+    let d = first_difference(m, plain, expressed);
+    if differs(d) {
+        return apart(0, d);
+    }
+    let e = first_difference(m, first, expressed);
+    if differs(e) {
+        return apart(1, e);
+    }
+    let f = first_difference(m, second, expressed);
+    if differs(f) {
+        return apart(2, f);
     }
     Finding::Same
 }
@@ -217,12 +216,23 @@ pub fn cycle_of(v: Verdict) -> usize
     }
 }
 
+// How a command ends that has seen so many cycles agree: none is a mistake.
+fn agreed_outcome(n: usize) -> Outcome
+    ensures { λ r. ⌜ r ≡ agreedOutcome n ⌝ }
+{
+    if n == 0 {
+        Outcome::Mistaken
+    } else {
+        Outcome::Done
+    }
+}
+
 // How a command with that verdict ends.
 pub fn outcome_of(v: Verdict) -> Outcome
     ensures { λ r. ⌜ r ≡ outcomeOf v ⌝ }
 {
     match v {
-        Verdict::Agreed(_) => Outcome::Done,
+        Verdict::Agreed(n) => agreed_outcome(n),
         Verdict::Differs {
             cycle: _,
             order: _,

@@ -76,10 +76,17 @@ fn put_difference(
     }
 }
 
-// Agreement over n cycles.
+// Agreement over n cycles, or that there was none.
 fn put_agreement(n: usize, text: &mut [u8; 65536], pos: usize) -> usize
     ensures { λ r. ⌜ filled (now (text .exit)) r ≡ puts (filled (now (text .entry)) pos) (agreementLine n) ⌝ }
 {
+    if n == 0 {
+        return put_word(
+            b"there was nothing to compare: the inputs have no cycle\n",
+            text,
+            pos,
+        );
+    }
     let p = put_word(b"compared ", text, pos);
     let q = put_decimal(n, text, p);
     let r = put_word(

@@ -1,7 +1,6 @@
-pub mod Firsts
-pub mod Rounds
-pub mod Judging
-pub mod Sheets
 pub mod Masks
-pub mod ManyCycles
-pub mod ManySheets
+pub mod Writing
+pub mod Sheets
+pub mod Preparing
+pub mod Rows
+pub mod Claims

@@ -1,16 +1,20 @@
--- The masks of the registers that threads write: plainly or later, and of some thread. Assumes nothing.
-use mathlib.Core.Path.{_≡_, refl, ap, _∙_}
+-- The masks of the registers that threads write, plainly or later. Assumes nothing.
+use mathlib.Core.Path.{_≡_, _∙_}
 use mathlib.Core.Bool.{Bool, false, _||_}
 use mathlib.Core.List.{List}
-use Prim.Native.Nat.{ℕ, zero, suc, _+_, _<_}
-use native.Mathlib.Numerals.{add-one}
+use Prim.Native.Nat.{ℕ, _+_, _^_, _<_}
 use native.Mathlib.Decide.{ℕ-discrete}
 use native.Mathlib.Omega.{arith}
+use mir.Syntax.{w32}
+use mir.Val.{Fits}
 use lib.ListN.{length, getD, set, replicate, length-replicate, length-set}
 use lib.Seq.{getD-set-same, getD-set-other}
 use Rattle.masks.specs.Masks.{bits, either}
-use Rattle.masks.proofs.Masks.{getD-either, bits-zero}
-use Rattle.events.specs.Cycle.{anyBelow}
+use Rattle.masks.proofs.Masks.{getD-either}
+
+-- A number of 32 bits.
+pub below-32 : {n : ℕ} → Fits w32 n → n < 2 ^ 32
+below-32 f = f .fits
 
 module _ (plain later : List ℕ) where
   abbrev both : ℕ → ℕ → Bool
@@ -37,22 +41,3 @@ module _ (plain later : List ℕ) where
   pub joined-all :
       (n : ℕ) (out : List ℕ) → n ≡ 8 → Joined n out → (i r : ℕ) → i < 8 → getD (bits (getD out i 0)) r false ≡ both i r
   joined-all n out e j i r l = j .same i r (omega arith)
-
-module _ (written : List ℕ) where
-  abbrev pub United : ℕ → ℕ → Type 0
-  United n all = (r : ℕ) → getD (bits all) r false ≡ anyBelow n (λ i. getD (bits (getD written i 0)) r false)
-
-  getD-down : (n k : ℕ) → getD (replicate n false) k false ≡ false
-  getD-down zero k = refl
-  getD-down (suc n) zero = refl
-  getD-down (suc n) (suc k) = getD-down n k
-
-  pub united-none : United 0 0
-  unfolding anyBelow
-  united-none r = rw bits-zero (getD-down 32 r)
-
-  pub united-more :
-      (n all u : ℕ) → United n all → bits u ≡ either (bits all) (bits (getD written n 0)) → United (n + 1) u
-  unfolding anyBelow
-  united-more n all u h e r =
-      rw (add-one n, e) (getD-either (bits all) (bits (getD written n 0)) r ∙ ap (λ (t : Bool). t || getD (bits (getD written n 0)) r false) (h r))

@@ -1,3 +1,4 @@
-pub mod Answers
-pub mod Rounds
 pub mod Many
+pub mod Written
+pub mod Preparing
+pub mod Claims

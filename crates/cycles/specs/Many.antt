@@ -1,7 +1,6 @@
 -- Many clock cycles in one call: rows of inputs, a cycle run for each row. It is defined by the single cycle runs, each handed the
 -- registers and places that the last one gave back, up to the first that is refused.
-use mathlib.Core.Path.{_≡_}
-use mathlib.Core.Bool.{Bool, true, false}
+use mathlib.Core.Bool.{Bool, false}
 use mathlib.Core.List.{List, [], _∷_, _++_}
 use Prim.Native.Nat.{ℕ, zero, suc, _+_, _-_, _*_, _/_}
 use lib.ListN.{length, getD}
@@ -17,8 +16,6 @@ use Rattle.nextstate.specs.declared.Registers.{Registers}
 use Rattle.nextstate.specs.declared.Clocked.{Clocked}
 use Rattle.nextstate.specs.Extraction.{Tables, rightLengths}
 use Rattle.nextstate.specs.CycleRun.{tablesFit, tablesIn, registersFit, refused, clockedIn, extractable, cycleRun}
-use Rattle.engine.specs.declared.Shape.{Shape}
-use Rattle.checking.specs.Context.{Context, TablesJudged}
 use Rattle.cycles.specs.declared.Cycled.{Cycled}
 
 -- ---- rows of 16: item 0, the clock's, isn't looked at, item v + 1 is input item v of the cycle run
@@ -88,18 +85,3 @@ module _ (call : Registers → Inputs → Clocked) (g : Registers) (value : List
 unfoldable pub cyclesRun : List ℕ → List ℕ → List ℕ → Registers → List ℕ → List Bool → Cycled
 cyclesRun s ns rs g value unknown =
     pick (rightLengths ns rs) (cyclesOr (cycleRun s ns rs) g value unknown (extractable s) (tablesIn ns rs)) (atOnce 23 g)
-
--- ---- what the code answers on a sheet whose tables are filled
-
--- The rows, on lent tables that were found in order, with their nodes' widths, and from registers that fit.
-abbrev pub RowsAnswer : List ℕ → List ℕ → List ℕ → List ℕ → List ℕ → List ℕ → List ℕ → List Bool → Shape → List ℕ → List ℕ → List ℕ → Registers → List ℕ → List Bool → Cycled → Type 0
-RowsAnswer s ws starts code lengths firsts written all shape ns rs sizes g value unknown r =
-    (before : List ℕ) → length before ≡ 4096 → TablesJudged s ws code lengths firsts written shape ns rs before sizes true →
-    (m : Module Expr) → Context s m ws starts code lengths firsts written all shape → registersFit m g ≡ true →
-    r ≡ cyclesOf (clockedIn m (tablesIn ns rs)) g value unknown (shape .inputs)
-
--- The call from 24 on.
-abbrev pub ManyAnswers : List ℕ → List ℕ → List ℕ → List ℕ → List ℕ → List ℕ → List ℕ → List Bool → Shape → List ℕ → List ℕ → Registers → List ℕ → List Bool → Cycled → Type 0
-ManyAnswers s ws starts code lengths firsts written all shape ns rs g value unknown r =
-    (m : Module Expr) → Context s m ws starts code lengths firsts written all shape →
-    r ≡ cyclesIn (clockedIn m (tablesIn ns rs)) g value unknown m (tablesIn ns rs)

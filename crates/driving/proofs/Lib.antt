@@ -1,1 +1,4 @@
-pub mod Driving
+pub mod Endings
+pub mod Plans
+pub mod Samples
+pub mod Claims

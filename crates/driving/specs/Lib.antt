@@ -1,2 +1,4 @@
-pub mod Driving
+pub mod Plans
 pub mod Endings
+pub mod Saying
+pub mod Claims

@@ -1,5 +1,5 @@
--- Laws of one node: it is the one of its four words, and with the widths and values of a list it fits, is as wide and is worth
--- what nextstate says. Assumes nothing.
+-- Laws of one node: it is the one of its four words, and with the widths and values of a list it fits, is as wide and lands
+-- as nextstate says. Assumes nothing.
 use mathlib.Core.Path.{_≡_, refl, sym, ap, _∙_}
 use mathlib.Core.Bool.{Bool, true, false, _&&_}
 use mathlib.Core.List.{List}
@@ -8,17 +8,14 @@ use native.Mathlib.Omega.{arith}
 use borrow.Author.Tests.{le-leb, lt-leb, lt-ltb, le-ltb, ne-eqb, ltb-true, ltb-false, leb-true}
 use lib.ListN.{length, getD, List·getD-eq-default}
 use lib.Dec.{ltb, leb, eqb}
-use Rattle.values.specs.declared.Value.{Value}
-use Rattle.values.specs.declared.Value.the-variants.{Known, Unknown}
-use Rattle.values.specs.Values.{holds}
 use Rattle.values.specs.Operators.{unaryWidth, binaryWidth}
 use Rattle.sheet.specs.Expression.{Expr}
 use Rattle.sheet.specs.Module.{Module}
 use Rattle.events.specs.Cycle.{variables, codeOf, instrAt, isWait}
 use Rattle.events.proofs.Cycle.{and-left, and-right}
-use Rattle.nextstate.specs.Nodes.{Node, aVariable, aConstant, anUnknown, aUnary, aBinary, aConditional, aBranch, nodeFrom, nodeWidth, nodeValue}
+use Rattle.nextstate.specs.Nodes.{Node, aVariable, aConstant, anUnknown, aUnary, aBinary, aConditional, aBranch, nodeFrom, nodeWidth}
 use Rattle.nextstate.specs.CycleRun.{width?, nodeFits, lands}
-use Rattle.nodes.specs.Cells.{operatorOf, sizeIn, nodesIn, isWidth, armsFit, fitsAt, widthAt, worthAt, landsAt}
+use Rattle.nodes.specs.Cells.{operatorOf, sizeIn, isWidth, armsFit, fitsAt, widthAt, landsAt}
 
 -- ---- operatorOf, nodeFrom: by the kind
 
@@ -45,7 +42,7 @@ module _ (k a b : ℕ) where
   unfolding operatorOf nodeFrom
   from-operator c p q r s t = rw (ne-eqb k 0 p, ne-eqb k 1 q, ne-eqb k 2 r, ne-eqb k 20 s, ne-eqb k 40 t)
 
--- ---- sizeIn, nodesIn: a slot of the tables
+-- ---- sizeIn: a slot of the table
 
 module _ (n i : ℕ) (e : i ≡ n) where
   pub size-past : (us : List ℕ) → 4096 ≤ i → 0 ≡ sizeIn us n
@@ -55,30 +52,6 @@ module _ (n i : ℕ) (e : i ≡ n) where
   pub size-in : (us : List ℕ) → i < 4096 → getD us i 0 ≡ sizeIn us n
   unfolding sizeIn
   size-in us h = rw (← e, lt-ltb i 4096 h)
-
-  module _ (ns : List ℕ) (xs : List Bool) where
-    pub nodes-past : 4096 ≤ i → Unknown ≡ nodesIn ns xs n
-    unfolding nodesIn
-    nodes-past h = rw (← e, le-ltb i 4096 h)
-
-    pub nodes-unknown : i < 4096 → getD xs i false ≡ true → Unknown ≡ nodesIn ns xs n
-    unfolding nodesIn
-    nodes-unknown h x = rw (← e, lt-ltb i 4096 h, x)
-
-    pub nodes-known : i < 4096 → getD xs i false ≡ false → Known (getD ns i 0) ≡ nodesIn ns xs n
-    unfolding nodesIn
-    nodes-known h x = rw (← e, lt-ltb i 4096 h, x)
-
--- ---- worthAt: a branch
-
-module _ (size : ℕ → ℕ) (f g : ℕ → Value) (c a b : ℕ) (v r : Value) (t : Bool) (e : v ≡ g c) (h : t ≡ holds v) where
-  pub branch-on : t ≡ true → r ≡ g a → r ≡ worthAt size f g (aBranch c a b)
-  unfolding worthAt
-  branch-on u w = rw (← e, ← h, u) w
-
-  pub branch-off : t ≡ false → r ≡ g b → r ≡ worthAt size f g (aBranch c a b)
-  unfolding worthAt
-  branch-off u w = rw (← e, ← h, u) w
 
 -- ---- a test that counts only below n
 
@@ -142,7 +115,7 @@ small w h =
     let k : w ≤ 32 = leb-true w 32 (and-right (leb 1 w) (leb w 32) h) in
     omega arith
 
--- ---- its width is nodeWidth, and its worth nodeValue
+-- ---- its width is nodeWidth
 
 module _ (ws us : List ℕ) (v n : ℕ) (s : ℕ → ℕ) (h : (a : ℕ) → a < n → s a ≡ getD us a 0) where
   pub width-same : (d : Node) → fitsAt v n s d ≡ true → widthAt ws s d ≡ nodeWidth ws us d
@@ -154,24 +127,6 @@ module _ (ws us : List ℕ) (v n : ℕ) (s : ℕ → ℕ) (h : (a : ℕ) → a <
   width-same (aBinary o a b) f = ap (binaryWidth o) (h a (arm-left n s a b f))
   width-same (aConditional c a b) f = h a (arm-left n s a b (arms n s c a b f))
   width-same (aBranch c a b) f = h a (arm-left n s a b (arms n s c a b f))
-
-  module _ (f g : ℕ → Value) (vs : List Value) (k : (a : ℕ) → a < n → g a ≡ getD vs a Unknown) where
-    pub worth-same : (d : Node) → fitsAt v n s d ≡ true → worthAt s f g d ≡ nodeValue us f vs d
-    unfolding fitsAt worthAt nodeValue
-    worth-same (aVariable u) e = refl
-    worth-same (aConstant w x) e = refl
-    worth-same (anUnknown w) e = refl
-    worth-same (aUnary o a) e = let l = ltb-true a n e in rw (h a l, k a l)
-    worth-same (aBinary o a b) e =
-        let l = arm-left n s a b e in
-        let r = arm-right n s a b e in
-        rw (h a l, k a l, k b r)
-    worth-same (aConditional c a b) e =
-        let x = arms n s c a b e in
-        rw (k c (condition n s c a b e), k a (arm-left n s a b x), k b (arm-right n s a b x))
-    worth-same (aBranch c a b) e =
-        let x = arms n s c a b e in
-        rw (k c (condition n s c a b e), k a (arm-left n s a b x), k b (arm-right n s a b x))
 
 -- ---- landsAt is lands, by what is known of the nodes before
 

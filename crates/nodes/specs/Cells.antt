@@ -1,14 +1,12 @@
--- One node of lent tables, as the code reads it, judges it and works it out. The widths and values of the nodes before it come
--- from functions of any kind; proofs/Cells says that with those of a list they are nextstate's nodeFits, nodeWidth and nodeValue.
+-- One node of lent tables, as the code reads it and judges it. The widths and marks of the nodes before it come from functions of any
+-- kind; proofs/Cells says that with those of a list they are nextstate's nodeFits, nodeWidth and lands.
 use mathlib.Core.Bool.{Bool, false, _&&_}
 use mathlib.Core.List.{List}
 use Prim.Native.Nat.{ℕ, _-_, _^_, _%_}
 use lib.ListN.{getD}
 use lib.Dec.{ltb, leb, eqb}
-use Rattle.values.specs.declared.Value.{Value}
-use Rattle.values.specs.declared.Value.the-variants.{Known, Unknown}
-use Rattle.values.specs.Values.{pick, holds}
-use Rattle.values.specs.Operators.{unaryWidth, binaryWidth, unary, binary, choice}
+use Rattle.values.specs.Values.{pick}
+use Rattle.values.specs.Operators.{unaryWidth, binaryWidth}
 use Rattle.nextstate.specs.Nodes.{Node, aVariable, aConstant, anUnknown, aUnary, aBinary, aConditional, aBranch}
 use Rattle.nodes.specs.declared.Cell.{Cell}
 use Rattle.nodes.specs.declared.Cell.the-variants.{Variable, Constant, Blank, Unary, Binary, Conditional, Branch}
@@ -29,25 +27,10 @@ unfoldable pub operatorOf : ℕ → ℕ → ℕ → Node
 operatorOf k a b =
     pick (leb 11 k) (pick (leb k 12) (aUnary (k - 10) a) (pick (leb k 19) (aBinary (k - 10) a b) (anUnknown 0))) (anUnknown 0)
 
--- ---- the widths and values of the nodes, as they lie in the code's tables of 4,096
+-- ---- the widths of the nodes, as they lie in the code's table of 4,096
 
 unfoldable pub sizeIn : List ℕ → ℕ → ℕ
 sizeIn us n = pick (ltb n 4096) (getD us n 0) 0
-
-unfoldable pub nodesIn : List ℕ → List Bool → ℕ → Value
-nodesIn ns xs n = pick (ltb n 4096) (pick (getD xs n false) Unknown (Known (getD ns n 0))) Unknown
-
--- ---- what a node is worth: f gives the variables' values, g those of the nodes before it
-
-module _ (size : ℕ → ℕ) (f g : ℕ → Value) where
-  unfoldable pub worthAt : Node → Value
-  worthAt (aVariable v) = f v
-  worthAt (aConstant w n) = Known n
-  worthAt (anUnknown w) = Unknown
-  worthAt (aUnary o a) = unary o (size a) (g a)
-  worthAt (aBinary o a b) = binary o (size a) (g a) (g b)
-  worthAt (aConditional c a b) = choice (g c) (g a) (g b)
-  worthAt (aBranch c a b) = pick (holds (g c)) (g a) (g b)
 
 -- ---- does node number n fit, where there are so many variables?
 

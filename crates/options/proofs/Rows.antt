@@ -15,16 +15,16 @@ use Rattle.options.specs.Requests.{wordOf, isGiven, runOf, commanded}
 -- ---- seeded
 
 module _ (o : Options) (word : List ℕ) where
-  pub seeded-empty : length word ≡ 0 → misplaced o ≡ seeded o word
+  pub seeded-empty : length word ≡ 0 → misplaced o 3 ≡ seeded o word
   unfolding seeded
   seeded-empty h = rw (eq-eqb (length word) 0 h)
 
   module _ (h : length word ≡ 0 → ⊥) (a : Number) (e : a ≡ numberOf false word) where
-    pub seeded-bad : a .good ≡ false → misplaced o ≡ seeded o word
+    pub seeded-bad : a .good ≡ false → misplaced o 3 ≡ seeded o word
     unfolding seeded
     seeded-bad g = rw (ne-eqb (length word) 0 h, ← e, g)
 
-    pub seeded-long : a .good ≡ true → 4294967296 ≤ a .n → misplaced o ≡ seeded o word
+    pub seeded-long : a .good ≡ true → 4294967296 ≤ a .n → misplaced o 3 ≡ seeded o word
     unfolding seeded
     seeded-long g l = rw (ne-eqb (length word) 0 h, ← e, g, le-ltb (a .n) 4294967296 l)
 
@@ -40,6 +40,6 @@ module _ (o : Options) where
   commanded-run e = rw e
 
   pub commanded-extract :
-      o .command ≡ 4 → Extract (record { sheet = wordOf o 11; names = wordOf o 2; dot = isGiven o 7 }) ≡ commanded o
+      o .command ≡ 4 → Extract (record { sheet = wordOf o 30; names = wordOf o 2; dot = isGiven o 13 }) ≡ commanded o
   unfolding commanded
   commanded-extract e = rw e

@@ -10,69 +10,84 @@ use Rattle.stimulus.specs.Numbers.{numberOf}
 use Rattle.options.specs.declared.Options.{Options}
 use Rattle.options.specs.Tables.{commandOf, optionOf}
 
-abbrev pub options : ℕ → ℕ → ℕ → ℕ → ℕ → List ℕ → Options
-options words command wants wrong seed at =
-    record { words = words; command = command; wants = wants; wrong = wrong; seed = seed; at = at }
+abbrev pub options : ℕ → ℕ → ℕ → ℕ → ℕ → ℕ → List ℕ → Options
+options words command wants wrong fault seed at =
+    record { words = words; command = command; wants = wants; wrong = wrong; fault = fault; seed = seed; at = at }
 
 -- ---- what a word changes
 
 unfoldable pub nothing : Options
-nothing = options 0 0 0 0 0 (replicate 13 0)
+nothing = options 0 0 0 0 0 0 (replicate 32 0)
 
 -- One word more, which no slot wants any longer.
 unfoldable pub advanced : Options → Options
-advanced o = options (counted (o .words)) (o .command) 0 (o .wrong) (o .seed) (o .at)
+advanced o = options (counted (o .words)) (o .command) 0 (o .wrong) (o .fault) (o .seed) (o .at)
 
--- A slot is given by the last word. There are 13, of which number 0 is none.
+-- A slot is given by the last word. There are 32, of which number 0 is none.
 unfoldable pub noted : Options → ℕ → Options
 noted o slot =
-    pick (ltb slot 13) (options (o .words) (o .command) (o .wants) (o .wrong) (o .seed) (set (o .at) slot (o .words))) o
+    pick (ltb slot 32) (options (o .words) (o .command) (o .wants) (o .wrong) (o .fault) (o .seed) (set (o .at) slot (o .words))) o
 
 -- A slot wants the next word.
 unfoldable pub wanting : Options → ℕ → Options
-wanting o slot = options (o .words) (o .command) slot (o .wrong) (o .seed) (o .at)
+wanting o slot = options (o .words) (o .command) slot (o .wrong) (o .fault) (o .seed) (o .at)
 
--- The last word is out of place; the first such word counts.
-unfoldable pub misplaced : Options → Options
-misplaced o =
-    o .wrong is 0 then options (o .words) (o .command) (o .wants) (o .words) (o .seed) (o .at) else o
+-- The last word is out of place; the first such word counts. Faults: 1 no command, 2 no option, 3 no seed, 4 one file too many, 5 an
+-- option or inputs that do not go with the command, 6 a seed and the expressions, 7 a waveform on standard output, 8 an option at the end
+-- that wants a word.
+unfoldable pub misplaced : Options → ℕ → Options
+misplaced o fault =
+    o .wrong is 0 then options (o .words) (o .command) (o .wants) (o .words) fault (o .seed) (o .at) else o
 
 unfoldable pub withSeed : Options → ℕ → Options
-withSeed o n = options (o .words) (o .command) (o .wants) (o .wrong) n (o .at)
+withSeed o n = options (o .words) (o .command) (o .wants) (o .wrong) (o .fault) n (o .at)
 
 unfoldable pub withCommand : Options → ℕ → Options
-withCommand o n = options (o .words) n (o .wants) (o .wrong) (o .seed) (o .at)
+withCommand o n = options (o .words) n (o .wants) (o .wrong) (o .fault) (o .seed) (o .at)
 
--- ---- the word that a slot wants: a seed is a decimal number below 2^32, any word names a file
+-- ---- the word that a slot wants: a seed is a decimal number below 2^32, any word names a file, but `-` (45) no waveform
 
 unfoldable pub seeded : Options → List ℕ → Options
 seeded o word =
     let a = numberOf false word in
-    length word is 0 then misplaced o else
-    pick (a .good) (pick (ltb (a .n) 4294967296) (withSeed (noted o 3) (a .n)) (misplaced o)) (misplaced o)
+    length word is 0 then misplaced o 3 else
+    pick (a .good) (pick (ltb (a .n) 4294967296) (withSeed (noted o 3) (a .n)) (misplaced o 3)) (misplaced o 3)
+
+unfoldable pub isDash : List ℕ → Bool
+isDash word = length word is 1 then eqb (getD word 0 0) 45 else false
 
 unfoldable pub filled : Options → ℕ → List ℕ → Options
-filled o slot word = slot is 3 then seeded o word else noted o slot
+filled o slot word =
+    slot is 3 then seeded o word else
+    slot is 1 then pick (isDash word) (misplaced o 7) (noted o 1) else
+    noted o slot
 
 -- ---- a word that none wants: an option, or in turn the command, the sheet and the inputs
 
--- `-` (45) alone names standard input.
+-- `-` alone names standard input.
 unfoldable pub isDashed : List ℕ → Bool
 isDashed word = leb 2 (length word) && eqb (getD word 0 0) 45
 
+-- A command by its number; help is one.
+unfoldable pub named : Options → ℕ → Options
+named o n =
+    n is 0 then misplaced o 1 else
+    n is 7 then noted o 17 else
+    withCommand o n
+
 unfoldable pub placed : Options → List ℕ → Options
 placed o word =
-    o .command is 0 then (commandOf word is 0 then misplaced o else withCommand o (commandOf word)) else
-    getD (o .at) 11 0 is 0 then noted o 11 else
-    getD (o .at) 12 0 is 0 then noted o 12 else
-    misplaced o
+    o .command is 0 then named o (commandOf word) else
+    getD (o .at) 30 0 is 0 then noted o 30 else
+    getD (o .at) 31 0 is 0 then noted o 31 else
+    misplaced o 4
 
 unfoldable pub fresh : Options → List ℕ → Options
 fresh o word =
     let slot = optionOf word in
-    pick (ltb 3 slot) (noted o slot)
+    pick (ltb 9 slot) (noted o slot)
     (pick (ltb 0 slot) (wanting o slot)
-    (pick (isDashed word) (misplaced o)
+    (pick (isDashed word) (misplaced o 2)
     (placed o word)))
 
 -- ---- taken: one word; takenAll: all words

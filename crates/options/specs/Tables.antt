@@ -1,11 +1,12 @@
 -- The tables of the command line: the words of commands and options, and which option goes with which command.
--- Slots: 1 `--vcd`, 2 `--names`, 3 `--seed`, 4 `--by-expressions`, 5 `--wires`, 6 `--last`, 7 `--dot`, 8 `--progress`, 9 `--status`,
--- 10 `--help`, 11 the sheet, 12 the inputs. Commands: 1 list, 2 check, 3 run, 4 extract, 5 compare, 6 verilog.
-use mathlib.Core.Bool.{Bool, true, false, _||_}
+-- Slots: 1 `--vcd`, 2 `--names`, 3 `--seed`, which take the next word; 10 `--by-expressions`, 11 `--wires`, 12 `--last`, 13 `--dot`,
+-- 14 `--progress`, 15 `--any-order`, 16 `--status`, 17 help, 18 the version; 30 the sheet, 31 the inputs. Commands: 1 list, 2 check, 3 run,
+-- 4 extract, 5 compare, 6 verilog, 7 help.
+use mathlib.Core.Bool.{Bool, true, _||_}
 use mathlib.Core.List.{List}
 use Prim.Native.Nat.{ℕ}
 use Prim.Native.String.{String}
-use lib.Dec.{eqb}
+use lib.Dec.{ltb, eqb}
 use Rattle.values.specs.Values.{pick, _is_then_else_}
 use Rattle.writing.specs.Ascii.{ascii}
 use Rattle.naming.specs.Naming.{sameText}
@@ -25,9 +26,10 @@ commandOf w =
     w says "extract" then 4 else
     w says "compare" then 5 else
     w says "verilog" then 6 else
+    w says "help" then 7 else
     0
 
--- ---- optionOf: an option's slot, 0 for any other word; 1 to 3 take the next word
+-- ---- optionOf: an option's slot, 0 for any other word; those below 10 take the next word
 
 unfoldable pub valuedOption : List ℕ → ℕ
 valuedOption w =
@@ -38,19 +40,29 @@ valuedOption w =
 
 unfoldable pub loneOption : List ℕ → ℕ
 loneOption w =
-    w says "--by-expressions" then 4 else
-    w says "--wires" then 5 else
-    w says "--last" then 6 else
-    w says "--dot" then 7 else
-    w says "--progress" then 8 else
-    w says "--status" then 9 else
-    w says "--help" then 10 else
+    w says "--by-expressions" then 10 else
+    w says "--wires" then 11 else
+    w says "--last" then 12 else
+    w says "--dot" then 13 else
+    w says "--progress" then 14 else
+    w says "--any-order" then 15 else
+    0
+
+-- Those that go with every command.
+unfoldable pub plainOption : List ℕ → ℕ
+plainOption w =
+    w says "--status" then 16 else
+    w says "--help" then 17 else
+    w says "-h" then 17 else
+    w says "--version" then 18 else
+    w says "-V" then 18 else
     0
 
 unfoldable pub optionOf : List ℕ → ℕ
-optionOf w = valuedOption w is 0 then loneOption w else valuedOption w
+optionOf w =
+    valuedOption w is 0 then (loneOption w is 0 then plainOption w else loneOption w) else valuedOption w
 
--- ---- goesWith: status, help and the sheet go with all commands, the others as the help says
+-- ---- goesWith: slots 16 to 30 go with all commands, the others as the help says
 
 unfoldable pub isFed : ℕ → Bool
 isFed command = eqb command 3 || eqb command 5
@@ -58,9 +70,6 @@ isFed command = eqb command 3 || eqb command 5
 unfoldable pub goesWith : ℕ → ℕ → Bool
 goesWith command slot =
     slot is 2 then (eqb command 3 || eqb command 4) else
-    slot is 7 then eqb command 4 else
-    slot is 9 then true else
-    slot is 10 then true else
-    slot is 11 then true else
-    slot is 12 then isFed command else
-    eqb command 3
+    slot is 13 then eqb command 4 else
+    slot is 31 then isFed command else
+    pick (ltb slot 16) (eqb command 3) true

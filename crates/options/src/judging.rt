@@ -11,9 +11,9 @@ use crate::tables::goes_with;
 use crate::tables::is_fed;
 ghost use mathlib.Core.Path.{_≡_};
 ghost use lib.ListN.{getD};
-ghost use Rattle.options.specs.Requests.{isGiven, isMisfit, misfit, isShort, wayOf, runOf, clashing, commanded};
-ghost use Rattle.options.specs.Requests.{request, sheetOf, namesOf};
-ghost use Rattle.options.specs.Status.{statusOf};
+ghost use Rattle.options.specs.Requests.{isGiven, isMisfit, misfit, lacking, wayOf, runOf, clashing, commanded};
+ghost use Rattle.options.specs.Requests.{fitted, judged, request, sheetOf, namesOf};
+ghost use Rattle.options.specs.Status.{joined, statusOf};
 
 // The number of a slot's word, 0 where it is not given.
 fn word_at(at: &[usize], slot: usize) -> usize
@@ -45,11 +45,11 @@ fn is_misfit(command: u8, slot: usize, n: usize) -> bool
 }
 
 // The word of the first slot that is given and does not go with the command, 0 where all do.
-fn misfit(command: u8, at: [usize; 13]) -> usize
+fn misfit(command: u8, at: [usize; 32]) -> usize
     ensures { λ r. ⌜ r ≡ misfit command 0 at ⌝ }
 {
     let mut k: usize = 0;
-    while k < 13 {
+    while k < 32 {
         let n = at[k];
         if is_misfit(command, k, n) {
             return n;
@@ -59,30 +59,27 @@ fn misfit(command: u8, at: [usize; 13]) -> usize
     0
 }
 
-// Is a word missing: the command, the sheet, the inputs, or what an option wants?
-fn is_short(o: Options) -> bool
-    ensures { λ r. ⌜ r ≡ isShort o ⌝ }
+// Which word is missing: 1 the command, 2 the sheet, 3 the inputs; 0 none.
+fn lacking(o: Options) -> u8
+    ensures { λ r. ⌜ r ≡ lacking o ⌝ }
 {
-    if o.wants != 0 {
-        return true;
-    }
     if o.command == 0 {
-        return true;
+        return 1;
     }
-    if !is_given(o, 11) {
-        return true;
+    if !is_given(o, 30) {
+        return 2;
     }
     if !is_fed(o.command) {
-        return false;
+        return 0;
     }
-    !is_given(o, 12)
+    if is_given(o, 31) { 0 } else { 3 }
 }
 
 // By which way a run goes.
 fn way_of(o: Options) -> Way
     ensures { λ r. ⌜ r ≡ wayOf o ⌝ }
 {
-    if is_given(o, 4) {
+    if is_given(o, 10) {
         return Way::Expressed;
     }
     if is_given(o, 3) {
@@ -96,14 +93,15 @@ fn run_of(o: Options) -> RunOptions
 {
     let way = way_of(o);
     RunOptions {
-        sheet: word_of(o, 11),
-        inputs: word_of(o, 12),
+        sheet: word_of(o, 30),
+        inputs: word_of(o, 31),
         names: word_of(o, 2),
         vcd: word_of(o, 1),
         way,
-        wires: is_given(o, 5),
-        last: is_given(o, 6),
-        progress: is_given(o, 8),
+        wires: is_given(o, 11),
+        last: is_given(o, 12),
+        progress: is_given(o, 14),
+        silent: is_given(o, 15),
     }
 }
 
@@ -111,7 +109,7 @@ fn run_of(o: Options) -> RunOptions
 fn commanded(o: Options) -> Command
     ensures { λ r. ⌜ r ≡ commanded o ⌝ }
 {
-    let sheet = word_of(o, 11);
+    let sheet = word_of(o, 30);
     let command = o.command;
     match command {
         1 => Command::List(sheet),
@@ -120,11 +118,11 @@ fn commanded(o: Options) -> Command
         4 => Command::Extract(ExtractOptions {
             sheet,
             names: word_of(o, 2),
-            dot: is_given(o, 7),
+            dot: is_given(o, 13),
         }),
         5 => Command::Compare(CompareOptions {
             sheet,
-            inputs: word_of(o, 12),
+            inputs: word_of(o, 31),
         }),
         _ => Command::Verilog(sheet),
     }
@@ -135,40 +133,61 @@ fn clashing(o: Options) -> bool
     ensures { λ r. ⌜ r ≡ clashing o ⌝ }
 {
     if is_given(o, 3) {
-        return is_given(o, 4);
+        return is_given(o, 10);
     }
     false
+}
+
+// The command that all words ask for, or the slot or the pair of slots that is wrong.
+fn fitted(o: Options) -> Request
+    ensures { λ r. ⌜ r ≡ fitted o ⌝ }
+{
+    let at = o.at;
+    let n = misfit(o.command, at);
+    if n != 0 {
+        return Request::Wrong(n, 5);
+    }
+    if clashing(o) {
+        return Request::Wrong(word_of(o, 10), 6);
+    }
+    Request::Asked(commanded(o))
+}
+
+// What all words ask for, where they do not ask for help or the version.
+fn judged(o: Options) -> Request
+    ensures { λ r. ⌜ r ≡ judged o ⌝ }
+{
+    if o.wrong != 0 {
+        return Request::Wrong(o.wrong, o.fault);
+    }
+    if o.wants != 0 {
+        return Request::Wrong(o.words, 8);
+    }
+    let m = lacking(o);
+    if m != 0 {
+        return Request::Short(m);
+    }
+    fitted(o)
 }
 
 // What all words ask for.
 pub fn judge(o: Options) -> Request
     ensures { λ r. ⌜ r ≡ request o ⌝ }
 {
-    if is_given(o, 10) {
+    if is_given(o, 17) {
         return Request::Help;
     }
-    if o.wrong != 0 {
-        return Request::Wrong(o.wrong);
+    if is_given(o, 18) {
+        return Request::Version;
     }
-    if is_short(o) {
-        return Request::Short;
-    }
-    let at = o.at;
-    let n = misfit(o.command, at);
-    if n != 0 {
-        return Request::Wrong(n);
-    }
-    if clashing(o) {
-        return Request::Wrong(word_of(o, 4));
-    }
-    Request::Asked(commanded(o))
+    judged(o)
 }
 
 // Is the status asked for?
 pub fn wants_status(o: Options) -> bool
-    ensures { λ r. ⌜ r ≡ isGiven o 9 ⌝ }
+    ensures { λ r. ⌜ r ≡ isGiven o 16 ⌝ }
 {
-    is_given(o, 9)
+    is_given(o, 16)
 }
 
 // The word that names a command's sheet.
@@ -208,5 +227,17 @@ pub fn status_of(e: Outcome) -> u8
         Outcome::Refused => 1,
         Outcome::Different => 1,
         Outcome::Mistaken => 2,
+    }
+}
+
+// Two things that a command did, one after the other: the first that did not end well counts.
+pub fn joined(a: Outcome, b: Outcome) -> Outcome
+    ensures { λ r. ⌜ r ≡ joined a b ⌝ }
+{
+    match a {
+        Outcome::Done => b,
+        Outcome::Refused => Outcome::Refused,
+        Outcome::Different => Outcome::Different,
+        Outcome::Mistaken => Outcome::Mistaken,
     }
 }

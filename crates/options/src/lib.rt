@@ -3,6 +3,7 @@
 mod judging;
 mod tables;
 
+pub use judging::joined;
 pub use judging::judge;
 pub use judging::names_of;
 pub use judging::sheet_of;
@@ -12,17 +13,19 @@ use stimulus::number_of;
 use tables::command_of;
 use tables::option_of;
 ghost use mathlib.Core.Path.{_≡_};
-ghost use Rattle.options.specs.Options.{nothing, advanced, noted, wanting, misplaced, seeded, filled, isDashed, placed, fresh, taken};
+ghost use Rattle.options.specs.Options.{nothing, advanced, noted, wanting, misplaced, seeded};
+ghost use Rattle.options.specs.Options.{isDash, filled, isDashed, named, placed, fresh, taken};
 
 // What the words so far have asked for: how many there are, the command's number or 0, the slot whose word is to come or 0, the first
-// word that is out of place or 0, the seed, and the slots.
+// word that is out of place or 0, and its fault; the seed, and the slots.
 pub struct Options {
     pub words: usize,
     pub command: u8,
     pub wants: usize,
     pub wrong: usize,
+    pub fault: u8,
     pub seed: u32,
-    pub at: [usize; 13],
+    pub at: [usize; 32],
 }
 
 // By which of the three ways a run goes: the plain run, choices drawn by a seed, or the extracted expressions.
@@ -42,6 +45,7 @@ pub struct RunOptions {
     pub wires: bool,
     pub last: bool,
     pub progress: bool,
+    pub silent: bool,
 }
 
 pub struct ExtractOptions {
@@ -65,11 +69,13 @@ pub enum Command {
     Verilog(usize),
 }
 
-// What all words ask for: help, a command, or nothing that can be done: a word is missing, or this word is out of place.
+// What all words ask for: help, the version, a command, or nothing that can be done: a word is missing (1 the command, 2 the sheet, 3 the
+// inputs), or this word is out of place, by this fault.
 pub enum Request {
     Help,
-    Short,
-    Wrong(usize),
+    Version,
+    Short(u8),
+    Wrong(usize, u8),
     Asked(Command),
 }
 
@@ -92,8 +98,9 @@ pub fn begin() -> Options
         command: 0,
         wants: 0,
         wrong: 0,
+        fault: 0,
         seed: 0,
-        at: [0usize; 13],
+        at: [0usize; 32],
     }
 }
 
@@ -107,6 +114,7 @@ fn advanced(o: Options) -> Options
         command: o.command,
         wants: 0,
         wrong: o.wrong,
+        fault: o.fault,
         seed: o.seed,
         at,
     }
@@ -116,7 +124,7 @@ fn advanced(o: Options) -> Options
 fn noted(o: Options, slot: usize) -> Options
     ensures { λ r. ⌜ r ≡ noted o slot ⌝ }
 {
-    if 13 <= slot {
+    if 32 <= slot {
         return o;
     }
     let mut at = o.at;
@@ -126,6 +134,7 @@ fn noted(o: Options, slot: usize) -> Options
         command: o.command,
         wants: o.wants,
         wrong: o.wrong,
+        fault: o.fault,
         seed: o.seed,
         at,
     }
@@ -141,14 +150,15 @@ fn wanting(o: Options, slot: usize) -> Options
         command: o.command,
         wants: slot,
         wrong: o.wrong,
+        fault: o.fault,
         seed: o.seed,
         at,
     }
 }
 
 // The last word is out of place; the first such word counts.
-fn misplaced(o: Options) -> Options
-    ensures { λ r. ⌜ r ≡ misplaced o ⌝ }
+fn misplaced(o: Options, fault: u8) -> Options
+    ensures { λ r. ⌜ r ≡ misplaced o fault ⌝ }
 {
     if o.wrong != 0 {
         return o;
@@ -159,6 +169,7 @@ fn misplaced(o: Options) -> Options
         command: o.command,
         wants: o.wants,
         wrong: o.words,
+        fault,
         seed: o.seed,
         at,
     }
@@ -173,13 +184,13 @@ fn seeded(o: Options, word: &[u8]) -> Options
     let a = number_of(false, word, 0);
     let n = a.n;
     if word.len() == 0 {
-        return misplaced(o);
+        return misplaced(o, 3);
     }
     if !a.good {
-        return misplaced(o);
+        return misplaced(o, 3);
     }
     if 4294967296 <= n {
-        return misplaced(o);
+        return misplaced(o, 3);
     }
     let b = noted(o, 3);
     let at = b.at;
@@ -188,9 +199,20 @@ fn seeded(o: Options, word: &[u8]) -> Options
         command: b.command,
         wants: b.wants,
         wrong: b.wrong,
+        fault: b.fault,
         seed: n as u32,
         at,
     }
+}
+
+// Is the word `-`?
+fn is_dash(word: &[u8]) -> bool
+    ensures { λ r. ⌜ r ≡ isDash (now (word .entry)) ⌝ }
+{
+    if word.len() != 1 {
+        return false;
+    }
+    word[0] == b'-'
 }
 
 // The word that a slot wants.
@@ -199,6 +221,12 @@ fn filled(o: Options, slot: usize, word: &[u8]) -> Options
 {
     if slot == 3 {
         return seeded(o, word);
+    }
+    if slot == 1 {
+        if is_dash(word) {
+            return misplaced(o, 7);
+        }
+        return noted(o, 1);
     }
     noted(o, slot)
 }
@@ -213,33 +241,43 @@ fn is_dashed(word: &[u8]) -> bool
     word[0] == b'-'
 }
 
+// A command by its number, 0 for none.
+fn named(o: Options, n: u8) -> Options
+    ensures { λ r. ⌜ r ≡ named o n ⌝ }
+{
+    if n == 0 {
+        return misplaced(o, 1);
+    }
+    if n == 7 {
+        return noted(o, 17);
+    }
+    let at = o.at;
+    Options {
+        words: o.words,
+        command: n,
+        wants: o.wants,
+        wrong: o.wrong,
+        fault: o.fault,
+        seed: o.seed,
+        at,
+    }
+}
+
 // A word that is no option: the command, the sheet, the inputs.
 fn placed(o: Options, word: &[u8]) -> Options
     ensures { λ r. ⌜ r ≡ placed o (now (word .entry)) ⌝ }
 {
     if o.command == 0 {
-        let command = command_of(word);
-        if command == 0 {
-            return misplaced(o);
-        }
-        let at = o.at;
-        return Options {
-            words: o.words,
-            command,
-            wants: o.wants,
-            wrong: o.wrong,
-            seed: o.seed,
-            at,
-        };
+        return named(o, command_of(word));
     }
     let at = o.at;
-    if at[11] == 0 {
-        return noted(o, 11);
+    if at[30] == 0 {
+        return noted(o, 30);
     }
-    if at[12] == 0 {
-        return noted(o, 12);
+    if at[31] == 0 {
+        return noted(o, 31);
     }
-    misplaced(o)
+    misplaced(o, 4)
 }
 
 // A word that no slot wants.
@@ -247,14 +285,14 @@ fn fresh(o: Options, word: &[u8]) -> Options
     ensures { λ r. ⌜ r ≡ fresh o (now (word .entry)) ⌝ }
 {
     let slot = option_of(word);
-    if 3 < slot {
+    if 9 < slot {
         return noted(o, slot);
     }
     if 0 < slot {
         return wanting(o, slot);
     }
     if is_dashed(word) {
-        return misplaced(o);
+        return misplaced(o, 2);
     }
     placed(o, word)
 }

@@ -1,7 +1,7 @@
 // The tables of words: commands, options, and which option goes with which command.
 ghost use mathlib.Core.Path.{_≡_};
 ghost use Rattle.naming.specs.Naming.{sameText};
-ghost use Rattle.options.specs.Tables.{commandOf, valuedOption, loneOption, optionOf, isFed, goesWith};
+ghost use Rattle.options.specs.Tables.{commandOf, valuedOption, loneOption, plainOption, optionOf, isFed, goesWith};
 
 // Are two texts equal?
 fn is_word(word: &[u8], text: &[u8]) -> bool
@@ -42,6 +42,9 @@ pub fn command_of(word: &[u8]) -> u8
     if is_word(word, b"verilog") {
         return 6;
     }
+    if is_word(word, b"help") {
+        return 7;
+    }
     0
 }
 
@@ -66,25 +69,44 @@ fn lone_option(word: &[u8]) -> usize
     ensures { λ r. ⌜ r ≡ loneOption (now (word .entry)) ⌝ }
 {
     if is_word(word, b"--by-expressions") {
-        return 4;
+        return 10;
     }
     if is_word(word, b"--wires") {
-        return 5;
+        return 11;
     }
     if is_word(word, b"--last") {
-        return 6;
+        return 12;
     }
     if is_word(word, b"--dot") {
-        return 7;
+        return 13;
     }
     if is_word(word, b"--progress") {
-        return 8;
+        return 14;
     }
+    if is_word(word, b"--any-order") {
+        return 15;
+    }
+    0
+}
+
+// The slot of an option that goes with every command.
+fn plain_option(word: &[u8]) -> usize
+    ensures { λ r. ⌜ r ≡ plainOption (now (word .entry)) ⌝ }
+{
     if is_word(word, b"--status") {
-        return 9;
+        return 16;
     }
     if is_word(word, b"--help") {
-        return 10;
+        return 17;
+    }
+    if is_word(word, b"-h") {
+        return 17;
+    }
+    if is_word(word, b"--version") {
+        return 18;
+    }
+    if is_word(word, b"-V") {
+        return 18;
     }
     0
 }
@@ -94,10 +116,14 @@ pub fn option_of(word: &[u8]) -> usize
     ensures { λ r. ⌜ r ≡ optionOf (now (word .entry)) ⌝ }
 {
     let slot = valued_option(word);
-    if slot == 0 {
-        return lone_option(word);
+    if slot != 0 {
+        return slot;
     }
-    slot
+    let lone = lone_option(word);
+    if lone != 0 {
+        return lone;
+    }
+    plain_option(word)
 }
 
 // Does the command take inputs?
@@ -120,20 +146,14 @@ pub fn goes_with(command: u8, slot: usize) -> bool
         }
         return command == 4;
     }
-    if slot == 7 {
+    if slot == 13 {
         return command == 4;
     }
-    if slot == 9 {
-        return true;
-    }
-    if slot == 10 {
-        return true;
-    }
-    if slot == 11 {
-        return true;
-    }
-    if slot == 12 {
+    if slot == 31 {
         return is_fed(command);
     }
-    command == 3
+    if slot < 16 {
+        return command == 3;
+    }
+    true
 }

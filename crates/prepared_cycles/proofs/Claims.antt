@@ -28,10 +28,14 @@ use Rattle.prepared.proofs.Sheets.{prepared-holds}
 use Rattle.prepared_cycles.specs.declared.Cycled.{Cycled}
 use Rattle.prepared_cycles.specs.Cycles.{cycled, rowInputs, phases, runCycles}
 use Rattle.prepared_cycles.specs.Phases.{phasesAt, ended, laidOut, cyclesAt}
-use Rattle.prepared_cycles.specs.Traces.{Lent, hasRoom, rounds, traceFrom, traceCycles, tracedCycles, traceFromAt, traceAt, tracedAt}
+use Rattle.prepared_cycles.specs.Traces.{hasRoom, rounds, traceFrom, traceCycles, tracedCycles, traceFromAt, traceAt, tracedAt}
+use Rattle.prepared_cycles.specs.Traces.{stateAt}
+use Rattle.prepared_cycles.specs.Drives.{going, driven, onSheet, onPlan, toRest, drives, rows, told, arrived}
+use Rattle.prepared_cycles.specs.Drives.{settled, driveCycles, drivenCycles, settledAt, driveAt, drivenAt}
 use Rattle.prepared_cycles.specs.Claims.{OnTheSheet}
 use Rattle.prepared_cycles.proofs.Courses.{Stood, phases-stood}
 use Rattle.prepared_cycles.proofs.Traced.{trace-stood}
+use Rattle.prepared_cycles.proofs.Alike.{like, ends, arrived-like, toRest-like, drives-like, rows-like}
 
 module _ (s : List ℕ) {m : Module Expr} {q : Plan} (k : PlanOf m q) (inputs-fit : (a : Inputs) → planInputsFit q a ≡ inputsFit m a)
     (e : read s ≡ ok m) (st : State) (same : planFits q st ≡ stateFits m st) (h : Shaped st) (b : Bounded st)
@@ -67,11 +71,11 @@ module _ (s : List ℕ) {m : Module Expr} {q : Plan} (k : PlanOf m q) (inputs-fi
             ap (λ (n : ℕ). ended (phasesAt q (rowInputs n ns xs) rounds 0 (laidOut q st))) (k .inputs)
             ∙ phases-stood s k inputs-fit e (rowInputs (m .scope .inputs) ns xs) rounds 0 st (laidOut q st) (stood f)
 
-    trace-of : (ns : List ℕ) (xs : List Bool) (w : Lent) → traceAt q st ns xs w ≡ traceCycles s st ns xs w
+    trace-of : (ns : List ℕ) (xs : List Bool) (w : List ℕ) → traceAt q st ns xs w ≡ traceCycles s st ns xs w
     unfolding traceAt traceCycles
     trace-of ns xs w = ap (λ (r : Cycled). pick (hasRoom (rounds ns) w) r (cycled 0 23 false st)) (cycles-of ns xs)
 
-    traced-of : (ns : List ℕ) (xs : List Bool) (w : Lent) → tracedAt q st ns xs w ≡ tracedCycles s st ns xs w
+    traced-of : (ns : List ℕ) (xs : List Bool) (w : List ℕ) → tracedAt q st ns xs w ≡ tracedCycles s st ns xs w
     unfolding tracedAt tracedCycles judged
     traced-of ns xs w = rw (e, same) (by (hasRoom (rounds ns) w) (stateFits m st) refl (wholeRows ns xs))
       where
@@ -85,6 +89,72 @@ module _ (s : List ℕ) {m : Module Expr} {q : Plan} (k : PlanOf m q) (inputs-fi
             ap (λ (n : ℕ). traceFromAt q (rowInputs n ns xs) (rounds ns) 0 (laidOut q st) w) (k .inputs)
             ∙ trace-stood s k inputs-fit e (rowInputs (m .scope .inputs) ns xs) (rounds ns) 0 st (laidOut q st) w (stood f)
 
+    -- ---- driven cycles
+
+    module _ (draws : Bool) (seed : ℕ) where
+      settle-of : settledAt q draws seed st ≡ settled s draws seed st
+      unfolding settledAt settled judged
+      settle-of = rw (e, same) (by (stateFits m st) refl)
+        where
+          by : (t : Bool) → stateFits m st ≡ t
+              → pick t (arrived stateAt (driven 0 (toRest (onPlan q) draws (going 0 false seed (laidOut q st))))) (told 0 31 false seed st)
+              ≡ pick t (arrived (λ x. x) (driven 0 (toRest (onSheet s m) draws (going 0 false seed st)))) (told 0 31 false seed st)
+          by false f = refl
+          by true f = arrived-like (ends 0 (toRest-like s k inputs-fit e draws (like 0 false seed (stood f))))
+
+      module _ (ns : List ℕ) (xs : List Bool) (w : List ℕ) where
+        drive-of : driveAt q draws seed st ns xs w ≡ driveCycles s draws seed st ns xs w
+        unfolding driveAt driveCycles judged
+        drive-of = rw (e, same) (by (hasRoom (rounds ns) w) (stateFits m st) refl (wholeRows ns xs))
+          where
+            by : (r t : Bool) → stateFits m st ≡ t → (u : Bool)
+                → pick r
+                (pick t
+                (pick u
+                (arrived stateAt (drives (onPlan q) draws (rowInputs (q .inputs) ns xs) (rounds ns) 0 (going 0 true seed (laidOut q st))))
+                (told 0 25 false seed st))
+                (told 0 31 false seed st))
+                (told 0 23 false seed st)
+                ≡ pick r
+                (pick t
+                (pick u
+                (arrived (λ x. x) (drives (onSheet s m) draws (rowInputs (m .scope .inputs) ns xs) (rounds ns) 0 (going 0 true seed st)))
+                (told 0 25 false seed st))
+                (told 0 31 false seed st))
+                (told 0 23 false seed st)
+            by false t f u = refl
+            by true false f u = refl
+            by true true f false = refl
+            by true true f true =
+                ap
+                (λ (n : ℕ).
+                arrived stateAt (drives (onPlan q) draws (rowInputs n ns xs) (rounds ns) 0 (going 0 true seed (laidOut q st))))
+                (k .inputs)
+                ∙ arrived-like
+                (drives-like s k inputs-fit e draws (rowInputs (m .scope .inputs) ns xs) (rounds ns) 0 (like 0 true seed (stood f)))
+
+        driven-of : drivenAt q draws seed st ns xs w ≡ drivenCycles s draws seed st ns xs w
+        unfolding drivenAt drivenCycles judged
+        driven-of = rw (e, same) (by (hasRoom (rounds ns) w) (stateFits m st) refl (wholeRows ns xs))
+          where
+            by : (r t : Bool) → stateFits m st ≡ t → (u : Bool)
+                → pick r
+                (pick t
+                (pick u (rows (onPlan q) draws (rowInputs (q .inputs) ns xs) (rounds ns) 0 (going 0 true seed (laidOut q st)) w) w)
+                w)
+                w
+                ≡ pick r
+                (pick t
+                (pick u (rows (onSheet s m) draws (rowInputs (m .scope .inputs) ns xs) (rounds ns) 0 (going 0 true seed st) w) w)
+                w)
+                w
+            by false t f u = refl
+            by true false f u = refl
+            by true true f false = refl
+            by true true f true =
+                ap (λ (n : ℕ). rows (onPlan q) draws (rowInputs n ns xs) (rounds ns) 0 (going 0 true seed (laidOut q st)) w) (k .inputs)
+                ∙ rows-like s k inputs-fit e draws (rowInputs (m .scope .inputs) ns xs) (rounds ns) 0 (like 0 true seed (stood f)) w
+
 pub on-the-sheet : OnTheSheet
 unfolding OnTheSheet
 on-the-sheet s ws m e l st h b =
@@ -94,4 +164,7 @@ on-the-sheet s ws m e l st h b =
       cycles = cycles-of s k (plan-inputs-fit (sound s e) y) e st (plan-fits (sound s e) y st) h b;
       trace = trace-of s k (plan-inputs-fit (sound s e) y) e st (plan-fits (sound s e) y st) h b;
       traced = traced-of s k (plan-inputs-fit (sound s e) y) e st (plan-fits (sound s e) y st) h b;
+      settle = settle-of s k (plan-inputs-fit (sound s e) y) e st (plan-fits (sound s e) y st) h b;
+      drive = drive-of s k (plan-inputs-fit (sound s e) y) e st (plan-fits (sound s e) y st) h b;
+      driven = driven-of s k (plan-inputs-fit (sound s e) y) e st (plan-fits (sound s e) y st) h b;
     }

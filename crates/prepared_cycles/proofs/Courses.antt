@@ -101,7 +101,7 @@ module _ (s : List ℕ) {m : Module Expr} {q : Plan} (w : PlanOf m q) (inputs-fi
             fits-wider (widthOf m n) 32 (inputOf a n) (w .sound .widths-most n (omega (arith, w .sound .variables)))
             (fits-inputs m a (accepted-instant m st a x .0) n h)
 
-        fed-shaped : Shaped (fed st a)
+        pub fed-shaped : Shaped (fed st a)
         fed-shaped = shaped-feed m (inputOf a) (timed st) (shaped-timed st (z .shaped))
 
         pub fed-fits : Fits m (fed st a)
@@ -115,7 +115,7 @@ module _ (s : List ℕ) {m : Module Expr} {q : Plan} (w : PlanOf m q) (inputs-fi
         room : Room (4294967295 - o .count) (fed st a)
         room = omega (arith, count-feed m st (inputOf a), z .count, z .most)
 
-        fed-shows : Shows m (fed st a) (feed q (inputOf a) (o .left))
+        pub fed-shows : Shows m (fed st a) (feed q (inputOf a) (o .left))
         fed-shows =
             feed-timed-shows w st kept (4294967295 - o .count) room-before (o .left) (z .shows) (inputOf a) small
 

@@ -1,7 +1,7 @@
 -- Laws of rows: a row as a loop fills it, and the place of an instant's row among those that are lent. Assumes nothing.
 use mathlib.Core.Path.{_≡_, refl, sym, ap, _∙_}
-use mathlib.Core.Bool.{Bool, true}
-use mathlib.Core.List.{List, [], _∷_}
+use mathlib.Core.Bool.{Bool, true, false}
+use mathlib.Core.List.{List, [], _∷_, _++_}
 use Prim.Native.Nat.{ℕ, _+_, _*_, _/_, _%_, _≤_, _<_}
 use native.Mathlib.Numerals.{add-one}
 use native.Mathlib.Omega.{arith}
@@ -10,9 +10,14 @@ use lib.ListN.{length, getD, set}
 use lib.Seq.{sets}
 use borrow.Author.Tests.{eqb-true}
 use Rattle.state.specs.Saved.{listOf}
-use Rattle.state.proofs.Rows.{and-both, sets-append, length-listOf, listOf-whole}
+use Rattle.state.specs.declared.State.{State}
+use Rattle.state.proofs.Rows.{and-both, sets-append, length-listOf, getD-listOf, listOf-is, listOf-whole}
 use Rattle.events.specs.Rows.{wholeRows}
+use Rattle.plan_engine.specs.Live.{Live}
+use Rattle.plan_state.specs.Planes.{marked, numberIn, unknownIn}
+use Rattle.plan_state.specs.Packing.{packed}
 use Rattle.prepared_cycles.specs.Cycles.{rowFrom}
+use Rattle.prepared_cycles.specs.Traces.{placesIn, rowOf, written, wordIn, wordsIn, rowIn}
 
 -- A whole row, with another item in the place of its first.
 pub row-list : {A : Type 0} (xs : List A) (other first : A) (r : ℕ)
@@ -40,3 +45,29 @@ pub listOf-on : {A : Type 0} (f : ℕ → A) (l : List A) (at k : ℕ)
     → set (sets l at (listOf k f)) (at + k) (f k) ≡ sets l at (listOf (k + 1) f)
 unfolding listOf
 listOf-on f l at k = sym (rw add-one (sets-append l at (listOf k f) (f k ∷ []) ∙ rw (length-listOf f k) refl))
+
+-- The row of a state that is packed, as it lies in cells and places.
+pub row-packed : (l : Live) (time count : ℕ) → rowOf (packed l time count) ≡ rowIn (l .cells) (l .places)
+unfolding rowOf packed
+row-packed l time count =
+    ap (λ (ws : List ℕ). ws ++ placesIn (l .places))
+    (listOf-is _ (wordsIn (l .cells)) 0 80 (length-listOf (λ v. wordIn (getD (l .cells) v 0)) 80)
+    (λ k h.
+    (λ i. marked (getD-listOf (λ v. numberIn (getD (l .cells) v 0)) 80 k 0 h i)
+    (getD-listOf (λ v. unknownIn (getD (l .cells) v 0)) 80 k false h i))
+    ∙ sym (getD-listOf (λ v. wordIn (getD (l .cells) v 0)) 80 k 0 h)))
+
+-- It is written in two parts.
+pub row-parts : (p : ℕ) (w cs ps us vs : List ℕ) → us ≡ sets w (88 * p) (wordsIn cs) → vs ≡ sets us (88 * p + 80) (placesIn ps)
+    → vs ≡ sets w (88 * p) (rowIn cs ps)
+row-parts p w cs ps us vs e f =
+    f
+    ∙ ap (λ (xs : List ℕ). sets xs (88 * p + 80) (placesIn ps)) e
+    ∙ ap (λ (n : ℕ). sets (sets w (88 * p) (wordsIn cs)) (88 * p + n) (placesIn ps))
+    (sym (length-listOf (λ v. wordIn (getD cs v 0)) 80))
+    ∙ sym (sets-append w (88 * p) (wordsIn cs) (placesIn ps))
+
+pub row-written : (p : ℕ) (w : List ℕ) (l : Live) (time count : ℕ) (us : List ℕ) → us ≡ sets w (88 * p) (rowIn (l .cells) (l .places))
+    → us ≡ written p (packed l time count) w
+unfolding written
+row-written p w l time count us e = e ∙ ap (sets w (88 * p)) (sym (row-packed l time count))

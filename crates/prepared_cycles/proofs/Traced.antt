@@ -1,51 +1,31 @@
 -- On a plan of a module, from a state that fits it, a trace leaves in what is lent what the single calls leave. Assumes nothing.
 use mathlib.Core.Path.{_≡_, refl, ap, _∙_}
 use mathlib.Core.List.{List}
-use Prim.Native.Nat.{ℕ, zero, suc, _+_, _*_}
+use Prim.Native.Nat.{ℕ, zero, suc, _+_}
 use native.Mathlib.Decide.{ℕ-discrete}
-use lib.ListN.{getD}
-use lib.Seq.{sets}
 use borrow.Author.Tests.{ne-eqb}
 use Rattle.sheet.specs.Reading.{ok}
 use Rattle.sheet.specs.Expression.{Expr}
 use Rattle.sheet.specs.Module.{Module, read}
 use Rattle.state.specs.declared.State.{State}
-use Rattle.state.proofs.Rows.{listOf-is}
 use Rattle.events.specs.declared.Inputs.{Inputs}
 use Rattle.events.specs.Verdict.{numberOfVerdict}
 use Rattle.events.specs.Calls.{inputsFit, instantRefusal}
 use Rattle.events.proofs.Choices.{instantIn-accepted, instantIn-refused}
 use Rattle.plan.specs.Plan.{Plan}
-use Rattle.plan_state.proofs.Planes.{planes-numbers, planes-flags}
 use Rattle.plan_fitting.specs.Fitting.{planInputsFit}
 use Rattle.plan_refinement.specs.Refinement.{PlanOf}
 use Rattle.prepared_cycles.specs.Phases.{Moment}
-use Rattle.prepared_cycles.specs.Traces.{Lent, lent, placesIn, written, traceFrom, writtenAt, traceFromAt}
-use Rattle.prepared_cycles.proofs.Courses.{Stood, after, instant-fits, plain-fits, fed, rested, fed-fits, after-stood}
+use Rattle.prepared_cycles.specs.Traces.{written, traceFrom, traceFromAt}
+use Rattle.prepared_cycles.proofs.Courses.{Stood, packed-stood, after, instant-fits, plain-fits, fed, rested, fed-fits, after-stood}
 use Rattle.prepared_cycles.proofs.Courses.{phase-accepted, phase-refused}
-
--- ---- a row
-
-module _ {m : Module Expr} {st : State} {o : Moment} (z : Stood m st o) where
-  places-stood : placesIn (o .left .places) ≡ st .places
-  places-stood =
-      ap placesIn (z .shows .scene .places)
-      ∙ listOf-is (λ i. getD (st .places) i 0) (st .places) 0 8 (z .shaped .places) (λ k h. refl)
-
-  pub written-stood : (p : ℕ) (w : Lent) → writtenAt p (o .left .cells) (o .left .places) w ≡ written p st w
-  unfolding writtenAt written
-  written-stood p w =
-      λ i.
-      lent (sets (w .numbers) (80 * p) (planes-numbers (z .shows .scene .planes) i))
-      (sets (w .flags) (80 * p) (planes-flags (z .shows .scene .planes) i))
-      (sets (w .places) (8 * p) (places-stood i))
 
 -- ---- instants
 
 module _ (s : List ℕ) {m : Module Expr} {q : Plan} (k : PlanOf m q) (inputs-fit : (a : Inputs) → planInputsFit q a ≡ inputsFit m a)
     (e : read s ≡ ok m) (inputs : ℕ → Inputs)
   where
-    abbrev Same : ℕ → ℕ → State → Moment → Lent → Type 0
+    abbrev Same : ℕ → ℕ → State → Moment → List ℕ → Type 0
     Same n p st o w = traceFromAt q inputs n p o w ≡ traceFrom s inputs n p st w
 
     abbrev state-after : State → ℕ → State
@@ -54,7 +34,7 @@ module _ (s : List ℕ) {m : Module Expr} {q : Plan} (k : PlanOf m q) (inputs-fi
     abbrev number-after : State → ℕ → ℕ
     number-after st p = numberOfVerdict (rested s k inputs-fit e st (inputs p) .verdict)
 
-    module _ (n p : ℕ) (st : State) (o : Moment) (z : Stood m st o) (w : Lent) where
+    module _ (n p : ℕ) (st : State) (o : Moment) (z : Stood m st o) (w : List ℕ) where
       abbrev a : Inputs
       a = inputs p
 
@@ -81,7 +61,7 @@ module _ (s : List ℕ) {m : Module Expr} {q : Plan} (k : PlanOf m q) (inputs-fi
               plain-fits s k inputs-fit e (fed s k inputs-fit e st a) (fed-fits s k inputs-fit e st o z a x) 65535,
               y,
             )
-            (ap (traceFromAt q inputs n (p + 1) (after q a o)) (written-stood (after-stood s k inputs-fit e st o z a x) p w) ∙ h)
+            (ap (traceFromAt q inputs n (p + 1) (after q a o)) (ap (λ (x : State). written p x w) (packed-stood (after-stood s k inputs-fit e st o z a x))) ∙ h)
 
         halted : (number-after st p ≡ 0 → ⊥) → Same (suc n) p st o w
         unfolding traceFromAt traceFrom
@@ -95,7 +75,7 @@ module _ (s : List ℕ) {m : Module Expr} {q : Plan} (k : PlanOf m q) (inputs-fi
             )
             refl
 
-    pub trace-stood : (n p : ℕ) (st : State) (o : Moment) (w : Lent) → Stood m st o → Same n p st o w
+    pub trace-stood : (n p : ℕ) (st : State) (o : Moment) (w : List ℕ) → Stood m st o → Same n p st o w
     unfolding traceFromAt traceFrom
     trace-stood zero p st o w z = refl
     trace-stood (suc n) p st o w z =

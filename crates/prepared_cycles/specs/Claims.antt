@@ -14,13 +14,20 @@ use Rattle.plan.specs.Plan.{Plan, planOf}
 use Rattle.prepared.specs.Prepared.{preparedPlan}
 use Rattle.prepared_cycles.specs.Cycles.{runCycles}
 use Rattle.prepared_cycles.specs.Phases.{cyclesAt}
-use Rattle.prepared_cycles.specs.Traces.{Lent, traceCycles, tracedCycles, traceAt, tracedAt}
+use Rattle.prepared_cycles.specs.Traces.{traceCycles, tracedCycles, traceAt, tracedAt}
+use Rattle.prepared_cycles.specs.Drives.{settled, driveCycles, drivenCycles, settledAt, driveAt, drivenAt}
 
 pub record Same (s : List ℕ) (q : Plan) (st : State) : Type 0 where
   pub cycles : (ns : List ℕ) (xs : List Bool) → cyclesAt q st ns xs ≡ runCycles s st ns xs
   -- What a trace answers, and what it leaves in what is lent.
-  pub trace : (ns : List ℕ) (xs : List Bool) (w : Lent) → traceAt q st ns xs w ≡ traceCycles s st ns xs w
-  pub traced : (ns : List ℕ) (xs : List Bool) (w : Lent) → tracedAt q st ns xs w ≡ tracedCycles s st ns xs w
+  pub trace : (ns : List ℕ) (xs : List Bool) (w : List ℕ) → traceAt q st ns xs w ≡ traceCycles s st ns xs w
+  pub traced : (ns : List ℕ) (xs : List Bool) (w : List ℕ) → tracedAt q st ns xs w ≡ tracedCycles s st ns xs w
+  -- A run to rest, plainly or by draws; what driven cycles answer, and what they leave in what is lent.
+  pub settle : (byDraws : Bool) (seed : ℕ) → settledAt q byDraws seed st ≡ settled s byDraws seed st
+  pub drive : (byDraws : Bool) (seed : ℕ) (ns : List ℕ) (xs : List Bool) (w : List ℕ)
+      → driveAt q byDraws seed st ns xs w ≡ driveCycles s byDraws seed st ns xs w
+  pub driven : (byDraws : Bool) (seed : ℕ) (ns : List ℕ) (xs : List Bool) (w : List ℕ)
+      → drivenAt q byDraws seed st ns xs w ≡ drivenCycles s byDraws seed st ns xs w
 
 -- Every state that code has is of such lengths and numbers.
 unfoldable pub OnTheSheet : Type 0

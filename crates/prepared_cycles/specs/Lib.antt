@@ -1,4 +1,5 @@
 pub mod Cycles
 pub mod Phases
 pub mod Traces
+pub mod Drives
 pub mod Claims

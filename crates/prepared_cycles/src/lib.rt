@@ -1,6 +1,7 @@
 // Many clock cycles in one call on a prepared plan. The state is laid out once, each instant and the plain run after it go on in the same
-// cells, and it is packed at the end; a trace writes what each of them leaves into lent arrays. Each function equals its definition in
+// cells, and it is packed at the end; a trace writes what each of them leaves into a lent array. Each function equals its definition in
 // specs/, for plans, states and rows of any contents.
+mod drives;
 mod phases;
 mod rows;
 mod traces;
@@ -11,12 +12,14 @@ use plan_changes::Marks;
 use state::State;
 ghost use mathlib.Core.Path.{_≡_};
 ghost use mathlib.Core.Bool.{true, false};
-ghost use Prim.Native.Nat.{_*_, _/_};
+ghost use Prim.Native.Nat.{_*_, _/_, _≤_};
 ghost use lib.ListN.{length};
 ghost use Rattle.plan.specs.Plan.{planOf};
 ghost use Rattle.prepared_cycles.specs.Cycles.{cycled, rowInputs};
 ghost use Rattle.prepared_cycles.specs.Phases.{momentOf, course, phasesAt, ended, laidOut, cyclesAt};
-ghost use Rattle.prepared_cycles.specs.Traces.{lent, hasRoom, rounds, traceFromAt, traceAt, tracedAt};
+ghost use Rattle.prepared_cycles.specs.Drives.{going, goingOf, driven, told, onPlan, drives, rows, arrived};
+ghost use Rattle.prepared_cycles.specs.Drives.{toRest, settledAt, driveAt, drivenAt};
+ghost use Rattle.prepared_cycles.specs.Traces.{stateAt, rounds, traceFromAt, traceAt, tracedAt};
 
 // What many cycles give: how many instants were accepted and run to rest or to 65,535 choices; where they were stopped earlier,
 // the number that stopped them and whether it was the run after an instant that did; the state reached.
@@ -39,6 +42,25 @@ pub struct Phased {
     pub number: u8,
     pub running: bool,
     pub standing: Standing,
+}
+
+// How it goes with cycles that are run to rest: the number that refused an instant, whether the run after it came to rest, the
+// generator's next seed, and what goes along with the cells.
+pub struct Went {
+    pub number: u8,
+    pub rested: bool,
+    pub seed: u64,
+    pub standing: Standing,
+}
+
+// What driven cycles give: how many instants were accepted and came to rest; whether all did, and where not, the number that refused one
+// (0 where it was run and did not come to rest); the generator's next seed, and the state reached.
+pub struct Driven {
+    pub phases: usize,
+    pub number: u8,
+    pub rested: bool,
+    pub seed: u64,
+    pub state: State,
 }
 
 // What a refused call gives.
@@ -131,12 +153,10 @@ fn trace_phases(
     st: State,
     value: &[u32],
     unknown: &[bool],
-    numbers: &mut [u32],
-    flags: &mut [bool],
-    places: &mut [u8],
+    out: &mut [u64],
 ) -> Cycled
     requires { ⌜ length (now unknown) ≡ length (now value) ⌝ }
-    requires { ⌜ hasRoom (rounds (now value)) (lent (now numbers) (now flags) (now places)) ≡ true ⌝ }
+    requires { ⌜ rounds (now value) ≤ length (now out) / 88 ⌝ }
     ensures { λ r. ⌜
         r ≡ ended
         (phasesAt (planOf (now (plan .entry)))
@@ -144,11 +164,10 @@ fn trace_phases(
         (rounds (now (value .entry))) 0 (laidOut (planOf (now (plan .entry))) st))
         ⌝ }
     ensures { λ _. ⌜
-        lent (now (numbers .exit)) (now (flags .exit)) (now (places .exit))
+        now (out .exit)
         ≡ traceFromAt (planOf (now (plan .entry)))
         (rowInputs (planOf (now (plan .entry)) .inputs) (now (value .entry)) (now (unknown .entry)))
-        (rounds (now (value .entry))) 0 (laidOut (planOf (now (plan .entry))) st)
-        (lent (now (numbers .entry)) (now (flags .entry)) (now (places .entry)))
+        (rounds (now (value .entry))) 0 (laidOut (planOf (now (plan .entry))) st) (now (out .entry))
         ⌝ }
 {
     let mut cells = [0u64; 4176];
@@ -169,36 +188,32 @@ fn trace_phases(
         if f.number != 0 {
             return ended(&cells, &pending, stood, standing, p, f.number, f.running);
         }
-        traces::put_row(&cells, &stood, numbers, flags, places, p);
+        traces::put_row(&cells, &stood, out, p);
         p += 1;
     }
     ended(&cells, &pending, stood, standing, p, 0, false)
 }
 
-// The cycles of `run_cycles`, and for each instant that is accepted and run a row of 80 numbers, 80 unknown flags and 8 places in the
-// arrays that are lent, two rows to a cycle; where the arrays are too short for all instants nothing is run. An instant whose run was
+// The cycles of `run_cycles`, and for each instant that is accepted and run a row of 88 words in the array that is lent, two rows to a
+// cycle: the 80 variables, then the 8 places. Where the array is too short for all instants nothing is run. An instant whose run was
 // spent has its row too; the next one is refused with 32.
 pub fn trace(
     plan: &PlanTable,
     st: State,
     value: &[u32],
     unknown: &[bool],
-    numbers: &mut [u32],
-    flags: &mut [bool],
-    places: &mut [u8],
+    out: &mut [u64],
 ) -> Cycled
     ensures { λ r. ⌜
-        r ≡ traceAt (planOf (now (plan .entry))) st (now (value .entry)) (now (unknown .entry))
-        (lent (now (numbers .entry)) (now (flags .entry)) (now (places .entry)))
+        r ≡ traceAt (planOf (now (plan .entry))) st (now (value .entry)) (now (unknown .entry)) (now (out .entry))
         ⌝ }
     ensures { λ _. ⌜
-        lent (now (numbers .exit)) (now (flags .exit)) (now (places .exit))
-        ≡ tracedAt (planOf (now (plan .entry))) st (now (value .entry)) (now (unknown .entry))
-        (lent (now (numbers .entry)) (now (flags .entry)) (now (places .entry)))
+        now (out .exit)
+        ≡ tracedAt (planOf (now (plan .entry))) st (now (value .entry)) (now (unknown .entry)) (now (out .entry))
         ⌝ }
 {
     let n = 2 * (value.len() / 16);
-    if !traces::room_for(n, numbers.len(), flags.len(), places.len()) {
+    if out.len() / 88 < n {
         return refused_with(23, st);
     }
     if !plan_fitting::state_fits(plan, st) {
@@ -207,5 +222,156 @@ pub fn trace(
     if !fitting::rows_whole(value, unknown) {
         return refused_with(25, st);
     }
-    trace_phases(plan, st, value, unknown, numbers, flags, places)
+    trace_phases(plan, st, value, unknown, out)
+}
+
+// ---- driven cycles
+
+// What a refused call gives.
+fn undriven(number: u8, seed: u64, state: State) -> Driven
+    ensures { λ r. ⌜ r ≡ told 0 number false seed state ⌝ }
+{
+    Driven {
+        phases: 0,
+        number,
+        rested: false,
+        seed,
+        state,
+    }
+}
+
+// Where driven cycles end: the state packed again.
+fn arrived(cells: &Cells, pending: &[u64; 32], places: [u8; 8], g: Went, phases: usize) -> Driven
+    ensures { λ r. ⌜ r ≡ arrived stateAt (driven phases (goingOf (now (cells .entry)) (now (pending .entry)) places g)) ⌝ }
+{
+    let standing = g.standing;
+    let marks = standing.marks;
+    let state = plan_state::pack(cells, pending, places, marks, standing.time, standing.count);
+    Driven {
+        phases,
+        number: g.number,
+        rested: g.rested,
+        seed: g.seed,
+        state,
+    }
+}
+
+// A state run to rest, from where it is.
+fn run_to_rest(plan: &PlanTable, st: State, drawn: bool, seed: u64) -> Driven
+    ensures { λ r. ⌜
+        r ≡ arrived stateAt
+        (driven 0 (toRest (onPlan (planOf (now (plan .entry)))) drawn (going 0 false seed (laidOut (planOf (now (plan .entry))) st))))
+        ⌝ }
+{
+    let mut cells = [0u64; 4176];
+    let marks = plan_state::unpack(plan, st, &mut cells);
+    let mut pending = plan_state::slots_of(&st.pending, &st.unsure);
+    let mut places = st.places;
+    let begun = Went {
+        number: 0,
+        rested: false,
+        seed,
+        standing: Standing {
+            marks,
+            time: st.time,
+            count: st.count,
+        },
+    };
+    let g = drives::to_rest(plan, &mut cells, &mut pending, &mut places, drawn, begun);
+    arrived(&cells, &pending, places, g, 0)
+}
+
+// A state run to rest: by the plain run of 65,535 choices, or by at most 4,000,000 choices drawn from a seed on.
+pub fn settle(plan: &PlanTable, st: State, drawn: bool, seed: u64) -> Driven
+    ensures { λ r. ⌜ r ≡ settledAt (planOf (now (plan .entry))) drawn seed st ⌝ }
+{
+    if !plan_fitting::state_fits(plan, st) {
+        return undriven(31, seed, st);
+    }
+    run_to_rest(plan, st, drawn, seed)
+}
+
+// Two instants to each row, each run to rest, up to the first that isn't; their rows are written.
+fn drive_phases(
+    plan: &PlanTable,
+    st: State,
+    drawn: bool,
+    seed: u64,
+    value: &[u32],
+    unknown: &[bool],
+    out: &mut [u64],
+) -> Driven
+    requires { ⌜ length (now unknown) ≡ length (now value) ⌝ }
+    requires { ⌜ rounds (now value) ≤ length (now out) / 88 ⌝ }
+    ensures { λ r. ⌜
+        r ≡ arrived stateAt
+        (drives (onPlan (planOf (now (plan .entry)))) drawn
+        (rowInputs (planOf (now (plan .entry)) .inputs) (now (value .entry)) (now (unknown .entry)))
+        (rounds (now (value .entry))) 0 (going 0 true seed (laidOut (planOf (now (plan .entry))) st)))
+        ⌝ }
+    ensures { λ _. ⌜
+        now (out .exit)
+        ≡ rows (onPlan (planOf (now (plan .entry)))) drawn
+        (rowInputs (planOf (now (plan .entry)) .inputs) (now (value .entry)) (now (unknown .entry)))
+        (rounds (now (value .entry))) 0 (going 0 true seed (laidOut (planOf (now (plan .entry))) st)) (now (out .entry))
+        ⌝ }
+{
+    let mut cells = [0u64; 4176];
+    let marks = plan_state::unpack(plan, st, &mut cells);
+    let mut pending = plan_state::slots_of(&st.pending, &st.unsure);
+    let mut stood = st.places;
+    let mut went = Went {
+        number: 0,
+        rested: true,
+        seed,
+        standing: Standing {
+            marks,
+            time: st.time,
+            count: st.count,
+        },
+    };
+    let n = 2 * (value.len() / 16);
+    let mut p: usize = 0;
+    while p < n {
+        let a = rows::inputs_at(plan, value, unknown, p);
+        went = drives::drive(plan, &mut cells, &mut pending, &mut stood, drawn, went, a);
+        if !went.rested {
+            return arrived(&cells, &pending, stood, went, p);
+        }
+        traces::put_row(&cells, &stood, out, p);
+        p += 1;
+    }
+    arrived(&cells, &pending, stood, went, p)
+}
+
+// Rows of 16 inputs, for each an instant with the clock low and one with the clock high, each run to rest as by `settle`; the row of each
+// that came to rest is written, as `trace` writes it. Where the array is too short for all instants nothing is run.
+pub fn drive(
+    plan: &PlanTable,
+    st: State,
+    drawn: bool,
+    seed: u64,
+    value: &[u32],
+    unknown: &[bool],
+    out: &mut [u64],
+) -> Driven
+    ensures { λ r. ⌜
+        r ≡ driveAt (planOf (now (plan .entry))) drawn seed st (now (value .entry)) (now (unknown .entry)) (now (out .entry))
+        ⌝ }
+    ensures { λ _. ⌜
+        now (out .exit)
+        ≡ drivenAt (planOf (now (plan .entry))) drawn seed st (now (value .entry)) (now (unknown .entry)) (now (out .entry))
+        ⌝ }
+{
+    let n = 2 * (value.len() / 16);
+    if out.len() / 88 < n {
+        return undriven(23, seed, st);
+    }
+    if !plan_fitting::state_fits(plan, st) {
+        return undriven(31, seed, st);
+    }
+    if !fitting::rows_whole(value, unknown) {
+        return undriven(25, seed, st);
+    }
+    drive_phases(plan, st, drawn, seed, value, unknown, out)
 }

@@ -14,7 +14,7 @@ ghost use Rattle.plan_engine.specs.Live.{live};
 ghost use Rattle.prepared_cycles.specs.Phases.{moment, momentOf, phase, refusalAt, phaseAt};
 
 // The number of an instant, 0 where it is accepted.
-fn refusal(plan: &PlanTable, marks: Marks, time: u32, a: Inputs) -> u8
+pub fn refusal(plan: &PlanTable, marks: Marks, time: u32, a: Inputs) -> u8
     ensures { λ r. ⌜
         ((cs ns ps : List ℕ) (count : ℕ) →
         r ≡ refusalAt (planOf (now (plan .entry))) a (moment (live cs ns ps marks) time count))

@@ -1,8 +1,6 @@
 // The event simulator (document 01, "The simulation cycle"): start, choose, run, run_plain, instant.
 // Each public call equals its definition in events' specs/Calls, for every sheet, state, choice, list and input.
 // A call reads the sheet, prepares its plan, and runs on that plan.
-pub mod planning;
-
 use events::Chosen;
 use events::Inputs;
 use events::Ran;

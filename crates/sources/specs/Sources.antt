@@ -21,10 +21,10 @@ nothing = words noOptions false false
 
 -- One word more, which asks nothing of `options`; one word more, by which the command is number 2, `check`.
 unfoldable pub counted : Options → Options
-counted o = options (more (o .words)) (o .command) (o .wants) (o .wrong) (o .seed) (o .at)
+counted o = options (more (o .words)) (o .command) (o .wants) (o .wrong) (o .fault) (o .seed) (o .at)
 
 unfoldable pub commanded : Options → Options
-commanded o = options (more (o .words)) 2 (o .wants) (o .wrong) (o .seed) (o .at)
+commanded o = options (more (o .words)) 2 (o .wants) (o .wrong) (o .fault) (o .seed) (o .at)
 
 -- Is it the word `sheet`, and in the command's place?
 unfoldable pub asks : Options → List ℕ → Bool
@@ -51,3 +51,21 @@ isText verilog path =
     pick verilog true
     (pick (ltb (length path) 2) false
     (pick (eqb (getD path (length path - 2) 0) 46) (eqb (getD path (length path - 1) 0) 118) false))
+
+-- ---- markSize: a byte order mark is the three bytes EFh BBh BFh in front of a file
+
+unfoldable pub markSize : List ℕ → ℕ
+markSize bytes =
+    pick (ltb (length bytes) 3) 0
+    (getD bytes 0 0 is 239 then (getD bytes 1 0 is 187 then (getD bytes 2 0 is 191 then 3 else 0) else 0) else 0)
+
+-- ---- startsText: does a file start as Verilog text does: with the `m` of `module`, a comment's `/`, a directive's "`" or an attribute's
+-- `(`? A sheet starts with a number up to 16, its hexadecimal text with a digit, a blank, a line end or `#`.
+
+unfoldable pub startsText : List ℕ → Bool
+startsText bytes =
+    length bytes is 0 then false else
+    getD bytes 0 0 is 109 then true else
+    getD bytes 0 0 is 47 then true else
+    getD bytes 0 0 is 96 then true else
+    eqb (getD bytes 0 0) 40

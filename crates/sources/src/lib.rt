@@ -7,7 +7,7 @@ ghost use Prim.Native.Nat.{_<_};
 ghost use lib.ListN.{length};
 ghost use Rattle.writing.specs.Buffer.{filled, puts};
 ghost use Rattle.naming.specs.Naming.{sameText};
-ghost use Rattle.sources.specs.Sources.{counted, commanded, nothing, asks, withOptions, fresh, taken, isText};
+ghost use Rattle.sources.specs.Sources.{counted, commanded, nothing, asks, withOptions, fresh, taken, isText, markSize, startsText};
 ghost use Rattle.sources.specs.Contents.{namedOne, namedFrom, digitOf, behind, pairOf, hexFrom};
 
 // What the words so far have asked for: what `options` takes, whether `--verilog` is among them, and whether the command is `sheet`.
@@ -39,6 +39,7 @@ fn counted(o: Options) -> Options
         command: o.command,
         wants: o.wants,
         wrong: o.wrong,
+        fault: o.fault,
         seed: o.seed,
         at,
     }
@@ -54,6 +55,7 @@ fn commanded(o: Options) -> Options
         command: 2,
         wants: o.wants,
         wrong: o.wrong,
+        fault: o.fault,
         seed: o.seed,
         at,
     }
@@ -132,6 +134,45 @@ pub fn is_text(verilog: bool, path: &[u8]) -> bool
         return false;
     }
     path[n - 1] == b'v'
+}
+
+// How many bytes a byte order mark takes in front of a file.
+pub fn mark_size(bytes: &[u8]) -> usize
+    ensures { λ r. ⌜ r ≡ markSize (now (bytes .entry)) ⌝ }
+{
+    if bytes.len() < 3 {
+        return 0;
+    }
+    if bytes[0] != 239 {
+        return 0;
+    }
+    if bytes[1] != 187 {
+        return 0;
+    }
+    if bytes[2] != 191 {
+        return 0;
+    }
+    3
+}
+
+// Does a file start as Verilog text does, and as no sheet can?
+pub fn starts_text(bytes: &[u8]) -> bool
+    ensures { λ r. ⌜ r ≡ startsText (now (bytes .entry)) ⌝ }
+{
+    if bytes.len() == 0 {
+        return false;
+    }
+    let b = bytes[0];
+    if b == b'm' {
+        return true;
+    }
+    if b == b'/' {
+        return true;
+    }
+    if b == b'`' {
+        return true;
+    }
+    b == b'('
 }
 
 // ---- names

@@ -17,12 +17,12 @@ use Rattle.values.specs.Values.{fits}
 use Rattle.values.specs.Planes.{valueAt}
 use Rattle.values.proofs.Values.{fits-known, fits-unknown}
 use Rattle.values.proofs.Planes.{valueAt-unknown, valueAt-known, valueAt-set-other}
-use Rattle.stimulus.specs.declared.Class.the-variants.{Separator}
+use Rattle.stimulus.specs.declared.Class.the-variants.{Blank}
 use Rattle.stimulus.specs.declared.Number.{Number}
 use Rattle.stimulus.specs.declared.Line.{Line}
 use Rattle.stimulus.specs.Words.{runEnd, ended}
 use Rattle.stimulus.specs.Numbers.{isX, isHex}
-use Rattle.stimulus.specs.Lines.{fitted, entryOf, taken, slots, valuesFrom, valuesOf, firstPlace, lineOf}
+use Rattle.stimulus.specs.Lines.{fitted, entryOf, cellAt, taken, slots, valuesFrom, valuesOf, firstPlace, lineOf}
 use Rattle.stimulus.proofs.Lines.{slots-few}
 
 -- ---- a word
@@ -53,15 +53,16 @@ entry-fits w word z u = by (isX word) (isHex word) refl refl z u
     by false true p q z u = rw (p, q) (fitted-fits w _ (rw (p, q) at z))
     by false false p q z u = rw (p, q) (fitted-fits w _ (rw (p, q) at z))
 
-module _ (line : List ℕ) (at w : ℕ) where
-  taken-fits : taken line at w .error ≡ 0 → taken line at w .unknown ≡ false → fits w (Known (taken line at w .number)) ≡ true
+module _ (line : List ℕ) (p w : ℕ) where
+  taken-fits : taken line p w .error ≡ 0 → taken line p w .unknown ≡ false → fits w (Known (taken line p w .number)) ≡ true
   unfolding taken
-  taken-fits z u = by (ended line (runEnd Separator line at)) refl z u
+  taken-fits z u = by (ended line p) (eqb (getD line p 0) 44) refl refl z u
     where
-      by : (t : Bool) → ended line (runEnd Separator line at) ≡ t → taken line at w .error ≡ 0 → taken line at w .unknown ≡ false →
-          fits w (Known (taken line at w .number)) ≡ true
-      by true p z u = let g = rw p at z in absurd (omega arith)
-      by false p z u = rw p (entry-fits w _ (rw p at z) (rw p at u))
+      by : (s t : Bool) → ended line p ≡ s → eqb (getD line p 0) 44 ≡ t → taken line p w .error ≡ 0 → taken line p w .unknown ≡ false →
+          fits w (Known (taken line p w .number)) ≡ true
+      by true t d e z u = let g = rw d at z in absurd (omega arith)
+      by false true d e z u = let g = rw (d, e) at z in absurd (omega arith)
+      by false false d e z u = rw (d, e) (entry-fits w _ (rw (d, e) at z) (rw (d, e) at u))
 
 -- ---- a slot
 
@@ -101,29 +102,29 @@ module _ (line widths : List ℕ) where
   unfolding valuesFrom
   values-filled zero k at ns xs a b l h z = rw (add-zero k) (h, refl)
   values-filled (suc n) k at ns xs a b l h z =
-      by (eqb (taken line at (getD widths k 0) .error) 0) refl z
-      (values-filled n (k + 1) (taken line at (getD widths k 0) .to) (set ns k (taken line at (getD widths k 0) .number))
-      (set xs k (taken line at (getD widths k 0) .unknown)) (length-set ns k _ ∙ a) (length-set xs k _ ∙ b) (omega arith))
+      by (eqb (taken line (cellAt line k at) (getD widths k 0) .error) 0) refl z
+      (values-filled n (k + 1) (taken line (cellAt line k at) (getD widths k 0) .to) (set ns k (taken line (cellAt line k at) (getD widths k 0) .number))
+      (set xs k (taken line (cellAt line k at) (getD widths k 0) .unknown)) (length-set ns k _ ∙ a) (length-set xs k _ ∙ b) (omega arith))
     where
       by :
-          (t : Bool) → eqb (taken line at (getD widths k 0) .error) 0 ≡ t → valuesFrom line widths (suc n) k at ns xs .error ≡ 0 →
-          (Fit (set ns k (taken line at (getD widths k 0) .number)) (set xs k (taken line at (getD widths k 0) .unknown)) (k + 1) →
-          valuesFrom line widths n (k + 1) (taken line at (getD widths k 0) .to) (set ns k (taken line at (getD widths k 0) .number))
-          (set xs k (taken line at (getD widths k 0) .unknown)) .error
+          (t : Bool) → eqb (taken line (cellAt line k at) (getD widths k 0) .error) 0 ≡ t → valuesFrom line widths (suc n) k at ns xs .error ≡ 0 →
+          (Fit (set ns k (taken line (cellAt line k at) (getD widths k 0) .number)) (set xs k (taken line (cellAt line k at) (getD widths k 0) .unknown)) (k + 1) →
+          valuesFrom line widths n (k + 1) (taken line (cellAt line k at) (getD widths k 0) .to) (set ns k (taken line (cellAt line k at) (getD widths k 0) .number))
+          (set xs k (taken line (cellAt line k at) (getD widths k 0) .unknown)) .error
           ≡ 0 →
           Filled (k + 1 + n)
-          (valuesFrom line widths n (k + 1) (taken line at (getD widths k 0) .to) (set ns k (taken line at (getD widths k 0) .number))
-          (set xs k (taken line at (getD widths k 0) .unknown)))) →
+          (valuesFrom line widths n (k + 1) (taken line (cellAt line k at) (getD widths k 0) .to) (set ns k (taken line (cellAt line k at) (getD widths k 0) .number))
+          (set xs k (taken line (cellAt line k at) (getD widths k 0) .unknown)))) →
           Filled (k + suc n) (valuesFrom line widths (suc n) k at ns xs)
       by true p z r =
           let e : k + suc n ≡ k + 1 + n = omega arith in
-          let c = eqb-true (taken line at (getD widths k 0) .error) 0 p in
+          let c = eqb-true (taken line (cellAt line k at) (getD widths k 0) .error) 0 p in
           rw (p, e)
           (r
-          (fit-more ns xs k _ (taken line at (getD widths k 0) .unknown) a b (omega arith)
-          (λ u. taken-fits line at (getD widths k 0) c u) h)
+          (fit-more ns xs k _ (taken line (cellAt line k at) (getD widths k 0) .unknown) a b (omega arith)
+          (λ u. taken-fits line (cellAt line k at) (getD widths k 0) c u) h)
           (rw p at z))
-      by false p z r = absurd (eqb-false (taken line at (getD widths k 0) .error) 0 p (rw p at z))
+      by false p z r = absurd (eqb-false (taken line (cellAt line k at) (getD widths k 0) .error) 0 p (rw p at z))
 
   -- ---- THE LAW
 
@@ -134,9 +135,9 @@ module _ (line widths : List ℕ) where
 
   pub accepted : (inputs : ℕ) → 1 ≤ slots inputs → lineOf line widths inputs .error ≡ 0 → Filled (slots inputs) (lineOf line widths inputs)
   unfolding lineOf valuesOf
-  accepted inputs s z = by (ended line (runEnd Separator line 0)) refl z
+  accepted inputs s z = by (ended line (runEnd Blank line 0)) refl z
     where
-      by : (t : Bool) → ended line (runEnd Separator line 0) ≡ t → lineOf line widths inputs .error ≡ 0 →
+      by : (t : Bool) → ended line (runEnd Blank line 0) ≡ t → lineOf line widths inputs .error ≡ 0 →
           Filled (slots inputs) (lineOf line widths inputs)
       by true p z = let g = rw p at z in absurd (omega arith)
       by false p z =
@@ -144,5 +145,5 @@ module _ (line widths : List ℕ) where
           let e : 1 + (slots inputs - 1) ≡ slots inputs = omega arith in
           rw p
           (rw e at
-          (values-filled (slots inputs - 1) 1 (firstPlace line inputs (runEnd Separator line 0)) (replicate 16 0) (replicate 16 false) refl refl
+          (values-filled (slots inputs - 1) 1 (firstPlace line inputs (runEnd Blank line 0)) (replicate 16 0) (replicate 16 false) refl refl
           (omega arith) none-fit (rw p at z)))

@@ -4,18 +4,18 @@ use mathlib.Core.Bool.{Bool, true, false, _&&_}
 use mathlib.Core.List.{List}
 use Prim.Native.Nat.{ℕ, suc, _+_, _-_, _<_, _≤_}
 use native.Mathlib.Omega.{arith}
-use borrow.Author.Tests.{ltb-true, lt-ltb, le-ltb, eq-eqb, ne-eqb}
+use borrow.Author.Tests.{ltb-true, ltb-false, lt-ltb, le-ltb, eq-eqb, ne-eqb, eqb-true}
 use lib.Dec.{ltb, eqb}
-use lib.ListN.{length, getD, set, drop, replicate}
+use lib.ListN.{length, getD, set, drop, replicate, List·getD-eq-default}
 use Rattle.values.specs.declared.Value.the-variants.{Known}
 use Rattle.values.specs.Values.{pick, fits}
-use Rattle.stimulus.specs.declared.Class.the-variants.{Separator, Word}
+use Rattle.stimulus.specs.declared.Class.the-variants.{Blank, Word}
 use Rattle.stimulus.specs.declared.Number.{Number}
 use Rattle.stimulus.specs.declared.Entry.{Entry}
 use Rattle.stimulus.specs.declared.Taken.{Taken}
 use Rattle.stimulus.specs.Words.{runEnd, ended}
 use Rattle.stimulus.specs.Numbers.{numberOf, isX, isHex}
-use Rattle.stimulus.specs.Lines.{entry, fitted, entryOf, took, wordAt, taken, slots, surplus, lineWith, valuesFrom, valuesOf, firstPlace, lineOf}
+use Rattle.stimulus.specs.Lines.{entry, fitted, entryOf, took, wordAt, cellAt, taken, slots, surplus, lineWith, valuesFrom, valuesOf, firstPlace, lineOf}
 use Rattle.stimulus.proofs.Runs.{run-inside}
 
 -- ---- slots
@@ -61,31 +61,72 @@ module _ (w : ℕ) (word : List ℕ) where
   unfolding entryOf
   entry-decimal e f = rw (e, f)
 
+-- ---- cellAt
+
+-- A byte that is not 0 stands in the list.
+inside : (l : List ℕ) (p : ℕ) → getD l p 0 ≡ 44 → p < length l
+inside l p e = by (ltb p (length l)) refl
+  where
+    by : (t : Bool) → ltb p (length l) ≡ t → p < length l
+    by true q = ltb-true p (length l) q
+    by false q = let z = List·getD-eq-default l 0 (ltb-false p (length l) q) in absurd (omega arith)
+
+module _ (line : List ℕ) (k at p : ℕ) (r : p ≡ runEnd Blank line at) where
+  pub cell-first : k < 2 → p ≡ cellAt line k at
+  unfolding cellAt
+  cell-first h = rw (← r, lt-ltb k 2 h)
+
+  module _ (h : 2 ≤ k) where
+    pub cell-blank : (getD line p 0 ≡ 44 → ⊥) → p ≡ cellAt line k at
+    unfolding cellAt
+    cell-blank e = rw (← r, le-ltb k 2 h, ne-eqb (getD line p 0) 44 e)
+
+    pub cell-comma : getD line p 0 ≡ 44 → runEnd Blank line (p + 1) ≡ cellAt line k at
+    unfolding cellAt
+    cell-comma e = rw (← r, le-ltb k 2 h, eq-eqb (getD line p 0) 44 e)
+
+pub cell-inside : (line : List ℕ) (k at : ℕ) → at ≤ length line → cellAt line k at ≤ length line
+unfolding cellAt
+cell-inside line k at h = by (ltb k 2) (eqb (getD line (runEnd Blank line at) 0) 44) refl refl
+  where
+    by : (s t : Bool) → ltb k 2 ≡ s → eqb (getD line (runEnd Blank line at) 0) 44 ≡ t → cellAt line k at ≤ length line
+    by true t d e = rw d (run-inside Blank line at h)
+    by false false d e = rw (d, e) (run-inside Blank line at h)
+    by false true d e =
+        let i = inside line (runEnd Blank line at) (eqb-true _ _ e) in
+        rw (d, e) (run-inside Blank line (runEnd Blank line at + 1) (omega arith))
+
 -- ---- taken
 
-module _ (line : List ℕ) (at w p : ℕ) (r : p ≡ runEnd Separator line at) where
-  pub taken-none : ended line p ≡ true → took p p (entry 4 false 0) ≡ taken line at w
+module _ (line : List ℕ) (p w : ℕ) where
+  pub taken-none : ended line p ≡ true → took p p (entry 4 false 0) ≡ taken line p w
   unfolding taken
-  taken-none e = rw (← r, e)
+  taken-none e = rw e
 
-  pub taken-word :
-      (to : ℕ) (e : Entry) → ended line p ≡ false → to ≡ runEnd Word line p → e ≡ entryOf w (wordAt line p to) → took p to e ≡ taken line at w
-  unfolding taken
-  taken-word to e f g h = rw (← r, f, ← g, h)
+  module _ (e : ended line p ≡ false) where
+    pub taken-empty : getD line p 0 ≡ 44 → took p p (entry 6 false 0) ≡ taken line p w
+    unfolding taken
+    taken-empty f = rw (e, eq-eqb (getD line p 0) 44 f)
 
-pub taken-inside : (line : List ℕ) (at w : ℕ) → at ≤ length line → taken line at w .to ≤ length line
+    pub taken-word :
+        (to : ℕ) (x : Entry) → (getD line p 0 ≡ 44 → ⊥) → to ≡ runEnd Word line p → x ≡ entryOf w (wordAt line p to) → took p to x ≡ taken line p w
+    unfolding taken
+    taken-word to x f g h = rw (e, ne-eqb (getD line p 0) 44 f, ← g, h)
+
+pub taken-inside : (line : List ℕ) (p w : ℕ) → p ≤ length line → taken line p w .to ≤ length line
 unfolding taken
-taken-inside line at w h = by (ended line (runEnd Separator line at)) refl
+taken-inside line p w h = by (ended line p) (eqb (getD line p 0) 44) refl refl
   where
-    by : (t : Bool) → ended line (runEnd Separator line at) ≡ t → taken line at w .to ≤ length line
-    by true e = rw e (run-inside Separator line at h)
-    by false e = rw e (run-inside Word line (runEnd Separator line at) (run-inside Separator line at h))
+    by : (s t : Bool) → ended line p ≡ s → eqb (getD line p 0) 44 ≡ t → taken line p w .to ≤ length line
+    by true t d e = rw d h
+    by false true d e = rw (d, e) h
+    by false false d e = rw (d, e) (run-inside Word line p h)
 
 -- ---- valuesFrom
 
 module _ (line widths : List ℕ) (n k at : ℕ) (ns : List ℕ) (xs : List Bool) where
   -- One value more is taken, or one that cannot be.
-  module _ (t : Taken) (e : t ≡ taken line at (getD widths k 0)) (l : k < n) where
+  module _ (t : Taken) (e : t ≡ taken line (cellAt line k at) (getD widths k 0)) (l : k < n) where
     pub values-turn :
         (slot : ℕ) → slot ≡ k → t .error ≡ 0 →
         valuesFrom line widths (n - k) k at ns xs
@@ -100,14 +141,14 @@ module _ (line widths : List ℕ) (n k at : ℕ) (ns : List ℕ) (xs : List Bool
     values-stop z = let m : n - k ≡ suc (n - (k + 1)) = omega arith in rw (m, ← e, ne-eqb (t .error) 0 z)
 
   pub values-done :
-      (p x : ℕ) → p ≡ runEnd Separator line at → x ≡ surplus line p → n ≤ k →
+      (p x : ℕ) → p ≡ runEnd Blank line at → x ≡ surplus line p → n ≤ k →
       valuesFrom line widths (n - k) k at ns xs ≡ lineWith x (p + 1) k ns xs
   unfolding valuesFrom
   values-done p x r e l = let m : n - k ≡ 0 = omega arith in rw (m, ← r, e)
 
 -- ---- lineOf
 
-module _ (line widths : List ℕ) (inputs p : ℕ) (r : p ≡ runEnd Separator line 0) where
+module _ (line widths : List ℕ) (inputs p : ℕ) (r : p ≡ runEnd Blank line 0) where
   pub line-none :
       ended line p ≡ true → lineWith 1 (p + 1) 1 (replicate 16 0) (replicate 16 false) ≡ lineOf line widths inputs
   unfolding lineOf

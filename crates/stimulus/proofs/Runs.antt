@@ -12,7 +12,7 @@ use lib.ListN.{length, getD, drop, length-drop, drop-of-length-le}
 use lib.Seq.{drop-cons}
 use Rattle.hextext.specs.Characters.{isBlank}
 use Rattle.stimulus.specs.declared.Class.{Class}
-use Rattle.stimulus.specs.declared.Class.the-variants.{Blank, Separator, Word, Name}
+use Rattle.stimulus.specs.declared.Class.the-variants.{Blank, Word, Name}
 use Rattle.stimulus.specs.Words.{separates, isNamed, inClass, span, runEnd, ended}
 
 -- ---- inClass, by row
@@ -21,10 +21,6 @@ module _ (c : Class) (b : ℕ) where
   pub class-blank : c ≡ Blank → isBlank b ≡ inClass c b
   unfolding inClass
   class-blank e = rw e
-
-  pub class-separator : c ≡ Separator → separates b ≡ inClass c b
-  unfolding inClass
-  class-separator e = rw e
 
   pub class-comment : c ≡ Word → b ≡ 35 → false ≡ inClass c b
   unfolding inClass

@@ -7,7 +7,7 @@ use Rattle.values.specs.Values.{fits}
 use Rattle.hextext.specs.Characters.{digitOf, isBlank}
 use Rattle.stimulus.specs.Words.{separates, isNamed, inClass, span, runEnd, ended}
 use Rattle.stimulus.specs.Numbers.{grown, grownBy, numberOf, isLetterX, isX, isHex}
-use Rattle.stimulus.specs.Lines.{fitted, entryOf, taken, slots, surplus, lineWith, valuesFrom, valuesOf, firstPlace, lineOf}
+use Rattle.stimulus.specs.Lines.{fitted, entryOf, cellAt, taken, slots, surplus, lineWith, valuesFrom, valuesOf, firstPlace, lineOf}
 use Rattle.stimulus.specs.Names.{below, variableOf, nameLine, nameError, nameAfter, nameOf}
 
 -- ---- lines of inputs: the clock, and three inputs of 8, 8 and 4 bits
@@ -21,7 +21,7 @@ pub sample-line :
     ≡ lineWith 0 12 4
     (0 ∷ 12 ∷ 31 ∷ 0 ∷ 0 ∷ 0 ∷ 0 ∷ 0 ∷ 0 ∷ 0 ∷ 0 ∷ 0 ∷ 0 ∷ 0 ∷ 0 ∷ 0 ∷ [])
     (false ∷ false ∷ false ∷ true ∷ false ∷ false ∷ false ∷ false ∷ false ∷ false ∷ false ∷ false ∷ false ∷ false ∷ false ∷ false ∷ [])
-unfolding isX isHex isLetterX numberOf grownBy grown digitOf fitted entryOf fits taken runEnd span inClass separates isBlank ended slots surplus valuesFrom valuesOf firstPlace lineOf
+unfolding isX isHex isLetterX numberOf grownBy grown digitOf fitted entryOf fits cellAt taken runEnd span inClass separates isBlank ended slots surplus valuesFrom valuesOf firstPlace lineOf
 sample-line = refl
 
 -- `# c`: no cycle
@@ -30,7 +30,7 @@ pub sample-comment :
     ≡ lineWith 1 2 1
     (0 ∷ 0 ∷ 0 ∷ 0 ∷ 0 ∷ 0 ∷ 0 ∷ 0 ∷ 0 ∷ 0 ∷ 0 ∷ 0 ∷ 0 ∷ 0 ∷ 0 ∷ 0 ∷ [])
     (false ∷ false ∷ false ∷ false ∷ false ∷ false ∷ false ∷ false ∷ false ∷ false ∷ false ∷ false ∷ false ∷ false ∷ false ∷ false ∷ [])
-unfolding isX isHex isLetterX numberOf grownBy grown digitOf fitted entryOf fits taken runEnd span inClass separates isBlank ended slots surplus valuesFrom valuesOf firstPlace lineOf
+unfolding isX isHex isLetterX numberOf grownBy grown digitOf fitted entryOf fits cellAt taken runEnd span inClass separates isBlank ended slots surplus valuesFrom valuesOf firstPlace lineOf
 sample-comment = refl
 
 -- `1 0x 2`: the second is no number
@@ -39,7 +39,7 @@ pub sample-no-number :
     ≡ lineWith 2 3 2
     (0 ∷ 1 ∷ 0 ∷ 0 ∷ 0 ∷ 0 ∷ 0 ∷ 0 ∷ 0 ∷ 0 ∷ 0 ∷ 0 ∷ 0 ∷ 0 ∷ 0 ∷ 0 ∷ [])
     (false ∷ false ∷ false ∷ false ∷ false ∷ false ∷ false ∷ false ∷ false ∷ false ∷ false ∷ false ∷ false ∷ false ∷ false ∷ false ∷ [])
-unfolding isX isHex isLetterX numberOf grownBy grown digitOf fitted entryOf fits taken runEnd span inClass separates isBlank ended slots surplus valuesFrom valuesOf firstPlace lineOf
+unfolding isX isHex isLetterX numberOf grownBy grown digitOf fitted entryOf fits cellAt taken runEnd span inClass separates isBlank ended slots surplus valuesFrom valuesOf firstPlace lineOf
 sample-no-number = refl
 
 -- `1 2 16`: the third has 4 bits
@@ -48,7 +48,7 @@ pub sample-wide :
     ≡ lineWith 3 5 3
     (0 ∷ 1 ∷ 2 ∷ 0 ∷ 0 ∷ 0 ∷ 0 ∷ 0 ∷ 0 ∷ 0 ∷ 0 ∷ 0 ∷ 0 ∷ 0 ∷ 0 ∷ 0 ∷ [])
     (false ∷ false ∷ false ∷ false ∷ false ∷ false ∷ false ∷ false ∷ false ∷ false ∷ false ∷ false ∷ false ∷ false ∷ false ∷ false ∷ [])
-unfolding isX isHex isLetterX numberOf grownBy grown digitOf fitted entryOf fits taken runEnd span inClass separates isBlank ended slots surplus valuesFrom valuesOf firstPlace lineOf
+unfolding isX isHex isLetterX numberOf grownBy grown digitOf fitted entryOf fits cellAt taken runEnd span inClass separates isBlank ended slots surplus valuesFrom valuesOf firstPlace lineOf
 sample-wide = refl
 
 -- `1 2`
@@ -57,7 +57,7 @@ pub sample-few :
     ≡ lineWith 4 4 3
     (0 ∷ 1 ∷ 2 ∷ 0 ∷ 0 ∷ 0 ∷ 0 ∷ 0 ∷ 0 ∷ 0 ∷ 0 ∷ 0 ∷ 0 ∷ 0 ∷ 0 ∷ 0 ∷ [])
     (false ∷ false ∷ false ∷ false ∷ false ∷ false ∷ false ∷ false ∷ false ∷ false ∷ false ∷ false ∷ false ∷ false ∷ false ∷ false ∷ [])
-unfolding isX isHex isLetterX numberOf grownBy grown digitOf fitted entryOf fits taken runEnd span inClass separates isBlank ended slots surplus valuesFrom valuesOf firstPlace lineOf
+unfolding isX isHex isLetterX numberOf grownBy grown digitOf fitted entryOf fits cellAt taken runEnd span inClass separates isBlank ended slots surplus valuesFrom valuesOf firstPlace lineOf
 sample-few = refl
 
 -- `1 2 3 4`
@@ -66,8 +66,26 @@ pub sample-many :
     ≡ lineWith 5 7 4
     (0 ∷ 1 ∷ 2 ∷ 3 ∷ 0 ∷ 0 ∷ 0 ∷ 0 ∷ 0 ∷ 0 ∷ 0 ∷ 0 ∷ 0 ∷ 0 ∷ 0 ∷ 0 ∷ [])
     (false ∷ false ∷ false ∷ false ∷ false ∷ false ∷ false ∷ false ∷ false ∷ false ∷ false ∷ false ∷ false ∷ false ∷ false ∷ false ∷ [])
-unfolding isX isHex isLetterX numberOf grownBy grown digitOf fitted entryOf fits taken runEnd span inClass separates isBlank ended slots surplus valuesFrom valuesOf firstPlace lineOf
+unfolding isX isHex isLetterX numberOf grownBy grown digitOf fitted entryOf fits cellAt taken runEnd span inClass separates isBlank ended slots surplus valuesFrom valuesOf firstPlace lineOf
 sample-many = refl
+
+-- `1,,2`: an empty cell
+pub sample-empty :
+    lineOf (49 ∷ 44 ∷ 44 ∷ 50 ∷ []) widths 4
+    ≡ lineWith 6 3 2
+    (0 ∷ 1 ∷ 0 ∷ 0 ∷ 0 ∷ 0 ∷ 0 ∷ 0 ∷ 0 ∷ 0 ∷ 0 ∷ 0 ∷ 0 ∷ 0 ∷ 0 ∷ 0 ∷ [])
+    (false ∷ false ∷ false ∷ false ∷ false ∷ false ∷ false ∷ false ∷ false ∷ false ∷ false ∷ false ∷ false ∷ false ∷ false ∷ false ∷ [])
+unfolding isX isHex isLetterX numberOf grownBy grown digitOf fitted entryOf fits cellAt taken runEnd span inClass separates isBlank ended slots surplus valuesFrom valuesOf firstPlace lineOf
+sample-empty = refl
+
+-- `1, 2, 3,`: a comma where the line should end
+pub sample-comma :
+    lineOf (49 ∷ 44 ∷ 32 ∷ 50 ∷ 44 ∷ 32 ∷ 51 ∷ 44 ∷ []) widths 4
+    ≡ lineWith 5 8 4
+    (0 ∷ 1 ∷ 2 ∷ 3 ∷ 0 ∷ 0 ∷ 0 ∷ 0 ∷ 0 ∷ 0 ∷ 0 ∷ 0 ∷ 0 ∷ 0 ∷ 0 ∷ 0 ∷ [])
+    (false ∷ false ∷ false ∷ false ∷ false ∷ false ∷ false ∷ false ∷ false ∷ false ∷ false ∷ false ∷ false ∷ false ∷ false ∷ false ∷ [])
+unfolding isX isHex isLetterX numberOf grownBy grown digitOf fitted entryOf fits cellAt taken runEnd span inClass separates isBlank ended slots surplus valuesFrom valuesOf firstPlace lineOf
+sample-comma = refl
 
 -- `4294967296`: past 32 bits
 pub sample-long :
@@ -75,7 +93,7 @@ pub sample-long :
     ≡ lineWith 3 1 1
     (0 ∷ 0 ∷ 0 ∷ 0 ∷ 0 ∷ 0 ∷ 0 ∷ 0 ∷ 0 ∷ 0 ∷ 0 ∷ 0 ∷ 0 ∷ 0 ∷ 0 ∷ 0 ∷ [])
     (false ∷ false ∷ false ∷ false ∷ false ∷ false ∷ false ∷ false ∷ false ∷ false ∷ false ∷ false ∷ false ∷ false ∷ false ∷ false ∷ [])
-unfolding isX isHex isLetterX numberOf grownBy grown digitOf fitted entryOf fits taken runEnd span inClass separates isBlank ended slots surplus valuesFrom valuesOf firstPlace lineOf
+unfolding isX isHex isLetterX numberOf grownBy grown digitOf fitted entryOf fits cellAt taken runEnd span inClass separates isBlank ended slots surplus valuesFrom valuesOf firstPlace lineOf
 sample-long = refl
 
 -- `-`, where there is no input but the clock
@@ -84,7 +102,7 @@ pub sample-dash :
     ≡ lineWith 0 2 1
     (0 ∷ 0 ∷ 0 ∷ 0 ∷ 0 ∷ 0 ∷ 0 ∷ 0 ∷ 0 ∷ 0 ∷ 0 ∷ 0 ∷ 0 ∷ 0 ∷ 0 ∷ 0 ∷ [])
     (false ∷ false ∷ false ∷ false ∷ false ∷ false ∷ false ∷ false ∷ false ∷ false ∷ false ∷ false ∷ false ∷ false ∷ false ∷ false ∷ [])
-unfolding isX isHex isLetterX numberOf grownBy grown digitOf fitted entryOf fits taken runEnd span inClass separates isBlank ended slots surplus valuesFrom valuesOf firstPlace lineOf
+unfolding isX isHex isLetterX numberOf grownBy grown digitOf fitted entryOf fits cellAt taken runEnd span inClass separates isBlank ended slots surplus valuesFrom valuesOf firstPlace lineOf
 sample-dash = refl
 
 -- ---- lines of the names file: 3 inputs, 2 registers, 1 wire

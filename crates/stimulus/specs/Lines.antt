@@ -1,4 +1,5 @@
--- A line of inputs: the values of inputs 1 up in their order, separated by blanks and commas, with a comment behind them or none.
+-- A line of inputs: the values of inputs 1 up in their order, with blanks, or one comma and blanks, between two of them, and with a comment
+-- behind them or none.
 use mathlib.Core.Bool.{Bool, true, false, _&&_}
 use mathlib.Core.List.{List}
 use Prim.Native.Nat.{ℕ, zero, suc, _+_, _-_}
@@ -6,7 +7,7 @@ use lib.ListN.{getD, set, take, drop, replicate}
 use lib.Dec.{ltb, eqb}
 use Rattle.values.specs.declared.Value.the-variants.{Known}
 use Rattle.values.specs.Values.{pick, fits}
-use Rattle.stimulus.specs.declared.Class.the-variants.{Separator, Word}
+use Rattle.stimulus.specs.declared.Class.the-variants.{Blank, Word}
 use Rattle.stimulus.specs.declared.Number.{Number}
 use Rattle.stimulus.specs.declared.Entry.{Entry}
 use Rattle.stimulus.specs.declared.Taken.{Taken}
@@ -31,7 +32,14 @@ entryOf w word =
     (entry 0 true 0)
     (pick (isHex word) (fitted w (numberOf true (drop 2 word))) (fitted w (numberOf false (drop 0 word))))
 
--- ---- taken: the value at a place of the line, or behind the separators there. Error 4: there is none.
+-- ---- cellAt: where the value of input k stands, from the end of the one before: behind blanks, and from input 2 on behind a comma (44)
+
+unfoldable pub cellAt : List ℕ → ℕ → ℕ → ℕ
+cellAt line k at =
+    let p = runEnd Blank line at in
+    pick (ltb k 2) p (pick (eqb (getD line p 0) 44) (runEnd Blank line (p + 1)) p)
+
+-- ---- taken: the value at a place of the line. Error 4: there is none; 6: a comma stands there, so the cell is empty.
 
 abbrev pub took : ℕ → ℕ → Entry → Taken
 took p to e =
@@ -42,10 +50,11 @@ abbrev pub wordAt : List ℕ → ℕ → ℕ → List ℕ
 wordAt line p to = take (to - p) (drop p line)
 
 unfoldable pub taken : List ℕ → ℕ → ℕ → Taken
-taken line at w =
-    let p = runEnd Separator line at in
+taken line p w =
     let to = runEnd Word line p in
-    pick (ended line p) (took p p (entry 4 false 0)) (took p to (entryOf w (wordAt line p to)))
+    pick (ended line p) (took p p (entry 4 false 0))
+    (pick (eqb (getD line p 0) 44) (took p p (entry 6 false 0))
+    (took p to (entryOf w (wordAt line p to))))
 
 -- ---- valuesOf: as many values as there are inputs behind the clock, and nothing more (error 5)
 
@@ -65,9 +74,9 @@ module _ (line widths : List ℕ) where
   -- n values from input k on, from a place on, put in their slots.
   unfoldable pub valuesFrom : ℕ → ℕ → ℕ → List ℕ → List Bool → Line
   valuesFrom zero k at ns xs =
-      let p = runEnd Separator line at in lineWith (surplus line p) (p + 1) k ns xs
+      let p = runEnd Blank line at in lineWith (surplus line p) (p + 1) k ns xs
   valuesFrom (suc n) k at ns xs =
-      let t = taken line at (getD widths k 0) in
+      let t = taken line (cellAt line k at) (getD widths k 0) in
       pick (eqb (t .error) 0)
       (valuesFrom n (k + 1) (t .to) (set ns k (t .number)) (set xs k (t .unknown)))
       (lineWith (t .error) (t .column) k ns xs)
@@ -84,7 +93,7 @@ firstPlace line inputs p =
 
 unfoldable pub lineOf : List ℕ → List ℕ → ℕ → Line
 lineOf line widths inputs =
-    let p = runEnd Separator line 0 in
+    let p = runEnd Blank line 0 in
     pick (ended line p)
     (lineWith 1 (p + 1) 1 (replicate 16 0) (replicate 16 false))
     (valuesOf line widths inputs (firstPlace line inputs p))

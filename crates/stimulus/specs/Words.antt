@@ -7,9 +7,9 @@ use lib.Dec.{ltb, eqb}
 use Rattle.values.specs.Values.{pick, _is_then_else_}
 use Rattle.hextext.specs.Characters.{_below_then_else_, isBlank}
 use Rattle.stimulus.specs.declared.Class.{Class}
-use Rattle.stimulus.specs.declared.Class.the-variants.{Blank, Separator, Word, Name}
+use Rattle.stimulus.specs.declared.Class.the-variants.{Blank, Word, Name}
 
--- ---- inClass: blanks (space, tab, CR); blanks and commas (44); all others but `#` (35); letters, digits and `_`
+-- ---- inClass: blanks (space, tab, CR); all but blanks, commas (44) and `#` (35); letters, digits and `_`
 
 unfoldable pub separates : ℕ → Bool
 separates b = eqb b 44 || isBlank b
@@ -26,7 +26,6 @@ isNamed b =
 
 unfoldable pub inClass : Class → ℕ → Bool
 inClass Blank b = isBlank b
-inClass Separator b = separates b
 inClass Word b = pick (eqb b 35) false (not (separates b))
 inClass Name b = isNamed b
 

@@ -16,29 +16,32 @@ use words::byte_at;
 use words::place;
 use words::run_end;
 ghost use mathlib.Core.Path.{_≡_};
+ghost use mathlib.Core.Bool.{false};
 ghost use lib.ListN.{length};
-ghost use Prim.Native.Nat.{_≤_};
-ghost use Rattle.stimulus.specs.Lines.{fitted, entryOf, taken, slots, surplus, firstPlace, valuesOf, lineOf};
+ghost use Prim.Native.Nat.{_+_, _<_, _≤_};
+ghost use Rattle.stimulus.specs.Lines.{entry, took, fitted, entryOf, cellAt, taken, slots, surplus, firstPlace, valuesOf, lineOf};
 ghost use Rattle.stimulus.specs.Names.{nameOf};
 ghost use Rattle.stimulus.specs.Counting.{counted};
 
-// Kinds of characters: blanks; blanks and commas; what a word is made of, all others but `#`; letters, digits and `_`.
+// Kinds of characters: blanks; what a word is made of, all but blanks, commas and `#`; letters, digits and `_`.
 pub enum Class {
     Blank,
-    Separator,
     Word,
     Name,
 }
 
-// What waits of a file in a buffer: a line that ends at a place, nothing before more is read, or nothing at all.
+// What waits of a file in a buffer: a line that ends at a place, nothing before more is read, a line that is longer than the buffer, or
+// nothing at all.
 pub enum Waiting {
     Whole(usize),
     More,
+    Long,
     Nothing,
 }
 
 // What a line of inputs holds. error: 0 a value for each input, 1 no cycle (blank, or a comment), 2 a value that is no number,
-// 3 one too wide for its input, 4 too few values, 5 too many; column, from 1: of the value concerned, for 4 of the line's end.
+// 3 one too wide for its input, 4 too few values, 5 too many, 6 an empty cell; column, from 1: of the value concerned, for 4 of the
+// line's end, for 6 of the comma.
 // Input k's value stands in slot k, the clock's slot 0 is 0; count: the slots that are filled, the clock's with them.
 pub struct Line {
     pub error: u8,
@@ -71,7 +74,7 @@ pub struct Entry {
     pub number: u32,
 }
 
-// A value taken from a line: its error, 0, 2, 3 or 4; its column; the place behind it; the value.
+// A value taken from a line: its error, 0, 2, 3, 4 or 6; its column; the place behind it; the value.
 pub struct Taken {
     pub error: u8,
     pub column: usize,
@@ -142,20 +145,45 @@ fn entry_of(width: u8, word: &[u8]) -> Entry
     fitted(width, a)
 }
 
-// The value at a place of the line, or behind the separators there.
-fn take_value(line: &[u8], at: usize, width: u8) -> Taken
+// Where the value of input k stands, from the end of the one before.
+fn cell_at(line: &[u8], k: u8, at: usize) -> usize
     requires { ⌜ at ≤ length (now line) ⌝ }
-    ensures { λ r. ⌜ r ≡ taken (now (line .entry)) at width ⌝ }
+    ensures { λ r. ⌜ r ≡ cellAt (now (line .entry)) k at ⌝ }
 {
-    let p = run_end(line, at, Class::Separator);
+    let p = run_end(line, at, Class::Blank);
+    if k < 2 {
+        return p;
+    }
+    if byte_at(line, p) != 44 {
+        return p;
+    }
+    run_end(line, p + 1, Class::Blank)
+}
+
+// No value at a place.
+fn no_value(error: u8, p: usize) -> Taken
+    requires { ⌜ p + 1 < 18446744073709551616 ⌝ }
+    ensures { λ r. ⌜ r ≡ took p p (entry error false 0) ⌝ }
+{
+    Taken {
+        error,
+        column: p + 1,
+        to: p,
+        unknown: false,
+        number: 0,
+    }
+}
+
+// The value at a place of the line.
+fn take_value(line: &[u8], p: usize, width: u8) -> Taken
+    requires { ⌜ p ≤ length (now line) ⌝ }
+    ensures { λ r. ⌜ r ≡ taken (now (line .entry)) p width ⌝ }
+{
     if at_end(line, p) {
-        return Taken {
-            error: 4,
-            column: p + 1,
-            to: p,
-            unknown: false,
-            number: 0,
-        };
+        return no_value(4, p);
+    }
+    if byte_at(line, p) == 44 {
+        return no_value(6, p);
     }
     let to = run_end(line, p, Class::Word);
     let word = &line[p..to];
@@ -197,7 +225,8 @@ fn read_values(line: &[u8], widths: &[u8], inputs: u8, from: usize) -> Line
     let mut k: u8 = 1;
     while k < n {
         let slot = place(k);
-        let t = take_value(line, at, byte_at(widths, slot));
+        let p = cell_at(line, k, at);
+        let t = take_value(line, p, byte_at(widths, slot));
         if t.error != 0 {
             return Line {
                 error: t.error,
@@ -212,7 +241,7 @@ fn read_values(line: &[u8], widths: &[u8], inputs: u8, from: usize) -> Line
         at = t.to;
         k += 1;
     }
-    let p = run_end(line, at, Class::Separator);
+    let p = run_end(line, at, Class::Blank);
     let error = surplus(line, p);
     Line {
         error,
@@ -246,7 +275,7 @@ fn first_place(line: &[u8], inputs: u8, p: usize) -> usize
 pub fn parse(line: &[u8], widths: &[u8], inputs: u8) -> Line
     ensures { λ r. ⌜ r ≡ lineOf (now (line .entry)) (now (widths .entry)) inputs ⌝ }
 {
-    let p = run_end(line, 0, Class::Separator);
+    let p = run_end(line, 0, Class::Blank);
     if at_end(line, p) {
         return Line {
             error: 1,

@@ -26,11 +26,17 @@ pub fn find_line(bytes: &[u8], from: usize, to: usize, ended: bool) -> Waiting
     if end < to {
         return Waiting::Whole(end);
     }
-    if !ended {
+    if ended {
+        if from < to {
+            return Waiting::Whole(to);
+        }
+        return Waiting::Nothing;
+    }
+    if to < from {
         return Waiting::More;
     }
-    if from < to {
-        return Waiting::Whole(to);
+    if to - from < bytes.len() {
+        return Waiting::More;
     }
-    Waiting::Nothing
+    Waiting::Long
 }

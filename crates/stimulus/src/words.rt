@@ -45,7 +45,6 @@ fn in_class(class: Class, b: u8) -> bool
 {
     match class {
         Class::Blank => hextext::is_blank(b),
-        Class::Separator => separates(b),
         Class::Word => {
             if b == 35 {
                 return false;

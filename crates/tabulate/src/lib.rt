@@ -1,5 +1,6 @@
 // A run as a table of text, put into a lent buffer piece by piece: titles, cycles and values.
 use sheet::byte_at;
+use trace_row::value_in;
 use values::Value;
 use writing::put_byte;
 use writing::put_decimal;
@@ -8,7 +9,7 @@ use writing::put_word;
 ghost use mathlib.Core.Path.{_≡_};
 ghost use Prim.Native.Nat.{_+_, _-_};
 ghost use lib.ListN.{length};
-ghost use Rattle.values.specs.Planes.{valueAt};
+ghost use Rattle.cells.specs.Cells.{cellAt};
 ghost use Rattle.writing.specs.Numbers.{decimal};
 ghost use Rattle.writing.specs.Buffer.{filled, puts};
 ghost use Rattle.naming.specs.Naming.{within};
@@ -168,26 +169,25 @@ fn put_cell(width: usize, a: Value, text: &mut [u8; 65536], pos: usize) -> usize
     put_shown(a, text, q)
 }
 
-// The values of `count` variables from `from` on.
-pub fn print_values<'a>(
+// The values that a row of a trace has of `count` variables from `from` on.
+pub fn print_values(
     widths: &[u8],
     names: &[u8; 2560],
     from: usize,
     count: usize,
-    value: &'a [u32; 80],
-    unknown: &'a [bool; 80],
+    row: &[u64],
     text: &mut [u8; 65536],
     pos: usize,
 ) -> usize
     ensures { λ r. ⌜ filled (now (text .exit)) r ≡ puts (filled (now (text .entry)) pos)
-        (entries (now (widths .entry)) (now (names .entry)) (valueAt (now (value .entry)) (now (unknown .entry))) from count) ⌝ }
+        (entries (now (widths .entry)) (now (names .entry)) (cellAt (now (row .entry))) from count) ⌝ }
 {
     let end = last_of(from, count);
     let mut p = pos;
     let mut v = from;
     while v < end {
         let width = column_width(widths, names, v);
-        let a = values::value_at(value, unknown, v);
+        let a = value_in(row, v);
         p = put_cell(width, a, text, p);
         v += 1;
     }

@@ -1,43 +1,29 @@
-// The verdicts of `comparison` on states that are made up: runs that agree, and runs that differ in a register, in a wire and in a place,
+// The verdicts of `comparison` on rows that are made up: runs that agree, and runs that differ in a register, in a wire and in a place,
 // which no run of a module that extraction accepts does. What it writes is held to the file `stdout`.
 use comparison::Counts;
 use comparison::Verdict;
 use libc::STDOUT_FILENO;
-use state::State;
 
-// A state of a module with a clock, a register, a wire and two threads.
-fn state_of(register: u32, wire: u32, place: u8) -> State {
-    let mut value = [0u32; 80];
-    value[1] = register;
-    value[2] = wire;
-    let mut places = [0u8; 8];
-    places[1] = place;
-    State {
-        value,
-        unknown: [false; 80],
-        pending: [0u32; 32],
-        unsure: [false; 32],
-        held: [false; 32],
-        places,
-        due: [false; 32],
-        time: 0,
-        count: 0,
-    }
+// A row of a trace of a module with a clock, a register, a wire and two threads.
+fn row_of(register: u64, wire: u64, place: u64) -> [u64; 88] {
+    let mut row = [0u64; 88];
+    row[1] = register;
+    row[2] = wire;
+    row[81] = place;
+    row
 }
 
-// A verdict with one cycle more, in which the three orders have these states and the expressions register 5, wire 1 and place 2.
-fn cycle(v: Verdict, plain: State, first: State, second: State) -> Verdict {
+// A verdict with one cycle more, in which the three orders have these rows and the expressions register 5, wire 1 and place 2.
+fn cycle(v: Verdict, plain: [u64; 88], first: [u64; 88], second: [u64; 88]) -> Verdict {
     let counts = Counts {
         inputs: 1,
         registers: 1,
         wires: 1,
         threads: 2,
     };
-    let expressed = state_of(5, 1, 2);
-    comparison::after(
-        v,
-        comparison::compare(counts, [plain, first, second], expressed),
-    )
+    let expressed = row_of(5, 1, 2);
+    let found = comparison::compare(counts, &plain, &first, &second, &expressed);
+    comparison::after(v, found)
 }
 
 // Writes the first bytes of a text.
@@ -65,15 +51,15 @@ fn show(v: Verdict) {
 }
 
 fn main() {
-    let same = state_of(5, 1, 2);
+    let same = row_of(5, 1, 2);
     let begun = Verdict::Agreed(0);
     let one = cycle(begun, same, same, same);
     let two = cycle(one, same, same, same);
     show(begun);
     show(two);
-    show(cycle(two, same, state_of(6, 0, 0), state_of(7, 1, 2)));
-    show(cycle(one, state_of(5, 0, 0), same, same));
-    let apart = cycle(begun, same, same, state_of(5, 1, 0));
+    show(cycle(two, same, row_of(6, 0, 0), row_of(7, 1, 2)));
+    show(cycle(one, row_of(5, 4294967297, 0), same, same));
+    let apart = cycle(begun, same, same, row_of(5, 1, 0));
     show(apart);
-    show(cycle(apart, state_of(9, 1, 2), same, same));
+    show(cycle(apart, row_of(9, 1, 2), same, same));
 }

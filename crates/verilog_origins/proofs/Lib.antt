@@ -1,3 +1,4 @@
 pub mod Origins
 pub mod Placing
 pub mod Claims
+pub mod Pointing

@@ -1,3 +1,4 @@
 pub mod Origins
 pub mod Items
 pub mod Claims
+pub mod Points

@@ -1,9 +1,11 @@
 // Which item of a Verilog text a byte of its sheet was written from (a declaration, an `assign` or an `always`), and where the text has
 // what a refusal of extraction concerns. Each function equals its definition in specs/, for every text.
 mod items;
+mod points;
 mod steps;
 
 pub use items::place_of;
+pub use points::point;
 use steps::capped;
 use steps::find_thread;
 use steps::find_wire;

@@ -1,143 +1,334 @@
 // `compare`: event simulation, by the plain run and in two drawn orders, against the extracted expressions, cycle by cycle. What the
-// cycles show is judged by `comparison`, how the runs go on by `rivals`.
+// cycles show, and how the comparison ends, is judged by `rivals` and `comparison`.
 use crate::feed;
 use crate::feed::Feed;
-use crate::files::flush;
+use crate::feed::Row;
 use crate::files::open_input;
+use crate::files::show;
 use crate::machine;
 use crate::machine::Plan;
+use crate::machine::Stand;
 use crate::report;
 use crate::running;
-use crate::showing::extracted;
+use clock_nodes::RowTable;
+use clock_steps::RowNumbers;
+use comparison::Counts;
 use comparison::Verdict;
-use libc::STDOUT_FILENO;
+use driving::Rest;
 use options::CompareOptions;
 use options::Outcome;
-use rivals::Standing;
+use options::Way;
+use plan::PlanTable;
+use rivals::Halt;
+use rivals::Progress;
 use sheet::Layout;
 
-// Where the comparison has come to: whether it goes on, how it stands, and what the inputs have left.
+// The four runs: the plain one, those in the orders of seeds 1 and 2, and the one by the expressions.
+struct Runs {
+    plain: Stand,
+    first: Stand,
+    second: Stand,
+    expressed: Stand,
+}
+
+// Where the comparison has come to: whether it goes on, what keeps it from its end, the verdict so far, the runs, and what the inputs
+// have left.
 struct Sides {
     on: bool,
-    standing: Standing,
+    outcome: Outcome,
+    verdict: Verdict,
+    runs: Runs,
     feed: Feed,
 }
 
-// The next row's cycle, where a run does not come to rest said why; or the end.
-fn turn(
-    p: Plan,
-    sheet: &[u8],
-    nodes: &[u16; 16384],
-    rows: &[u16; 1056],
-    widths: &[u8],
-    s: Sides,
-    buffer: &mut [u8; 65536],
-) -> Sides {
-    let before = s.standing;
-    let f = s.feed;
-    let row = feed::next_row(p.index, f, buffer, widths, p.inputs);
-    let feed = row.feed;
-    if row.error != 0 {
-        let standing = rivals::close(before, row.error);
-        return Sides {
-            on: standing.on,
-            standing,
-            feed,
-        };
-    }
-    let value = row.value;
-    let unknown = row.unknown;
-    let fed = driving::Row { value, unknown };
-    let verdict = before.verdict;
-    let cycle = comparison::cycle_of(verdict);
-    let standing = rivals::turn(sheet, machine::shape_of(p), nodes, rows, before, fed);
-    let runs = standing.runs;
-    let last = runs.last;
-    machine::at_rest(p.index, cycle, last);
+// It goes no further.
+fn halted(s: Sides, outcome: Outcome, feed: Feed) -> Sides {
+    let verdict = s.verdict;
+    let runs = s.runs;
     Sides {
-        on: standing.on,
-        standing,
+        on: false,
+        outcome,
+        verdict,
+        runs,
         feed,
     }
 }
 
-// Before the first cycle; where a run does not come to rest from the start, says so.
-fn begun(p: Plan, index: usize, sheet: &[u8], fd: i32) -> Sides {
-    let standing = rivals::open(sheet, machine::shape_of(p));
-    let runs = standing.runs;
-    let last = runs.last;
-    running::started(index, last);
-    Sides {
-        on: standing.on,
-        standing,
-        feed: feed::over(fd),
+// A line that gives no cycle.
+fn unfed(s: Sides, row: Row) -> Sides {
+    let feed = row.feed;
+    if row.error == 1 {
+        if !feed::is_over(feed) {
+            let mut e = s;
+            e.feed = feed;
+            return e;
+        }
     }
+    if row.error != 1 {
+        feed::say(feed, row.column, row.error);
+    }
+    halted(s, driving::line_outcome(row.error), feed)
+}
+
+// ---- a cycle
+
+// How many cycles a run did of one.
+fn done(s: Stand) -> usize {
+    let rest = s.rest;
+    if rest.rested { 1 } else { 0 }
+}
+
+fn progress(r: Runs) -> Progress {
+    let plain = r.plain;
+    let first = r.first;
+    let second = r.second;
+    let expressed = r.expressed;
+    Progress {
+        plain: done(plain),
+        first: done(first),
+        second: done(second),
+        expressed: done(expressed),
+    }
+}
+
+// What the rows of the four runs show.
+fn judge(
+    p: Plan,
+    v: Verdict,
+    cycles: usize,
+    plain: &[u64; 176],
+    first: &[u64; 176],
+    second: &[u64; 176],
+    expressed: &[u64; 176],
+) -> Verdict {
+    let m = Counts {
+        inputs: p.inputs,
+        registers: p.registers,
+        wires: p.wires,
+        threads: p.threads,
+    };
+    rivals::judge(m, v, cycles, plain, first, second, expressed)
+}
+
+// The verdict with the cycle that was run.
+fn judged(p: Plan, v: Verdict, r: Runs) -> Verdict {
+    let plain = r.plain;
+    let first = r.first;
+    let second = r.second;
+    let expressed = r.expressed;
+    let a = plain.rows;
+    let b = first.rows;
+    let c = second.rows;
+    let d = expressed.rows;
+    let n = rivals::comparable(progress(r));
+    judge(p, v, n, &a, &b, &c, &d)
+}
+
+// The run that stopped first.
+fn halting(r: Runs, h: Halt) -> Rest {
+    let plain = r.plain;
+    let first = r.first;
+    let second = r.second;
+    let expressed = r.expressed;
+    match h {
+        Halt::Nobody => plain.rest,
+        Halt::Plain => plain.rest,
+        Halt::First => first.rest,
+        Halt::Second => second.rest,
+        Halt::Expressed => expressed.rest,
+    }
+}
+
+// The runs a cycle further.
+fn advanced(
+    plan: &PlanTable,
+    lent: &PlanTable,
+    table: &RowTable,
+    numbers: &RowNumbers,
+    r: Runs,
+    row: Row,
+) -> Runs {
+    let a = r.plain;
+    let b = r.first;
+    let c = r.second;
+    let d = r.expressed;
+    let plain = machine::whole(plan, lent, table, numbers, a, row);
+    let first = machine::whole(plan, lent, table, numbers, b, row);
+    let second = machine::whole(plan, lent, table, numbers, c, row);
+    let expressed = machine::whole(plan, lent, table, numbers, d, row);
+    Runs {
+        plain,
+        first,
+        second,
+        expressed,
+    }
+}
+
+// The cycle that was run: its verdict, and where a run did not come to rest said why.
+fn met(p: Plan, s: Sides, runs: Runs, feed: Feed) -> Sides {
+    let old = s.verdict;
+    let cycle = comparison::cycle_of(old);
+    let h = rivals::first_halted(1, progress(runs));
+    let rest = halting(runs, h);
+    let verdict = judged(p, old, runs);
+    let outcome = s.outcome;
+    if rest.rested {
+        return Sides {
+            on: comparison::is_agreed(verdict),
+            outcome,
+            verdict,
+            runs,
+            feed,
+        };
+    }
+    machine::say_unrest(p.index, cycle, rest);
+    let e = driving::ending_of(rest);
+    let stopped = driving::outcome_of(e);
+    Sides {
+        on: false,
+        outcome: stopped,
+        verdict,
+        runs,
+        feed,
+    }
+}
+
+// A row's cycle, or what its line is in place of one.
+fn turn(
+    p: Plan,
+    plan: &PlanTable,
+    lent: &PlanTable,
+    table: &RowTable,
+    numbers: &RowNumbers,
+    s: Sides,
+    row: Row,
+) -> Sides {
+    if row.error != 0 {
+        return unfed(s, row);
+    }
+    let before = s.runs;
+    let feed = row.feed;
+    let runs = advanced(plan, lent, table, numbers, before, row);
+    met(p, s, runs, feed)
+}
+
+// ---- all of them
+
+// The runs from the start to rest.
+fn begun(p: Plan, plan: &PlanTable) -> Runs {
+    let plain = machine::begin(p, plan, Way::Plain);
+    let first = machine::begin(p, plan, Way::Drawn(1));
+    let second = machine::begin(p, plan, Way::Drawn(2));
+    let expressed = machine::begin(p, plan, Way::Expressed);
+    Runs {
+        plain,
+        first,
+        second,
+        expressed,
+    }
+}
+
+// Before the first cycle; where a run does not come to rest from the start, says so.
+fn opened(p: Plan, plan: &PlanTable, fd: i32) -> Sides {
+    let runs = begun(p, plan);
+    let h = rivals::first_halted(1, progress(runs));
+    let rest = halting(runs, h);
+    let on = running::started(p.sheet, rest);
+    let e = driving::ending_of(rest);
+    let outcome = driving::outcome_of(e);
+    Sides {
+        on,
+        outcome,
+        verdict: Verdict::Agreed(0),
+        runs,
+        feed: feed::over(p.index, fd),
+    }
+}
+
+// More of the inputs is read; where it cannot be, the comparison ends.
+fn fed(s: Sides, buffer: &mut [u8; 65536]) -> Sides {
+    let f = s.feed;
+    let feed = feed::refilled(f, buffer);
+    if feed.good {
+        let mut e = s;
+        e.feed = feed;
+        return e;
+    }
+    halted(s, Outcome::Mistaken, feed)
 }
 
 // All rows.
 fn turns(
     p: Plan,
-    sheet: &[u8],
-    nodes: &[u16; 16384],
-    rows: &[u16; 1056],
-    widths: &[u8],
-    index: usize,
+    plan: &PlanTable,
+    lent: &PlanTable,
+    table: &RowTable,
+    numbers: &RowNumbers,
     fd: i32,
 ) -> Sides {
     let mut buffer = [0u8; 65536];
-    let mut s = begun(p, index, sheet, fd);
+    let widths = p.widths;
+    let mut s = opened(p, plan, fd);
     let mut left = u64::MAX;
     while left > 0 && s.on {
-        s = turn(p, sheet, nodes, rows, widths, s, &mut buffer);
+        let f = s.feed;
+        if feed::is_dry(f, &buffer) {
+            s = fed(s, &mut buffer);
+        } else {
+            let row = feed::next_row(f, &buffer, &widths, p.inputs);
+            s = turn(p, plan, lent, table, numbers, s, row);
+        }
         left -= 1;
     }
     s
 }
 
 // What was compared.
-fn tell(names: &[u8; 2560], verdict: Verdict) {
+fn tell(names: &[u8; 2560], verdict: Verdict) -> Outcome {
     let mut text = [0u8; 65536];
     let pos = comparison::put_verdict(names, verdict, &mut text, 0);
-    flush(STDOUT_FILENO, &text, pos);
+    show(&text, pos)
 }
 
-// The comparison's end, with the verdict where it is told.
-fn conclude(names: &[u8; 2560], s: Sides) -> Outcome {
-    let standing = s.standing;
-    let outcome = standing.outcome;
-    let verdict = standing.verdict;
-    if rivals::is_told(outcome) {
-        tell(names, verdict);
+// The comparison's end, with the verdict where it is said. On no cycle there is none.
+fn conclude(p: Plan, names: &[u8; 2560], s: Sides) -> Outcome {
+    let outcome = s.outcome;
+    let verdict = s.verdict;
+    if !rivals::is_said(verdict, outcome) {
+        return rivals::conclude(verdict, outcome);
     }
-    rivals::end(standing)
+    if comparison::cycle_of(verdict) == 0 && comparison::is_agreed(verdict) {
+        report::wrong_with(p.index, b": no cycle to compare\n", 0);
+        return Outcome::Mistaken;
+    }
+    options::joined(tell(names, verdict), rivals::conclude(verdict, outcome))
 }
 
 // What the runs go by.
-fn plan_of(o: CompareOptions, layout: Layout) -> Plan {
+fn plan_of(o: CompareOptions, layout: Layout, sheet: &[u8]) -> Plan {
+    let widths = machine::widths_of(sheet);
     Plan {
         inputs: layout.inputs,
         registers: layout.registers,
         wires: layout.wires,
         threads: layout.threads,
+        widths,
+        sheet: o.sheet,
         index: o.inputs,
         shown: false,
         last: false,
         told: false,
-        wave: -1,
+        waved: false,
     }
 }
 
-// `compare`: a sheet that is read, and its widths.
-pub fn compare(
-    o: CompareOptions,
-    sheet: &[u8],
-    layout: Layout,
-    widths: &[u8],
-    names: &[u8; 2560],
-) -> Outcome {
-    let mut nodes = [0u16; 16384];
-    let mut rows = [0u16; 1056];
-    if !extracted(sheet, &mut nodes, &mut rows) {
+// `compare`: a sheet that is read.
+pub fn compare(o: CompareOptions, sheet: &[u8], layout: Layout, names: &[u8; 2560]) -> Outcome {
+    let mut plan = [0u32; 25212];
+    let mut lent = [0u32; 25212];
+    let mut table = [0u32; 1152];
+    let mut numbers = [0u8; 2048];
+    if !running::tabled_out(sheet, &mut plan, &mut lent, &mut table, &mut numbers) {
         report::refuse_extraction(o.sheet, sheet, names);
         return Outcome::Refused;
     }
@@ -145,6 +336,6 @@ pub fn compare(
     if fd < 0 {
         return Outcome::Mistaken;
     }
-    let p = plan_of(o, layout);
-    conclude(names, turns(p, sheet, &nodes, &rows, widths, o.sheet, fd))
+    let p = plan_of(o, layout, sheet);
+    conclude(p, names, turns(p, &plan, &lent, &table, &numbers, fd))
 }

@@ -1,8 +1,6 @@
 // What is shown of a run: a line of the table a cycle, and the waveform.
-use crate::files::flush;
 use crate::machine::Plan;
-use libc::STDOUT_FILENO;
-use state::State;
+use trace_row::row_of;
 use writing::put_byte;
 
 // How many variables there are.
@@ -22,75 +20,78 @@ fn columns(p: Plan) -> usize {
 }
 
 // The titles.
-pub fn put_titles(p: Plan, widths: &[u8], names: &[u8; 2560], text: &mut [u8; 65536]) -> usize {
+pub fn put_titles(p: Plan, names: &[u8; 2560], text: &mut [u8; 65536]) -> usize {
+    let widths = p.widths;
     let q = tabulate::print_cycle_title(text, 0);
-    let r = tabulate::print_titles(widths, names, p.inputs as usize, columns(p), text, q);
+    let r = tabulate::print_titles(&widths, names, p.inputs as usize, columns(p), text, q);
     put_byte(b'\n', text, r)
 }
 
-// A cycle's line.
+// A cycle's line, from its second row.
 pub fn put_row(
     p: Plan,
-    widths: &[u8],
     names: &[u8; 2560],
     cycle: usize,
-    st: State,
+    rows: &[u64; 176],
     text: &mut [u8; 65536],
     pos: usize,
 ) -> usize {
+    let widths = p.widths;
+    let row = row_of(rows, 1);
     let q = tabulate::print_cycle(cycle, text, pos);
-    let r = tabulate::print_values(
-        widths,
-        names,
-        p.inputs as usize,
-        columns(p),
-        &st.value,
-        &st.unknown,
-        text,
-        q,
-    );
+    let r = tabulate::print_values(&widths, names, p.inputs as usize, columns(p), row, text, q);
     put_byte(b'\n', text, r)
-}
-
-// The text so far goes out where the buffer is nearly full.
-pub fn spilled(text: &[u8; 65536], pos: usize) -> usize {
-    if pos < 60000 {
-        return pos;
-    }
-    flush(STDOUT_FILENO, text, pos);
-    0
 }
 
 // ---- the waveform
 
 // Its head, and every value at time 0.
-pub fn begin_wave(p: Plan, widths: &[u8], names: &[u8; 2560], st: State) {
-    if p.wave < 0 {
-        return;
-    }
-    let mut text = [0u8; 65536];
-    let q = waveform::print_header(widths, names, p.inputs, p.registers, p.wires, &mut text, 0);
-    let r = waveform::print_time(0, &mut text, q);
-    let s = waveform::print_all(widths, variables(p), &st.value, &st.unknown, &mut text, r);
-    flush(p.wave, &text, s);
+pub fn put_start(p: Plan, names: &[u8; 2560], rows: &[u64; 176], text: &mut [u8; 65536]) -> usize {
+    let widths = p.widths;
+    let row = row_of(rows, 1);
+    let m = waveform::Counts {
+        inputs: p.inputs,
+        registers: p.registers,
+        wires: p.wires,
+    };
+    let mut path = io::buffer();
+    let n = os::arg(p.sheet, &mut path);
+    let q = waveform::print_header(&widths, names, m, &path[..n], text, 0);
+    let r = waveform::print_time(0, text, q);
+    waveform::print_all(&widths, variables(p), row, text, r)
 }
 
 // What has changed, at a time.
-pub fn put_wave(p: Plan, widths: &[u8], time: usize, old: State, new: State) {
-    if p.wave < 0 {
-        return;
-    }
-    let mut text = [0u8; 65536];
-    let q = waveform::print_time(time, &mut text, 0);
-    let r = waveform::print_changes(
-        widths,
-        variables(p),
-        &old.value,
-        &old.unknown,
-        &new.value,
-        &new.unknown,
-        &mut text,
-        q,
-    );
-    flush(p.wave, &text, r);
+fn put_changes(
+    p: Plan,
+    time: usize,
+    old: &[u64],
+    new: &[u64],
+    text: &mut [u8; 65536],
+    pos: usize,
+) -> usize {
+    let widths = p.widths;
+    let q = waveform::print_time(time, text, pos);
+    waveform::print_changes(&widths, variables(p), old, new, text, q)
+}
+
+// The two halves of a cycle, behind the rows of the one before.
+pub fn put_cycle(
+    p: Plan,
+    cycle: usize,
+    before: &[u64; 176],
+    rows: &[u64; 176],
+    text: &mut [u8; 65536],
+    pos: usize,
+) -> usize {
+    let a = row_of(before, 1);
+    let b = row_of(rows, 0);
+    let c = row_of(rows, 1);
+    let q = put_changes(p, driving::time_of(cycle, 0), a, b, text, pos);
+    put_changes(p, driving::time_of(cycle, 1), b, c, text, q)
+}
+
+// The time at which the next cycle would begin.
+pub fn put_close(cycle: usize, text: &mut [u8; 65536], pos: usize) -> usize {
+    waveform::print_time(driving::time_of(cycle, 0), text, pos)
 }

@@ -1,36 +1,43 @@
 // The rows of an inputs file, a line a cycle, read as the run goes on.
+use crate::files::read_more;
 use crate::report::wrong_inputs;
 use stimulus::Waiting;
 
-// How far the file is read: its descriptor, the part of the buffer that waits, the line it begins with, and whether the file is at its
-// end.
+// How far the file is read: the word that names it, its descriptor, the part of the buffer that waits, the line it begins with, whether
+// the file is at its end, and whether it could be read so far.
 pub struct Feed {
+    pub index: usize,
     pub fd: i32,
     pub from: usize,
     pub to: usize,
     pub line: usize,
     pub ended: bool,
+    pub good: bool,
 }
 
-// A row of inputs, the clock's slot in front, with the error of its line (`stimulus`): 0 for a row, 1 for a blank line, or for the
-// file's end, where there is no line to come.
+// What the next line is: a row of inputs, the clock's slot in front, with the error of its line (`stimulus`): 0 for a row, 1 for the
+// file's end or a blank line, 7 for a line that is too long; and its column.
 pub struct Row {
-    pub more: bool,
     pub error: u8,
+    pub column: usize,
     pub feed: Feed,
     pub value: [u32; 16],
     pub unknown: [bool; 16],
 }
 
-pub fn over(fd: i32) -> Feed {
+pub fn over(index: usize, fd: i32) -> Feed {
     Feed {
+        index,
         fd,
         from: 0,
         to: 0,
         line: 0,
         ended: false,
+        good: true,
     }
 }
+
+// ---- reading on
 
 // What waits moves to the front of the buffer. Gives its length.
 fn move_down(buffer: &mut [u8], from: usize, to: usize) -> usize {
@@ -50,45 +57,55 @@ fn move_down(buffer: &mut [u8], from: usize, to: usize) -> usize {
     n
 }
 
-// So much waits, at the front of the buffer.
-fn at(feed: Feed, to: usize, ended: bool) -> Feed {
+// Is no whole line there, and more to be read?
+pub fn is_dry(feed: Feed, buffer: &[u8; 65536]) -> bool {
+    match stimulus::find_line(buffer, feed.from, feed.to, feed.ended) {
+        Waiting::Whole(_) => false,
+        Waiting::More => true,
+        Waiting::Long => false,
+        Waiting::Nothing => false,
+    }
+}
+
+// How many bytes a byte order mark takes in front of so many bytes.
+fn mark_of(bytes: &[u8], to: usize) -> usize {
+    if to <= bytes.len() {
+        return sources::mark_size(&bytes[..to]);
+    }
+    0
+}
+
+// How many it takes in front of the file.
+fn mark_size(feed: Feed, bytes: &[u8; 65536], to: usize) -> usize {
+    if feed.line == 0 && feed.to == 0 {
+        return mark_of(bytes, to);
+    }
+    0
+}
+
+// More of the file behind what waits; where it cannot be read, says why.
+pub fn refilled(feed: Feed, buffer: &mut [u8; 65536]) -> Feed {
+    let n = move_down(buffer, feed.from, feed.to);
+    let g = read_more(feed.index, feed.fd, buffer, n);
+    let to = g.size;
     Feed {
+        index: feed.index,
         fd: feed.fd,
-        from: 0,
+        from: mark_size(feed, buffer, to),
         to,
         line: feed.line,
-        ended,
+        ended: to == n,
+        good: g.good,
     }
 }
 
-// More of the file behind what waits.
-fn refilled(feed: Feed, buffer: &mut [u8]) -> Feed {
-    let n = move_down(buffer, feed.from, feed.to);
-    let size = buffer.len();
-    if n >= size {
-        return at(feed, size, true);
-    }
-    let got = io::read_full(feed.fd, &mut buffer[n..]);
-    if got < size - n {
-        return at(feed, n + got, true);
-    }
-    at(feed, size, false)
-}
-
-// With a whole line that waits, or the file at its end.
-fn filled(feed: Feed, buffer: &mut [u8]) -> Feed {
-    match stimulus::find_line(buffer, feed.from, feed.to, feed.ended) {
-        Waiting::Whole(_) => feed,
-        Waiting::More => refilled(feed, buffer),
-        Waiting::Nothing => feed,
-    }
-}
+// ---- lines
 
 // A row that is none.
-fn no_row(feed: Feed, more: bool, error: u8) -> Row {
+fn no_row(feed: Feed, error: u8, column: usize) -> Row {
     Row {
-        more,
         error,
+        column,
         feed,
         value: [0u32; 16],
         unknown: [false; 16],
@@ -96,20 +113,13 @@ fn no_row(feed: Feed, more: bool, error: u8) -> Row {
 }
 
 // The row of a line.
-fn row_of(index: usize, line: &[u8], widths: &[u8], inputs: u8, feed: Feed) -> Row {
+fn row_of(line: &[u8], widths: &[u8], inputs: u8, feed: Feed) -> Row {
     let p = stimulus::parse(line, widths, inputs);
-    if p.error == 1 {
-        return no_row(feed, true, 1);
-    }
-    if p.error != 0 {
-        wrong_inputs(index, feed.line, p.column, p.error);
-        return no_row(feed, false, p.error);
-    }
     let value = p.value;
     let unknown = p.unknown;
     Row {
-        more: false,
-        error: 0,
+        error: p.error,
+        column: p.column,
         feed,
         value,
         unknown,
@@ -117,36 +127,37 @@ fn row_of(index: usize, line: &[u8], widths: &[u8], inputs: u8, feed: Feed) -> R
 }
 
 // The row of the line that waits up to a place.
-fn row_at(index: usize, f: Feed, end: usize, buffer: &[u8], widths: &[u8], inputs: u8) -> Row {
+fn row_at(f: Feed, end: usize, buffer: &[u8], widths: &[u8], inputs: u8) -> Row {
     let from = f.from;
     if from > end || end > buffer.len() {
-        return no_row(f, false, 1);
+        return no_row(f, 1, 0);
     }
     let mut g = f;
     g.from = stimulus::counted(end);
     g.line = stimulus::counted(f.line);
-    row_of(index, &buffer[from..end], widths, inputs, g)
+    row_of(&buffer[from..end], widths, inputs, g)
 }
 
-// The line that waits first: the buffer has as much of the file as it takes.
-fn line_at(index: usize, f: Feed, buffer: &[u8], widths: &[u8], inputs: u8) -> Row {
-    match stimulus::find_line(buffer, f.from, f.to, true) {
-        Waiting::Whole(end) => row_at(index, f, end, buffer, widths, inputs),
-        Waiting::More => no_row(f, false, 1),
-        Waiting::Nothing => no_row(f, false, 1),
+// The line that waits first.
+pub fn next_row(f: Feed, buffer: &[u8; 65536], widths: &[u8; 80], inputs: u8) -> Row {
+    match stimulus::find_line(buffer, f.from, f.to, f.ended) {
+        Waiting::Whole(end) => row_at(f, end, buffer, widths, inputs),
+        Waiting::More => no_row(f, 1, 0),
+        Waiting::Long => {
+            let mut g = f;
+            g.line = stimulus::counted(f.line);
+            no_row(g, 7, 1)
+        }
+        Waiting::Nothing => no_row(f, 1, 0),
     }
 }
 
-// The next row: blank lines are passed over. A proved loop has to end, and nothing says that a file does: so it counts its turns
-// down, from a number that no file uses up.
-pub fn next_row(index: usize, feed: Feed, buffer: &mut [u8], widths: &[u8], inputs: u8) -> Row {
-    let mut row = no_row(feed, true, 1);
-    let mut turns = u64::MAX;
-    while turns > 0 && row.more {
-        let f = row.feed;
-        let g = filled(f, buffer);
-        row = line_at(index, g, buffer, widths, inputs);
-        turns -= 1;
-    }
-    row
+// Is there nothing more to come?
+pub fn is_over(f: Feed) -> bool {
+    f.ended && f.to <= f.from
+}
+
+// What is wrong with a line.
+pub fn say(feed: Feed, column: usize, error: u8) {
+    wrong_inputs(feed.index, feed.line, column, error);
 }

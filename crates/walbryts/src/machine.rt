@@ -1,87 +1,165 @@
-// A run's clock cycles, with their part of the waveform, and what is said where one does not come to rest. The cycles are those of
-// `halves`.
-use crate::display;
+// What a run goes by, its clock cycles, and what is said where one does not come to rest. A cycle is one row of a trace call: by events on a
+// plan that is prepared once (`driving`), or by the extracted expressions on tables that are prepared once (`clock_run`).
 use crate::feed::Row;
+use crate::files::byte_at;
 use crate::report;
+use clock_nodes::RowTable;
+use clock_steps::RowNumbers;
 use driving::Ending;
 use driving::Rest;
-use engine::Shape;
+use nextstate::Registers;
 use options::Way;
+use plan::PlanTable;
 
-// What a run goes by: the sheet's counts, the word that names the inputs, the wires shown or not, only the last cycle or all, how far
-// it has come told or not, and the waveform's descriptor, or -1.
+// What a run goes by: the sheet's counts and widths, the words that name the module and the inputs, the wires shown or not, only the last
+// cycle or all, how far it has come told or not, and a waveform or none.
 pub struct Plan {
     pub inputs: u8,
     pub registers: u8,
     pub wires: u8,
     pub threads: u8,
+    pub widths: [u8; 80],
+    pub sheet: usize,
     pub index: usize,
     pub shown: bool,
     pub last: bool,
     pub told: bool,
-    pub wave: i32,
+    pub waved: bool,
 }
 
-// The sheet's counts.
-pub fn shape_of(p: Plan) -> Shape {
-    Shape {
-        inputs: p.inputs,
-        registers: p.registers,
-        wires: p.wires,
-        threads: p.threads,
+// The widths of a sheet's variables.
+pub fn widths_of(sheet: &[u8]) -> [u8; 80] {
+    let mut widths = [0u8; 80];
+    let mut i = 0;
+    while i < 80 {
+        widths[i] = byte_at(sheet, i + 4);
+        i += 1;
     }
+    widths
+}
+
+// Where a run stands: the state by events, the registers by expressions, and the two rows of the last cycle.
+pub struct Stand {
+    pub rest: Rest,
+    pub registers: Registers,
+    pub rows: [u64; 176],
+}
+
+// Two rows, of which the second is given.
+fn second(row: [u64; 88]) -> [u64; 176] {
+    let mut rows = [0u64; 176];
+    let mut i: usize = 0;
+    while i < 88 {
+        rows[88 + i] = row[i];
+        i += 1;
+    }
+    rows
 }
 
 // The state at the start, at rest.
-pub fn begin(p: Plan, sheet: &[u8], way: Way) -> Rest {
-    halves::begin(sheet, shape_of(p), way)
+pub fn begin(p: Plan, plan: &PlanTable, way: Way) -> Stand {
+    let rest = driving::begin(plan, way);
+    let st = rest.state;
+    let registers = driving::registers_of(p.inputs, st);
+    let rows = second(driving::row_of(st));
+    Stand {
+        rest,
+        registers,
+        rows,
+    }
 }
 
-// Did it come to rest? If not, says why.
-pub fn at_rest(index: usize, cycle: usize, r: Rest) -> bool {
+// Says why it did not come to rest.
+pub fn say_unrest(index: usize, cycle: usize, r: Rest) {
     match driving::ending_of(r) {
-        Ending::Rested => true,
-        Ending::Refused(number) => {
-            report::stopped(index, cycle, number);
-            false
-        }
-        Ending::Restless(most) => {
-            report::restless(index, cycle, most);
-            false
-        }
+        Ending::Rested => {}
+        Ending::Refused(number) => report::stopped(index, cycle, number),
+        Ending::Restless(most) => report::restless(index, cycle, most),
     }
 }
 
-// Half a cycle's part of the waveform; where it does not come to rest, says why.
-fn show(p: Plan, widths: &[u8], cycle: usize, clock: u32, before: Rest, after: Rest) -> bool {
-    if !at_rest(p.index, cycle, after) {
-        return false;
+// A cycle by events.
+fn by_events(plan: &PlanTable, s: Stand, value: &[u32], unknown: &[bool]) -> Stand {
+    let before = s.rest;
+    let registers = s.registers;
+    let mut rows = [0u64; 176];
+    let t = driving::trace(plan, before, value, unknown, &mut rows);
+    let rest = t.rest;
+    Stand {
+        rest,
+        registers,
+        rows,
     }
-    let old = before.state;
-    let new = after.state;
-    display::put_wave(p, widths, halves::time_of(cycle, clock), old, new);
-    true
 }
 
-// A cycle.
+// The same way on, by expressions: the number of a cycle run, 0 where it was accepted.
+fn ended(r: Rest, number: u8) -> Rest {
+    let way = r.way;
+    let state = r.state;
+    Rest {
+        way,
+        number,
+        rested: number == 0,
+        state,
+        seed: r.seed,
+    }
+}
+
+// A cycle by the expressions.
+fn by_expressions(
+    plan: &PlanTable,
+    lent: &PlanTable,
+    table: &RowTable,
+    numbers: &RowNumbers,
+    s: Stand,
+    value: &[u32],
+    unknown: &[bool],
+) -> Stand {
+    let before = s.registers;
+    let old = s.rest;
+    let mut rows = [0u64; 176];
+    let r = clock_run::trace(
+        plan,
+        lent,
+        table,
+        numbers,
+        before,
+        value,
+        unknown,
+        &mut rows,
+    );
+    let last = r.last;
+    let value = last.value;
+    let unknown = last.unknown;
+    let places = last.places;
+    let registers = Registers {
+        value,
+        unknown,
+        places,
+    };
+    let rest = ended(old, r.number);
+    Stand {
+        rest,
+        registers,
+        rows,
+    }
+}
+
+// A cycle by the way of the run.
 pub fn whole(
-    p: Plan,
-    sheet: &[u8],
-    nodes: &[u16; 16384],
-    rows: &[u16; 1056],
-    widths: &[u8],
-    cycle: usize,
-    before: Rest,
+    plan: &PlanTable,
+    lent: &PlanTable,
+    table: &RowTable,
+    numbers: &RowNumbers,
+    s: Stand,
     row: Row,
-) -> Rest {
+) -> Stand {
     let value = row.value;
     let unknown = row.unknown;
-    let fed = driving::Row { value, unknown };
-    let c = halves::whole(sheet, shape_of(p), nodes, rows, before, fed);
-    let low = c.low;
-    let high = c.high;
-    if show(p, widths, cycle, 0, before, low) {
-        show(p, widths, cycle, 1, low, high);
+    let rest = s.rest;
+    let way = rest.way;
+    if driving::is_expressed(way) {
+        return by_expressions(plan, lent, table, numbers, s, &value, &unknown);
     }
-    high
+    by_events(plan, s, &value, &unknown)
 }

@@ -6,6 +6,7 @@ mod display;
 mod feed;
 mod files;
 mod machine;
+mod mistakes;
 mod names;
 mod nets;
 mod report;
@@ -13,26 +14,18 @@ mod running;
 mod say;
 mod showing;
 mod texts;
+mod wave;
 mod words;
 
-use libc::STDERR_FILENO;
-use libc::STDOUT_FILENO;
+use files::show_word;
 use options::Command;
 use options::Outcome;
 use options::Request;
 use sheet::Layout;
 use sources::Words;
 
-fn usage() {
-    io::write_all(
-        STDERR_FILENO,
-        b"usage: walbryts list|check|extract|verilog|sheet FILE, or run|compare FILE INPUTS; walbryts --help says more\n",
-    );
-}
-
-fn help() {
-    io::write_all(
-        STDOUT_FILENO,
+fn help() -> Outcome {
+    show_word(
         b"walbryts: a clock-edge compiler and event simulator, proved
 
   walbryts list FILE              its pseudo-code
@@ -44,6 +37,7 @@ fn help() {
       --last                      only the last cycle
       --vcd FILE                  write a waveform
       --progress                  say how far it has come, on standard error
+      --any-order                 say nothing where the result depends on the order
   walbryts compare FILE INPUTS    events, in several orders, against the expressions
   walbryts extract FILE           waits and next-state expressions
       --dot                       the nodes as a graph for Graphviz
@@ -51,22 +45,25 @@ fn help() {
   walbryts sheet FILE             the module as a sheet, in hexadecimal text
       --names FILE                with run and extract: names, lines such as `r0 count`
       --verilog                   FILE is Verilog text, whatever its name
+  walbryts help, --help, -h       these lines
+  walbryts --version, -V          which version it is
 
 FILE: Verilog text where its name ends in .v; else a sheet: bytes, or hexadecimal text with blanks,
 line ends and # comments; - is standard input.
-INPUTS: a line a cycle, the values of inputs 1 up: decimal, 0x and hexadecimal, or x; - alone
-where the clock is the only input; # comments.
+INPUTS: a line a cycle, the values of inputs 1 up with blanks or a comma between them: decimal,
+0x and hexadecimal, or x; - alone where the clock is the only input; # comments.
+Status: 0 done; 1 refused, by extraction too, or different; 2 words or files that are wrong.
 ",
-    );
+    )
 }
 
-// What a command does with a module that is read: its sheet is written where the command is `sheet`.
+// What a command does with a module that is read from a descriptor: its sheet is written where the command is `sheet`.
 fn perform(
     w: Words,
     c: Command,
+    source: i32,
     sheet: &[u8],
     layout: Layout,
-    widths: &[u8],
     names: &mut [u8; 2560],
 ) -> Outcome {
     if w.sheet {
@@ -78,31 +75,31 @@ fn perform(
     match c {
         Command::List(_) => showing::list(sheet),
         Command::Check(_) => showing::check(sheet, names),
-        Command::Run(o) => running::run(o, sheet, layout, widths, names),
+        Command::Run(o) => running::run(o, source, sheet, layout, names),
         Command::Extract(o) => nets::extract(o, sheet, names),
-        Command::Compare(o) => comparing::compare(o, sheet, layout, widths, names),
+        Command::Compare(o) => comparing::compare(o, sheet, layout, names),
         Command::Verilog(index) => showing::print_verilog(index, sheet),
     }
 }
 
 // A sheet's bytes, from the file's: refused, or handed to the command.
-fn with_bytes(w: Words, c: Command, sheet: &[u8], view: &[u8], hex: bool) -> Outcome {
+fn with_bytes(w: Words, c: Command, source: i32, sheet: &[u8], view: &[u8], hex: bool) -> Outcome {
     let r = sheet::read(sheet);
-    if r.number != 0 || sheet.len() < 4 {
+    if r.number != 0 {
         report::refuse(options::sheet_of(c), sheet, view, hex, r.number, r.place);
         return Outcome::Refused;
     }
     let layout = r.layout;
     let mut names = [0u8; 2560];
     naming::fill_plain(layout.inputs, layout.registers, &mut names);
-    perform(w, c, sheet, layout, &sheet[4..], &mut names)
+    perform(w, c, source, sheet, layout, &mut names)
 }
 
 // Hexadecimal text.
-fn with_text(w: Words, c: Command, view: &[u8]) -> Outcome {
+fn with_text(w: Words, c: Command, source: i32, view: &[u8]) -> Outcome {
     let index = options::sheet_of(c);
-    if view.len() >= 65536 {
-        report::wrong_with(index, b": hexadecimal text of 65,536 bytes or longer\n", 0);
+    if view.len() >= 65533 {
+        report::wrong_with(index, b": hexadecimal text of 65,533 bytes or longer\n", 0);
         return Outcome::Mistaken;
     }
     let mut bytes = [0u8; 8193];
@@ -115,23 +112,20 @@ fn with_text(w: Words, c: Command, view: &[u8]) -> Outcome {
     if length > 8193 {
         return Outcome::Mistaken;
     }
-    with_bytes(w, c, &bytes[..length], view, true)
+    with_bytes(w, c, source, &bytes[..length], view, true)
 }
 
 // A text's sheet, with the names of the text.
-fn with_names(w: Words, c: Command, sheet: &[u8], text: &[u8]) -> Outcome {
-    if sheet.len() < 4 {
-        return Outcome::Mistaken;
-    }
+fn with_names(w: Words, c: Command, source: i32, sheet: &[u8], text: &[u8]) -> Outcome {
     let layout = sheet::read(sheet).layout;
     let mut names = [0u8; 2560];
     naming::fill_plain(layout.inputs, layout.registers, &mut names);
     texts::name(text, &mut names);
-    perform(w, c, sheet, layout, &sheet[4..], &mut names)
+    perform(w, c, source, sheet, layout, &mut names)
 }
 
 // Verilog text: its sheet, or what is refused of it.
-fn with_verilog(w: Words, c: Command, text: &[u8]) -> Outcome {
+fn with_verilog(w: Words, c: Command, source: i32, text: &[u8]) -> Outcome {
     let mut lent = [0u8; 8192];
     let r = verilog_read::read_text(text, &mut lent);
     if r.number != 0 {
@@ -142,47 +136,63 @@ fn with_verilog(w: Words, c: Command, text: &[u8]) -> Outcome {
     if length > 8192 {
         return Outcome::Mistaken;
     }
-    with_names(w, c, &lent[..length], text)
+    with_names(w, c, source, &lent[..length], text)
 }
 
 // A file's bytes: Verilog text, a sheet, or hexadecimal text.
-fn with_file(w: Words, c: Command, view: &[u8]) -> Outcome {
-    if files::is_text(w.verilog, options::sheet_of(c)) {
-        return with_verilog(w, c, view);
+fn with_file(w: Words, c: Command, source: i32, view: &[u8]) -> Outcome {
+    let index = options::sheet_of(c);
+    if files::is_text(w.verilog, index) {
+        return with_verilog(w, c, source, view);
+    }
+    if sources::starts_text(view) {
+        report::wrong_with(
+            index,
+            b": this looks like Verilog text, which a file's name in .v or --verilog says\n",
+            0,
+        );
+        return Outcome::Mistaken;
     }
     if hextext::is_text(view) {
-        return with_text(w, c, view);
+        return with_text(w, c, source, view);
     }
-    with_bytes(w, c, view, view, false)
+    with_bytes(w, c, source, view, view, false)
+}
+
+// A file's bytes between two places.
+fn with_part(w: Words, c: Command, source: i32, bytes: &[u8], from: usize, to: usize) -> Outcome {
+    if from > to || to > bytes.len() {
+        return Outcome::Mistaken;
+    }
+    with_file(w, c, source, &bytes[from..to])
+}
+
+// A file's bytes behind a byte order mark.
+fn with_source(w: Words, c: Command, source: i32, bytes: &[u8; 65536], to: usize) -> Outcome {
+    with_part(w, c, source, bytes, sources::mark_size(bytes), to)
 }
 
 // A command, from the file of its module on.
 fn carry_out(w: Words, c: Command) -> Outcome {
-    let mut source = [0u8; 65536];
-    let got = files::read_whole(options::sheet_of(c), &mut source);
-    if !got.found {
+    let mut bytes = [0u8; 65536];
+    let got = files::read_whole(options::sheet_of(c), &mut bytes);
+    if !got.good {
         return Outcome::Mistaken;
     }
-    let size = got.size;
-    if size > 65536 {
-        return Outcome::Mistaken;
-    }
-    with_file(w, c, &source[..size])
+    with_source(w, c, got.fd, &bytes, got.size)
 }
 
 // What the words ask for.
 fn answer(w: Words, r: Request) -> Outcome {
     match r {
-        Request::Help => {
-            help();
-            Outcome::Done
-        }
-        Request::Short => {
-            usage();
+        Request::Help => help(),
+        Request::Version => show_word(b"walbryts 0.2.0\n"),
+        Request::Short(missing) => {
+            mistakes::short(missing);
             Outcome::Mistaken
         }
-        Request::Wrong(_) => {
-            usage();
+        Request::Wrong(index, fault) => {
+            mistakes::wrong(index, fault);
             Outcome::Mistaken
         }
         Request::Asked(c) => carry_out(w, c),

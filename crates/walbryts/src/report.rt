@@ -2,9 +2,11 @@
 // numbers come from the table in `reasons`, those of lines and rules from `findings` and `named_findings`, those of
 // places from `overview`.
 use crate::files::flush;
+use crate::files::unshown;
 use crate::say::say;
 use crate::texts;
 use libc::STDERR_FILENO;
+use options::Outcome;
 use witness::Witness;
 use writing::put_byte;
 use writing::put_word;
@@ -33,6 +35,20 @@ pub fn wrong_hex(index: usize, line: usize, column: usize, error: u8) {
 // Something wrong with a line of inputs.
 pub fn wrong_inputs(index: usize, line: usize, column: usize, error: u8) {
     say_spot(STDERR_FILENO, index, line, column);
+    if error == 6 {
+        io::write_all(
+            STDERR_FILENO,
+            b"an empty cell: a value in front of each comma and behind it is allowed\n",
+        );
+        return;
+    }
+    if error == 7 {
+        io::write_all(
+            STDERR_FILENO,
+            b"a line that is too long: at most 65,535 bytes are allowed\n",
+        );
+        return;
+    }
     let mut text = [0u8; 65536];
     let p = findings::put_input_error(error, &mut text, 0);
     flush(STDERR_FILENO, &text, p);
@@ -104,18 +120,31 @@ fn say_witness(fd: i32, sheet: &[u8], w: Witness, names: &[u8; 2560]) {
 }
 
 // The witness and what is allowed.
-fn say_broken(fd: i32, sheet: &[u8], w: Witness, names: &[u8; 2560]) {
+fn say_broken(fd: i32, sheet: &[u8], w: Witness, names: &[u8; 2560]) -> Outcome {
     io::write_all(fd, b"  found: ");
     say_witness(fd, sheet, w, names);
-    io::write_all(fd, b"\n");
+    if !io::write_all(fd, b"\n") {
+        unshown();
+        return Outcome::Mistaken;
+    }
     say_allowed(fd, w.number);
+    Outcome::Done
+}
+
+// A run of a sheet that extraction refuses: what it shows.
+pub fn one_order(index: usize, sheet: &[u8], names: &[u8; 2560]) {
+    refuse_extraction(index, sheet, names);
+    io::write_all(
+        STDERR_FILENO,
+        b"  this table is one order among several; --any-order leaves this out\n",
+    );
 }
 
 // A module that is read and not extracted: the number, in a text the place and its line, the witness and what is allowed.
-pub fn unextracted(fd: i32, sheet: &[u8], names: &[u8; 2560]) {
+pub fn unextracted(fd: i32, sheet: &[u8], names: &[u8; 2560]) -> Outcome {
     let w = witness::witness_of(sheet);
     texts::say_rule(fd, 0, sheet, w);
-    say_broken(fd, sheet, w, names);
+    say_broken(fd, sheet, w, names)
 }
 
 // The same on standard error, behind the file.
@@ -130,7 +159,7 @@ pub fn refuse_extraction(index: usize, sheet: &[u8], names: &[u8; 2560]) {
 // Not at rest after so many choices.
 fn say_restless(most: usize) {
     let mut text = [0u8; 65536];
-    let p = halves::put_restless(most, &mut text, 0);
+    let p = driving::put_restless(most, &mut text, 0);
     flush(STDERR_FILENO, &text, p);
 }
 

@@ -2,180 +2,353 @@
 use crate::display;
 use crate::feed;
 use crate::feed::Feed;
+use crate::feed::Row;
 use crate::files::flush;
 use crate::files::open_input;
-use crate::files::open_output;
+use crate::files::unshown;
 use crate::machine;
 use crate::machine::Plan;
+use crate::machine::Stand;
 use crate::report;
 use crate::say::say;
 use crate::showing::extracted;
+use crate::wave;
+use crate::wave::Wave;
+use clock_nodes::RowTable;
+use clock_steps::RowNumbers;
 use driving::Ending;
 use driving::Rest;
 use libc::STDERR_FILENO;
 use libc::STDOUT_FILENO;
 use options::Outcome;
 use options::RunOptions;
+use plan::PlanTable;
 use sheet::Layout;
 
-// Where a run has come to: whether it goes on, its status, the cycles done, how much text waits, what the inputs have left, and the
-// state.
+// Where a run has come to: whether it goes on, how it ends, the cycles done, how much of the table waits, what the inputs have left, the
+// line that was wrong (its error, 0 for none, and its column), the waveform; a cycle that is to be shown or none, the rows of the one before,
+// and where the run stands.
 struct Course {
     on: bool,
     outcome: Outcome,
     cycle: usize,
     pos: usize,
     feed: Feed,
-    rest: Rest,
+    error: u8,
+    column: usize,
+    wave: Wave,
+    fresh: bool,
+    before: [u64; 176],
+    stand: Stand,
 }
 
 // The run stops.
 fn stopped(c: Course, outcome: Outcome) -> Course {
     let feed = c.feed;
-    let rest = c.rest;
+    let before = c.before;
+    let stand = c.stand;
+    let wave = c.wave;
     Course {
         on: false,
         outcome,
         cycle: c.cycle,
         pos: c.pos,
         feed,
-        rest,
+        error: c.error,
+        column: c.column,
+        wave,
+        fresh: c.fresh,
+        before,
+        stand,
     }
 }
 
-// Is it to be told how far the run has come? Where the words ask for it, or standard error is a terminal and the run is long.
+// ---- how far it has come
+
 fn told(p: Plan, cycle: usize) -> bool {
-    p.told || (cycle >= 10000 && libc::isatty(STDERR_FILENO) != 0)
+    let errors = libc::isatty(STDERR_FILENO) != 0;
+    let table = libc::isatty(STDOUT_FILENO) != 0;
+    outputs::is_told(p.told, cycle, errors, table)
 }
 
-// How far it has come.
 fn tell(p: Plan, cycle: usize) {
     if told(p, cycle) {
         say(STDERR_FILENO, b"\r# cycles", cycle, 0);
     }
 }
 
-// A cycle was run: its line.
-fn moved(
-    p: Plan,
-    widths: &[u8],
-    names: &[u8; 2560],
-    c: Course,
-    rest: Rest,
-    text: &mut [u8; 65536],
-) -> Course {
-    let st = rest.state;
-    let pos = if p.last {
-        c.pos
-    } else {
-        display::put_row(p, widths, names, c.cycle, st, text, c.pos)
-    };
-    let mut e = c;
-    e.cycle = stimulus::counted(c.cycle);
-    e.pos = display::spilled(text, pos);
-    e.rest = rest;
-    e
+// Ends the line on which that was told.
+fn end_line(p: Plan, cycle: usize) {
+    if told(p, cycle) {
+        io::write_all(STDERR_FILENO, b"\n");
+    }
 }
 
-// The next row's cycle, or the end.
-fn turn(
-    p: Plan,
-    sheet: &[u8],
-    nodes: &[u16; 16384],
-    rows: &[u16; 1056],
-    widths: &[u8],
-    names: &[u8; 2560],
-    c: Course,
-    buffer: &mut [u8; 65536],
-    text: &mut [u8; 65536],
-) -> Course {
-    let f = c.feed;
-    let row = feed::next_row(p.index, f, buffer, widths, p.inputs);
-    if row.error != 0 {
-        return stopped(c, halves::line_outcome(row.error));
-    }
-    let before = c.rest;
-    let after = machine::whole(p, sheet, nodes, rows, widths, c.cycle, before, row);
-    if !after.rested {
-        return stopped(c, outcome_of(after));
-    }
-    let f = row.feed;
+// ---- what waits to be written
+
+// The table so far goes out; where it cannot be written, the run stops.
+fn spill_table(c: Course, text: &[u8; 65536]) -> Course {
+    let good = flush(STDOUT_FILENO, text, c.pos);
     let mut e = c;
-    e.feed = f;
-    moved(p, widths, names, e, after, text)
+    e.pos = 0;
+    if good {
+        return e;
+    }
+    unshown();
+    stopped(e, Outcome::Mistaken)
 }
 
-// All cycles. Says now and then how far it has come.
-fn turns(
-    p: Plan,
-    sheet: &[u8],
-    nodes: &[u16; 16384],
-    rows: &[u16; 1056],
-    widths: &[u8],
-    names: &[u8; 2560],
-    course: Course,
-    text: &mut [u8; 65536],
-) -> Course {
-    let mut buffer = [0u8; 65536];
-    let mut c = course;
-    let mut left = u64::MAX;
-    while left > 0 && c.on {
-        if c.cycle % 10000 == 0 {
-            tell(p, c.cycle);
-        }
-        c = turn(p, sheet, nodes, rows, widths, names, c, &mut buffer, text);
-        left -= 1;
+// The waveform so far goes out, the table first.
+fn spill_wave(c: Course, path: &[u8], text: &[u8; 65536], waves: &[u8; 65536]) -> Course {
+    let d = spill_table(c, text);
+    let before = d.wave;
+    let w = wave::spilled(before, path, waves);
+    let good = w.good;
+    let mut e = d;
+    e.wave = w;
+    if good {
+        return e;
+    }
+    stopped(e, Outcome::Mistaken)
+}
+
+// Where a buffer is nearly full.
+fn spilled(c: Course, path: &[u8], text: &[u8; 65536], waves: &[u8; 65536]) -> Course {
+    let w = c.wave;
+    if w.pos >= 50000 {
+        return spill_wave(c, path, text, waves);
+    }
+    if c.pos >= 60000 {
+        return spill_table(c, text);
     }
     c
 }
 
-// The run is over: the last line where only that one is asked for, and what waits.
-fn finish(
+// ---- a cycle
+
+// More of the inputs is read, behind what was shown of those before.
+fn fed(p: Plan, c: Course, text: &[u8; 65536], buffer: &mut [u8; 65536]) -> Course {
+    let d = spill_table(c, text);
+    if !d.on {
+        return d;
+    }
+    let f = d.feed;
+    let g = feed::refilled(f, buffer);
+    let good = g.good;
+    let mut e = d;
+    e.feed = g;
+    if good {
+        return e;
+    }
+    end_line(p, e.cycle);
+    stopped(e, Outcome::Mistaken)
+}
+
+// The line of a row that is none: the end, a blank line, or one that is wrong.
+fn unfed(c: Course, row: Row) -> Course {
+    let feed = row.feed;
+    let mut e = c;
+    e.feed = feed;
+    if row.error != 1 {
+        e.error = row.error;
+        e.column = row.column;
+        return stopped(e, driving::line_outcome(row.error));
+    }
+    if feed::is_over(feed) {
+        return stopped(e, Outcome::Done);
+    }
+    e
+}
+
+// A row's cycle, or what its line is in place of one.
+fn cycled(
+    plan: &PlanTable,
+    lent: &PlanTable,
+    table: &RowTable,
+    numbers: &RowNumbers,
+    c: Course,
+    row: Row,
+) -> Course {
+    if row.error != 0 {
+        return unfed(c, row);
+    }
+    let old = c.stand;
+    let feed = row.feed;
+    let stand = machine::whole(plan, lent, table, numbers, old, row);
+    let rest = stand.rest;
+    let rested = rest.rested;
+    let mut e = c;
+    e.feed = feed;
+    e.stand = stand;
+    e.fresh = rested;
+    if rested {
+        return e;
+    }
+    let outcome = outcome_of(rest);
+    stopped(e, outcome)
+}
+
+// ---- what is shown of it
+
+// The part of the waveform of the cycle that was run.
+fn waved(p: Plan, c: Course, waves: &mut [u8; 65536]) -> Course {
+    if !p.waved {
+        return c;
+    }
+    let before = c.before;
+    let stand = c.stand;
+    let rows = stand.rows;
+    let w = c.wave;
+    let pos = display::put_cycle(p, c.cycle, &before, &rows, waves, w.pos);
+    let mut v = w;
+    v.pos = pos;
+    let mut e = c;
+    e.wave = v;
+    e
+}
+
+// Its line of the table.
+fn tabled(p: Plan, names: &[u8; 2560], c: Course, text: &mut [u8; 65536]) -> Course {
+    let stand = c.stand;
+    let rows = stand.rows;
+    let pos = if p.last {
+        c.pos
+    } else {
+        display::put_row(p, names, c.cycle, &rows, text, c.pos)
+    };
+    let cycle = stimulus::counted(c.cycle);
+    if cycle % 10000 == 0 {
+        tell(p, cycle);
+    }
+    let mut e = c;
+    e.cycle = cycle;
+    e.pos = pos;
+    e.before = rows;
+    e.fresh = false;
+    e
+}
+
+// What is shown of the cycle that was run, where one was.
+fn shown(
     p: Plan,
-    widths: &[u8],
+    names: &[u8; 2560],
+    path: &[u8],
+    c: Course,
+    text: &mut [u8; 65536],
+    waves: &mut [u8; 65536],
+) -> Course {
+    if !c.fresh {
+        return c;
+    }
+    let d = waved(p, c, waves);
+    let e = tabled(p, names, d, text);
+    spilled(e, path, text, waves)
+}
+
+// ---- the run
+
+// All cycles. Says now and then how far it has come.
+fn turns(
+    p: Plan,
+    plan: &PlanTable,
+    lent: &PlanTable,
+    table: &RowTable,
+    numbers: &RowNumbers,
+    names: &[u8; 2560],
+    path: &[u8],
+    course: Course,
+) -> Outcome {
+    let mut buffer = [0u8; 65536];
+    let mut text = [0u8; 65536];
+    let mut waves = [0u8; 65536];
+    let widths = p.widths;
+    let mut c = opened(p, names, course, &mut text, &mut waves);
+    let mut left = u64::MAX;
+    while left > 0 && c.on {
+        let f = c.feed;
+        if feed::is_dry(f, &buffer) {
+            c = fed(p, c, &text, &mut buffer);
+        } else {
+            let row = feed::next_row(f, &buffer, &widths, p.inputs);
+            c = cycled(plan, lent, table, numbers, c, row);
+            c = shown(p, names, path, c, &mut text, &mut waves);
+        }
+        left -= 1;
+    }
+    let d = closing(p, c, &mut waves);
+    finish(p, names, path, d, &mut text, &waves)
+}
+
+// The titles of the table, and the head of the waveform.
+fn opened(
+    p: Plan,
     names: &[u8; 2560],
     c: Course,
     text: &mut [u8; 65536],
-) -> Outcome {
-    let rest = c.rest;
-    let st = rest.state;
-    let pos = if p.last && c.cycle > 0 {
-        display::put_row(p, widths, names, c.cycle - 1, st, text, c.pos)
-    } else {
-        c.pos
-    };
-    flush(STDOUT_FILENO, text, pos);
-    tell(p, c.cycle);
-    if told(p, c.cycle) {
-        io::write_all(STDERR_FILENO, b"\n");
+    waves: &mut [u8; 65536],
+) -> Course {
+    tell(p, 0);
+    let mut e = c;
+    e.pos = display::put_titles(p, names, text);
+    if !p.waved {
+        return e;
     }
-    c.outcome
+    let before = c.before;
+    let mut w = c.wave;
+    w.pos = display::put_start(p, names, &before, waves);
+    e.wave = w;
+    e
 }
 
-// The table from its titles on.
-fn tabulated(
-    p: Plan,
-    sheet: &[u8],
-    nodes: &[u16; 16384],
-    rows: &[u16; 1056],
-    widths: &[u8],
-    names: &[u8; 2560],
-    fd: i32,
-    rest: Rest,
-) -> Outcome {
-    let mut text = [0u8; 65536];
-    let pos = display::put_titles(p, widths, names, &mut text);
-    let course = Course {
-        on: true,
-        outcome: Outcome::Done,
-        cycle: 0,
-        pos,
-        feed: feed::over(fd),
-        rest,
-    };
-    let c = turns(p, sheet, nodes, rows, widths, names, course, &mut text);
-    finish(p, widths, names, c, &mut text)
+// The waveform's end: the time at which the next cycle would begin.
+fn closing(p: Plan, c: Course, waves: &mut [u8; 65536]) -> Course {
+    if !p.waved {
+        return c;
+    }
+    let mut w = c.wave;
+    w.pos = display::put_close(c.cycle, waves, w.pos);
+    let mut e = c;
+    e.wave = w;
+    e
 }
+
+// The run is over: the last line where only that one is asked for, what waits, and then what kept it from its end.
+fn finish(
+    p: Plan,
+    names: &[u8; 2560],
+    path: &[u8],
+    c: Course,
+    text: &mut [u8; 65536],
+    waves: &[u8; 65536],
+) -> Outcome {
+    let before = c.before;
+    let mut d = c;
+    if p.last && c.cycle > 0 {
+        d.pos = display::put_row(p, names, c.cycle - 1, &before, text, c.pos);
+    }
+    let outcome = c.outcome;
+    let e = spill_wave(d, path, text, waves);
+    tell(p, e.cycle);
+    end_line(p, e.cycle);
+    say_end(p, c);
+    let last = e.outcome;
+    let w = e.wave;
+    wave::closed(w, path, options::joined(outcome, last))
+}
+
+// What kept the run from its end: a line that is wrong, or a cycle that did not come to rest.
+fn say_end(p: Plan, c: Course) {
+    if c.error != 0 {
+        feed::say(c.feed, c.column, c.error);
+    }
+    let stand = c.stand;
+    let rest = stand.rest;
+    if !rest.rested {
+        machine::say_unrest(p.index, c.cycle, rest);
+    }
+}
+
+// ---- its start
 
 // Did it come to rest from the start? If not, says why.
 pub fn started(index: usize, rest: Rest) -> bool {
@@ -198,70 +371,173 @@ fn outcome_of(rest: Rest) -> Outcome {
     driving::outcome_of(e)
 }
 
+// Before the first cycle.
+fn course_of(p: Plan, fd: i32, stand: Stand, wave: Wave) -> Course {
+    let before = stand.rows;
+    Course {
+        on: true,
+        outcome: Outcome::Done,
+        cycle: 0,
+        pos: 0,
+        feed: feed::over(p.index, fd),
+        error: 0,
+        column: 0,
+        wave,
+        fresh: false,
+        before,
+        stand,
+    }
+}
+
+// Is the run to be held back, or is a word to be said first, where extraction refuses the module?
+fn unextracted(o: RunOptions, sheet: &[u8], names: &[u8; 2560]) -> bool {
+    let way = o.way;
+    if driving::is_expressed(way) {
+        report::refuse_extraction(o.sheet, sheet, names);
+        return true;
+    }
+    if !o.silent {
+        report::one_order(o.sheet, sheet, names);
+    }
+    false
+}
+
+// Extraction's tables, laid out for a run.
+fn laid_out(
+    sheet: &[u8],
+    nodes: &[u16; 16384],
+    rows: &[u16; 1056],
+    plan: &mut PlanTable,
+    lent: &mut PlanTable,
+    table: &mut RowTable,
+    numbers: &mut RowNumbers,
+) -> bool {
+    cycles::prepare(sheet, nodes, rows, plan, lent, table, numbers) == 0
+}
+
+// The extracted expressions, laid out for a run. Is the module extracted?
+pub fn tabled_out(
+    sheet: &[u8],
+    plan: &mut PlanTable,
+    lent: &mut PlanTable,
+    table: &mut RowTable,
+    numbers: &mut RowNumbers,
+) -> bool {
+    let mut nodes = [0u16; 16384];
+    let mut rows = [0u16; 1056];
+    if !extracted(sheet, &mut nodes, &mut rows) {
+        return false;
+    }
+    laid_out(sheet, &nodes, &rows, plan, lent, table, numbers)
+}
+
 // The run, from its start state and the expressions on.
 fn run_on(
     o: RunOptions,
     p: Plan,
     sheet: &[u8],
-    widths: &[u8],
     names: &[u8; 2560],
     fd: i32,
+    target: wave::Target,
+    path: &[u8],
 ) -> Outcome {
+    let mut plan = [0u32; 25212];
+    prepared::prepare(sheet, &mut plan);
     let way = o.way;
-    let rest = machine::begin(p, sheet, way);
+    let stand = machine::begin(p, &plan, way);
+    let rest = stand.rest;
     if !started(o.sheet, rest) {
         return outcome_of(rest);
     }
-    let st = rest.state;
-    display::begin_wave(p, widths, names, st);
-    let mut nodes = [0u16; 16384];
-    let mut rows = [0u16; 1056];
-    if halves::is_expressed(way) && !extracted(sheet, &mut nodes, &mut rows) {
-        report::refuse_extraction(o.sheet, sheet, names);
-        return Outcome::Refused;
+    let mut lent = [0u32; 25212];
+    let mut table = [0u32; 1152];
+    let mut numbers = [0u8; 2048];
+    if !tabled_out(sheet, &mut plan, &mut lent, &mut table, &mut numbers) {
+        if unextracted(o, sheet, names) {
+            return Outcome::Refused;
+        }
     }
-    tabulated(p, sheet, &nodes, &rows, widths, names, fd, rest)
-}
-
-// The waveform's descriptor, -1 where none is asked for; -2 where it could not be made.
-fn wave_of(index: usize) -> i32 {
-    if index == 0 {
-        return -1;
+    let w = wave::made(target, path);
+    if !w.good {
+        return Outcome::Mistaken;
     }
-    let fd = open_output(index);
-    if fd < 0 { -2 } else { fd }
+    let c = course_of(p, fd, stand, w);
+    turns(p, &plan, &lent, &table, &numbers, names, path, c)
 }
 
 // What a run goes by.
-fn plan_of(o: RunOptions, layout: Layout, wave: i32) -> Plan {
+fn plan_of(o: RunOptions, layout: Layout, sheet: &[u8]) -> Plan {
+    let widths = machine::widths_of(sheet);
     Plan {
         inputs: layout.inputs,
         registers: layout.registers,
         wires: layout.wires,
         threads: layout.threads,
+        widths,
+        sheet: o.sheet,
         index: o.inputs,
         shown: o.wires,
         last: o.last,
         told: o.progress,
-        wave,
+        waved: o.vcd != 0,
     }
 }
 
-// `run`: a sheet that is read, and its widths.
+// The run, by the name of its waveform from a place on.
+fn run_from(
+    o: RunOptions,
+    p: Plan,
+    sheet: &[u8],
+    names: &[u8; 2560],
+    fd: i32,
+    target: wave::Target,
+    path: &[u8],
+    from: usize,
+) -> Outcome {
+    let to = target.length;
+    if from > to || to > path.len() {
+        return Outcome::Mistaken;
+    }
+    run_on(o, p, sheet, names, fd, target, &path[from..to])
+}
+
+// The run, by the name of its waveform.
+fn run_to(
+    o: RunOptions,
+    p: Plan,
+    sheet: &[u8],
+    names: &[u8; 2560],
+    fd: i32,
+    target: wave::Target,
+    path: &[u8; 4096],
+) -> Outcome {
+    run_from(o, p, sheet, names, fd, target, path, 0)
+}
+
+// `run`: a sheet that is read, by a descriptor.
 pub fn run(
     o: RunOptions,
+    source: i32,
     sheet: &[u8],
     layout: Layout,
-    widths: &[u8],
     names: &[u8; 2560],
 ) -> Outcome {
     let fd = open_input(o.inputs);
     if fd < 0 {
         return Outcome::Mistaken;
     }
-    let wave = wave_of(o.vcd);
-    if wave == -2 {
+    let mut path = io::buffer();
+    let target = wave::target_of(o.vcd, source, fd, &mut path);
+    if !target.good {
         return Outcome::Mistaken;
     }
-    run_on(o, plan_of(o, layout, wave), sheet, widths, names, fd)
+    run_to(
+        o,
+        plan_of(o, layout, sheet),
+        sheet,
+        names,
+        fd,
+        target,
+        &path,
+    )
 }

@@ -1,5 +1,6 @@
 // `list`, `check`, `verilog` and `sheet`: what a module holds.
-use crate::files::flush;
+use crate::files::show;
+use crate::files::show_word;
 use crate::report;
 use libc::STDOUT_FILENO;
 use options::Outcome;
@@ -10,8 +11,7 @@ use writing::put_word;
 pub fn list(sheet: &[u8]) -> Outcome {
     let mut text = [0u8; 65536];
     let listing = listings::list(sheet, &mut text);
-    flush(STDOUT_FILENO, &text, listing.length);
-    Outcome::Done
+    show(&text, listing.length)
 }
 
 // `verilog`: the module as Verilog text.
@@ -22,16 +22,14 @@ pub fn print_verilog(index: usize, sheet: &[u8]) -> Outcome {
         report::wrong_with(index, b": its Verilog is 65,536 bytes or longer\n", 0);
         return Outcome::Refused;
     }
-    flush(STDOUT_FILENO, &text, v.length);
-    Outcome::Done
+    show(&text, v.length)
 }
 
 // `sheet`: the module as a sheet, in hexadecimal text.
 pub fn print_sheet(sheet: &[u8]) -> Outcome {
     let mut text = [0u8; 65536];
     let p = sources::put_sheet(sheet, &mut text, 0);
-    flush(STDOUT_FILENO, &text, p);
-    Outcome::Done
+    show(&text, p)
 }
 
 // ---- waits
@@ -51,36 +49,43 @@ pub fn extracted(sheet: &[u8], nodes: &mut [u16; 16384], rows: &mut [u16; 1056])
 }
 
 // Whether extraction accepts it, and how many nodes and rows there are.
-fn say_extraction(sheet: &[u8], names: &[u8; 2560], waits: usize) {
+fn say_extraction(sheet: &[u8], names: &[u8; 2560], waits: usize) -> Outcome {
     let mut nodes = [0u16; 16384];
     let mut rows = [0u16; 1056];
-    io::write_all(STDOUT_FILENO, b"extraction: ");
+    let head = show_word(b"extraction: ");
+    if options::status_of(head) != 0 {
+        return head;
+    }
     if !extracted(sheet, &mut nodes, &mut rows) {
-        report::unextracted(STDOUT_FILENO, sheet, names);
-        return;
+        return options::joined(
+            report::unextracted(STDOUT_FILENO, sheet, names),
+            Outcome::Refused,
+        );
     }
     let mut text = [0u8; 65536];
     let p = put_word(b"accepted, ", &mut text, 0);
     let q = overview::put_sizes(netlist::node_count(&nodes), waits, &mut text, p);
-    flush(STDOUT_FILENO, &text, q);
+    show(&text, q)
 }
 
 // What the sheet declares, and what each thread holds.
-fn say_counts(sheet: &[u8], layout: Layout) {
+fn say_counts(sheet: &[u8], layout: Layout) -> Outcome {
     let mut code = [0u16; 4096];
     let sizes = pseudocode::compile(sheet, layout.threads, layout.body, &mut code);
     let mut text = [0u8; 65536];
     let p = overview::put_counts(sheet.len(), layout, &mut text, 0);
     let q = overview::put_threads(sheet, &code, &sizes, layout.threads, &mut text, p);
-    flush(STDOUT_FILENO, &text, q);
+    show(&text, q)
 }
 
 // `check`: what a sheet holds that is read.
 pub fn check(sheet: &[u8], names: &[u8; 2560]) -> Outcome {
     let layout = sheet::read(sheet).layout;
-    say_counts(sheet, layout);
+    let counts = say_counts(sheet, layout);
+    if options::status_of(counts) != 0 {
+        return counts;
+    }
     let mut heads = [0usize; 32];
     let waits = find_waits(sheet, layout, &mut heads);
-    say_extraction(sheet, names, waits);
-    Outcome::Done
+    say_extraction(sheet, names, waits)
 }

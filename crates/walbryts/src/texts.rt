@@ -74,9 +74,9 @@ fn underived(index: usize, text: &[u8], place: usize) {
     say_note(text, place);
 }
 
-// A text whose sheet is refused: the item that the byte was written from.
+// A text whose sheet is refused: the name that the byte comes before, or the item that it was written from.
 fn unwritten(index: usize, text: &[u8], number: u8, place: usize) {
-    let at = verilog_origins::origin(text, place);
+    let at = verilog_origins::point(text, place);
     say_place(STDERR_FILENO, index, text, number, at);
     let mut out = [0u8; 65536];
     let a = put_word(b"  allowed: ", &mut out, 0);
@@ -112,8 +112,9 @@ fn module_word(w: Words) -> usize {
     match r {
         Request::Asked(c) => options::sheet_of(c),
         Request::Help => 0,
-        Request::Short => 0,
-        Request::Wrong(_) => 0,
+        Request::Version => 0,
+        Request::Short(_) => 0,
+        Request::Wrong(_, _) => 0,
     }
 }
 
@@ -135,11 +136,13 @@ fn say_item(fd: i32, index: usize, sheet: &[u8], w: Witness, text: &[u8]) {
     say_place(fd, index, text, w.number, place);
 }
 
-// The same in the first bytes of a buffer.
+// The same in the first bytes of a buffer, behind a byte order mark.
 fn say_first(fd: i32, index: usize, sheet: &[u8], w: Witness, text: &[u8], n: usize) {
-    if n <= text.len() {
-        say_item(fd, index, sheet, w, &text[..n]);
+    let from = sources::mark_size(text);
+    if from > n || n > text.len() {
+        return;
     }
+    say_item(fd, index, sheet, w, &text[from..n]);
 }
 
 // The number of a rule of extraction; for a text with the place and the line of what breaks it, else behind a file's name where one is

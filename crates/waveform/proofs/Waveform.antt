@@ -1,17 +1,25 @@
--- Laws of the dump: what a variable is declared as, and that a value's figures are as many as it is wide and read back.
+-- Laws of the dump: what a variable is declared as, and that a value's figures, shortened as they are, read back.
 -- Assumes nothing.
-use mathlib.Core.Path.{_≡_, refl, ap, _∙_}
+use mathlib.Core.Path.{_≡_, refl, sym, ap, _∙_}
+use mathlib.Core.Bool.{Bool, true, false}
 use mathlib.Core.Logic.{_≢_}
-use mathlib.Core.List.{List, [], _∷_, _++_}
+use mathlib.Core.List.{List, [], _∷_, _++_, map, append-assoc}
 use Prim.Native.Nat.{ℕ, zero, suc, _+_, _-_, _*_, _/_, _%_, _^_, _≤_, _<_}
 use native.Mathlib.Nat.{pow-suc}
+use native.Mathlib.Numerals.{add-one}
 use native.Mathlib.Omega.{arith}
-use borrow.Author.Tests.{lt-ltb, le-ltb, eq-eqb, ne-eqb}
-use lib.ListN.{length, length-append}
+use borrow.Author.Tests.{lt-ltb, le-ltb, ltb-true, eq-eqb, ne-eqb}
+use lib.Dec.{ltb}
+use lib.ListN.{length, getD, drop, length-append, drop-of-length-le, replicate}
+use lib.Seq.{drop-cons}
 use Rattle.values.specs.declared.Value.{Value}
+use Rattle.values.specs.Values.{pick}
 use Rattle.writing.specs.Ascii.{ascii, byte}
 use Rattle.writing.specs.Numbers.{digit}
-use Rattle.waveform.specs.Waveform.{ident, kindOf, binary, figures, valueLine}
+use Rattle.writing.specs.Buffer.{Text, puts}
+use Rattle.writing.proofs.Buffer.{puts-nil, puts-append}
+use Rattle.waveform.specs.Waveform.{ident, kindOf, commentByte, shortened, figures, valueLine}
+use Rattle.waveform.specs.Claims.{binary, number, LeftExtended, ReadsBack}
 
 -- ---- kindOf: inputs, registers, wires
 
@@ -28,39 +36,95 @@ module _ (inputs registers v : ℕ) where
   unfolding kindOf
   kind-wire h l = rw (le-ltb v inputs h, le-ltb v (inputs + registers) l)
 
--- ---- binary
+-- ---- commentByte
 
-pub binary-none : (w n : ℕ) → w ≡ 0 → binary w n ≡ []
+module _ (b : ℕ) where
+  pub comment-low : b < 32 → commentByte b ≡ byte "_"
+  unfolding commentByte
+  comment-low h = rw (lt-ltb b 32 h)
+
+  pub comment-dollar : 32 ≤ b → b ≡ byte "$" → commentByte b ≡ byte "_"
+  unfolding commentByte
+  comment-dollar h e = rw (le-ltb b 32 h, eq-eqb b (byte "$") e)
+
+  pub comment-other : 32 ≤ b → b ≢ byte "$" → commentByte b ≡ b
+  unfolding commentByte
+  comment-other h e = rw (le-ltb b 32 h, ne-eqb b (byte "$") e)
+
+-- One byte of a comment written, and the rest to come.
+pub comment-step : (t u : Text) (file : List ℕ) (i : ℕ) → i < length file → u ≡ puts t (commentByte (getD file i 0) ∷ [])
+    → puts u (map commentByte (drop (i + 1) file)) ≡ puts t (map commentByte (drop i file))
+comment-step t u file i h e =
+    let rest = map commentByte (drop (suc i) file) in
+    rw (add-one, drop-cons file i 0 h)
+    (ap (λ x. puts x rest) e ∙ sym (puts-append t (commentByte (getD file i 0) ∷ []) rest))
+
+pub comment-end : (t : Text) (file : List ℕ) (i : ℕ) → length file ≤ i → puts t (map commentByte (drop i file)) ≡ t
+comment-end t file i h = rw (drop-of-length-le file h) (puts-nil t)
+
+-- ---- shortened
+
+module _ (w n : ℕ) where
+  pub shortened-none : w ≡ 0 → shortened w n ≡ []
+  unfolding shortened
+  shortened-none e = rw e refl
+
+  pub shortened-one : w ≢ 0 → n < 2 → shortened w n ≡ digit n ∷ []
+  unfolding shortened
+  shortened-one h l = let e : w ≡ suc (w - 1) = omega (arith, h) in rw (e, lt-ltb n 2 l)
+
+  pub shortened-more : w ≢ 0 → 2 ≤ n → shortened w n ≡ shortened (w - 1) (n / 2) ++ (digit (n % 2) ∷ [])
+  unfolding shortened
+  shortened-more h l = by w refl
+    where
+      by : (k : ℕ) → w ≡ k → shortened k n ≡ shortened (k - 1) (n / 2) ++ (digit (n % 2) ∷ [])
+      by zero e = absurd (h e)
+      by (suc k) e = let z : suc k - 1 ≡ k = omega arith in rw (z, le-ltb n 2 l)
+
+-- ---- the claims
+
+zeros : (w : ℕ) → binary w 0 ≡ replicate w (byte "0")
 unfolding binary
-binary-none w n e = rw e refl
+zeros zero = refl
+zeros (suc w) = ap (λ l. l ++ (byte "0" ∷ [])) (zeros w) ∙ replicate-last w (byte "0")
+  where
+    replicate-last : (w b : ℕ) → replicate w b ++ (b ∷ []) ≡ replicate (suc w) b
+    replicate-last zero b = refl
+    replicate-last (suc w) b = ap (λ l. b ∷ l) (replicate-last w b)
 
-pub binary-more : (w n : ℕ) → w ≢ 0 → binary w n ≡ binary (w - 1) (n / 2) ++ (digit (n % 2) ∷ [])
-unfolding binary
-binary-more zero n h = absurd (h refl)
-binary-more (suc w) n h = let e : suc w - 1 ≡ w = omega arith in rw e
-
-pub length-binary : (w n : ℕ) → length (binary w n) ≡ w
-unfolding binary
-length-binary zero n = refl
-length-binary (suc w) n = length-append (binary w (n / 2)) (digit (n % 2) ∷ []) ∙ rw (length-binary w (n / 2)) (omega arith)
-
--- The number whose figures are these, behind a number that was read already.
-unfoldable pub number : ℕ → List ℕ → ℕ
-number a [] = a
-number a (d ∷ ds) = number (a * 2 + (d - byte "0")) ds
+pub left-extended : LeftExtended
+unfolding shortened binary
+left-extended zero n = refl
+left-extended (suc w) n = by (ltb n 2) refl (left-extended w (n / 2))
+  where
+    by : (x : Bool) → ltb n 2 ≡ x
+        → replicate (w - length (shortened w (n / 2))) (byte "0") ++ shortened w (n / 2) ≡ binary w (n / 2)
+        → replicate (suc w - length (pick x (digit n ∷ []) (shortened w (n / 2) ++ (digit (n % 2) ∷ [])))) (byte "0")
+        ++ pick x (digit n ∷ []) (shortened w (n / 2) ++ (digit (n % 2) ∷ []))
+        ≡ binary w (n / 2) ++ (digit (n % 2) ∷ [])
+    by true q rest =
+        let l = ltb-true n 2 q in
+        let z : n / 2 ≡ 0 = omega arith in
+        let o : n % 2 ≡ n = omega arith in
+        let k : suc w - 1 ≡ w = omega arith in
+        rw (z, o, k, zeros w)
+    by false q rest =
+        let s = shortened w (n / 2) in
+        let d = digit (n % 2) ∷ [] in
+        let k : suc w - length (s ++ d) ≡ w - length s = rw length-append (omega arith) in
+        rw k (sym (append-assoc (replicate (w - length s) (byte "0")) s d) ∙ ap (λ l. l ++ d) rest)
 
 number-append : (a : ℕ) (ds es : List ℕ) → number a (ds ++ es) ≡ number (number a ds) es
 unfolding number
 number-append a [] es = refl
 number-append a (d ∷ ds) es = number-append (a * 2 + (d - byte "0")) ds es
 
--- Every number that fits the width reads back.
-pub number-binary : (w n : ℕ) → n < 2 ^ w → number 0 (binary w n) ≡ n
+pub reads-back : ReadsBack
 unfolding number binary
-number-binary zero n h = omega arith
-number-binary (suc w) n h =
+reads-back zero n h = omega arith
+reads-back (suc w) n h =
     number-append 0 (binary w (n / 2)) (digit (n % 2) ∷ [])
-    ∙ ap (λ x. number x (digit (n % 2) ∷ [])) (number-binary w (n / 2) (omega (arith, pow-suc 2 w)))
+    ∙ ap (λ x. number x (digit (n % 2) ∷ [])) (reads-back w (n / 2) (omega (arith, pow-suc 2 w)))
     ∙ omega arith
 
 -- ---- valueLine: one bit, more bits

@@ -1,1 +1,2 @@
 pub mod Waveform
+pub mod Claims

@@ -1,6 +1,6 @@
 -- A run as a value change dump (VCD, IEEE 1364-2005, clause 18): the header, time lines, values and changes.
 use Prim.Native.Nat.{ℕ, zero, suc, _+_, _/_, _%_}
-use mathlib.Core.List.{List, [], _∷_, _++_}
+use mathlib.Core.List.{List, [], _∷_, _++_, map}
 use lib.ListN.{getD}
 use lib.Dec.{ltb, eqb}
 use Rattle.values.specs.declared.Value.{Value}
@@ -9,6 +9,7 @@ use Rattle.values.specs.Values.{pick, same}
 use Rattle.writing.specs.Ascii.{ascii, byte}
 use Rattle.writing.specs.Numbers.{digit, decimal}
 use Rattle.naming.specs.Naming.{nameOf, within, texts}
+use Rattle.waveform.specs.declared.Counts.{Counts}
 
 -- A variable's identifier code is one character: !, ", #, ..
 abbrev pub ident : ℕ → ℕ
@@ -35,10 +36,20 @@ declaration widths names inputs registers v =
 unfoldable pub declarations : List ℕ → List ℕ → ℕ → ℕ → ℕ → List ℕ
 declarations widths names inputs registers n = texts (declaration widths names inputs registers) (within n) 0
 
-unfoldable pub header : List ℕ → List ℕ → ℕ → ℕ → ℕ → List ℕ
-header widths names inputs registers wires =
-    ascii "$timescale 1 ns $end\n$scope module walbryts $end\n"
-    ++ (declarations widths names inputs registers (inputs + registers + wires)
+-- The module's file is named in a comment. "$end" would end it, so `$` is shown as `_` there, and so is a byte below the blank.
+unfoldable pub commentByte : ℕ → ℕ
+commentByte b = pick (ltb b 32) (byte "_") (pick (eqb b (byte "$")) (byte "_") b)
+
+unfoldable pub front : List ℕ → List ℕ
+front file =
+    ascii "$version Walbryts $end\n$comment "
+    ++ (map commentByte file
+    ++ ascii " $end\n$timescale 1 ns $end\n$scope module walbryts $end\n")
+
+unfoldable pub header : List ℕ → List ℕ → Counts → List ℕ → List ℕ
+header widths names m file =
+    front file
+    ++ (declarations widths names (m .inputs) (m .registers) (m .inputs + m .registers + m .wires)
     ++ ascii "$upscope $end\n$enddefinitions $end\n")
 
 -- ---- a time: "# decimal_number"
@@ -46,15 +57,16 @@ header widths names inputs registers wires =
 unfoldable pub timeLine : ℕ → List ℕ
 timeLine t = (byte "#" ∷ decimal t) ++ (byte "\n" ∷ [])
 
--- ---- a value: a bit is its figure and the code; more bits are b, as many figures as the variable is wide, most
--- significant first, a space and the code. x stands for every figure.
+-- ---- a value: a bit is its figure and the code; more bits are b, the figures, most significant first, a space and the code. x
+-- stands for every figure. Zeros in front are left out ("left-extended" by 0 when read), one figure stays.
 
-unfoldable pub binary : ℕ → ℕ → List ℕ
-binary zero n = []
-binary (suc w) n = binary w (n / 2) ++ (digit (n % 2) ∷ [])
+-- At most so many figures of a number, the lowest where it has more.
+unfoldable pub shortened : ℕ → ℕ → List ℕ
+shortened zero n = []
+shortened (suc w) n = pick (ltb n 2) (digit n ∷ []) (shortened w (n / 2) ++ (digit (n % 2) ∷ []))
 
 unfoldable pub figures : ℕ → Value → List ℕ
-figures w (Known n) = binary w n
+figures w (Known n) = shortened w n
 figures w Unknown = byte "x" ∷ []
 
 unfoldable pub valueLine : ℕ → ℕ → Value → List ℕ

@@ -1,20 +1,28 @@
 // A run as a value change dump (VCD, IEEE 1364), put into a lent buffer piece by piece.
 use sheet::byte_at;
+use trace_row::value_in;
 use values::Value;
 use writing::put_byte;
 use writing::put_marked;
 use writing::put_word;
 ghost use mathlib.Core.Path.{_≡_};
-ghost use mathlib.Core.List.{_∷_, []};
+ghost use mathlib.Core.List.{_∷_, [], map};
 ghost use Prim.Native.Nat.{_+_, _<_};
 ghost use lib.ListN.{getD};
-ghost use Rattle.values.specs.Planes.{valueAt};
+ghost use Rattle.cells.specs.Cells.{cellAt};
 ghost use Rattle.values.specs.Values.{pick, same};
 ghost use Rattle.writing.specs.Ascii.{byte};
 ghost use Rattle.writing.specs.Buffer.{filled, puts};
 ghost use Rattle.naming.specs.Naming.{within, texts};
-ghost use Rattle.waveform.specs.Waveform.{ident, kindOf, declaration, declarations, header, timeLine};
-ghost use Rattle.waveform.specs.Waveform.{binary, figures, valueLine, valueOf, allValues, changes};
+ghost use Rattle.waveform.specs.Waveform.{ident, kindOf, declaration, declarations, commentByte, front, header, timeLine};
+ghost use Rattle.waveform.specs.Waveform.{shortened, figures, valueLine, valueOf, allValues, changes};
+
+// How many of each kind a module has.
+pub struct Counts {
+    pub inputs: u8,
+    pub registers: u8,
+    pub wires: u8,
+}
 
 // A byte as a number of places.
 fn wide(b: u8) -> usize
@@ -93,25 +101,61 @@ fn put_declarations(
     p
 }
 
-// The header of a dump.
+// A byte of a comment.
+fn comment_byte(b: u8) -> u8
+    ensures { λ r. ⌜ r ≡ commentByte b ⌝ }
+{
+    if b < 32 {
+        return b'_';
+    }
+    if b == b'$' {
+        return b'_';
+    }
+    b
+}
+
+// A text in a comment.
+fn put_comment(file: &[u8], text: &mut [u8; 65536], pos: usize) -> usize
+    ensures { λ r. ⌜ filled (now (text .exit)) r ≡ puts (filled (now (text .entry)) pos) (map commentByte (now (file .entry))) ⌝ }
+{
+    let mut p = pos;
+    let mut i = 0;
+    while i < file.len() {
+        p = put_byte(comment_byte(file[i]), text, p);
+        i += 1;
+    }
+    p
+}
+
+// The lines in front of the declarations.
+fn put_front(file: &[u8], text: &mut [u8; 65536], pos: usize) -> usize
+    ensures { λ r. ⌜ filled (now (text .exit)) r ≡ puts (filled (now (text .entry)) pos) (front (now (file .entry))) ⌝ }
+{
+    let p = put_word(b"$version Walbryts $end\n$comment ", text, pos);
+    let q = put_comment(file, text, p);
+    put_word(
+        b" $end\n$timescale 1 ns $end\n$scope module walbryts $end\n",
+        text,
+        q,
+    )
+}
+
+// The header of a dump of a module that stands in a file of that name.
 pub fn print_header(
     widths: &[u8],
     names: &[u8; 2560],
-    inputs: u8,
-    registers: u8,
-    wires: u8,
+    m: Counts,
+    file: &[u8],
     text: &mut [u8; 65536],
     pos: usize,
 ) -> usize
     ensures { λ r. ⌜ filled (now (text .exit)) r ≡ puts (filled (now (text .entry)) pos)
-        (header (now (widths .entry)) (now (names .entry)) inputs registers wires) ⌝ }
+        (header (now (widths .entry)) (now (names .entry)) m (now (file .entry))) ⌝ }
 {
-    let n = wide(inputs) + wide(registers) + wide(wires);
-    let p = put_word(
-        b"$timescale 1 ns $end\n$scope module walbryts $end\n",
-        text,
-        pos,
-    );
+    let inputs = m.inputs;
+    let registers = m.registers;
+    let n = wide(inputs) + wide(registers) + wide(m.wires);
+    let p = put_front(file, text, pos);
     let q = put_declarations(widths, names, inputs, registers, n, text, p);
     put_word(b"$upscope $end\n$enddefinitions $end\n", text, q)
 }
@@ -126,14 +170,17 @@ pub fn print_time(t: usize, text: &mut [u8; 65536], pos: usize) -> usize
     put_byte(b'\n', text, p)
 }
 
-// The lowest so many binary figures of a number, most significant first.
-fn put_binary(width: u8, n: u32, text: &mut [u8; 65536], pos: usize) -> usize
-    ensures { λ r. ⌜ filled (now (text .exit)) r ≡ puts (filled (now (text .entry)) pos) (binary width n) ⌝ }
+// The figures of a number, most significant first, without zeros in front; at most so many, and one stays.
+fn put_shortened(width: u8, n: u32, text: &mut [u8; 65536], pos: usize) -> usize
+    ensures { λ r. ⌜ filled (now (text .exit)) r ≡ puts (filled (now (text .entry)) pos) (shortened width n) ⌝ }
 {
     if width == 0 {
         return pos;
     }
-    let p = put_binary(width - 1, n / 2, text, pos);
+    if n < 2 {
+        return put_byte(48 + n as u8, text, pos);
+    }
+    let p = put_shortened(width - 1, n / 2, text, pos);
     put_byte(48 + (n % 2) as u8, text, p)
 }
 
@@ -142,7 +189,7 @@ fn put_figures(width: u8, a: Value, text: &mut [u8; 65536], pos: usize) -> usize
     ensures { λ r. ⌜ filled (now (text .exit)) r ≡ puts (filled (now (text .entry)) pos) (figures width a) ⌝ }
 {
     match a {
-        Value::Known(n) => put_binary(width, n, text, pos),
+        Value::Known(n) => put_shortened(width, n, text, pos),
         Value::Unknown => put_byte(b'x', text, pos),
     }
 }
@@ -172,23 +219,16 @@ fn put_value(width: u8, v: usize, a: Value, text: &mut [u8; 65536], pos: usize) 
 }
 
 // The lines of the values of the first n variables.
-fn put_values<'a>(
-    widths: &[u8],
-    n: usize,
-    value: &'a [u32; 80],
-    unknown: &'a [bool; 80],
-    text: &mut [u8; 65536],
-    pos: usize,
-) -> usize
+fn put_values(widths: &[u8], n: usize, row: &[u64], text: &mut [u8; 65536], pos: usize) -> usize
     ensures { λ r. ⌜ filled (now (text .exit)) r ≡ puts (filled (now (text .entry)) pos)
-        (texts (valueOf (now (widths .entry)) (valueAt (now (value .entry)) (now (unknown .entry)))) (within n) 0) ⌝ }
+        (texts (valueOf (now (widths .entry)) (cellAt (now (row .entry)))) (within n) 0) ⌝ }
 {
     let end = naming::within(n);
     let mut p = pos;
     let mut v: usize = 0;
     while v < end {
         let w = byte_at(widths, v);
-        let a = values::value_at(value, unknown, v);
+        let a = value_in(row, v);
         p = put_value(w, v, a, text, p);
         v += 1;
     }
@@ -196,19 +236,12 @@ fn put_values<'a>(
 }
 
 // The values of the first n variables, as a dump begins.
-pub fn print_all<'a>(
-    widths: &[u8],
-    n: usize,
-    value: &'a [u32; 80],
-    unknown: &'a [bool; 80],
-    text: &mut [u8; 65536],
-    pos: usize,
-) -> usize
+pub fn print_all(widths: &[u8], n: usize, row: &[u64], text: &mut [u8; 65536], pos: usize) -> usize
     ensures { λ r. ⌜ filled (now (text .exit)) r ≡ puts (filled (now (text .entry)) pos)
-        (allValues (now (widths .entry)) n (valueAt (now (value .entry)) (now (unknown .entry)))) ⌝ }
+        (allValues (now (widths .entry)) n (cellAt (now (row .entry)))) ⌝ }
 {
     let p = put_word(b"$dumpvars\n", text, pos);
-    let q = put_values(widths, n, value, unknown, text, p);
+    let q = put_values(widths, n, row, text, p);
     put_word(b"$end\n", text, q)
 }
 
@@ -232,28 +265,25 @@ fn put_change(
 }
 
 // The values of those of the first n variables that differ.
-pub fn print_changes<'a>(
+pub fn print_changes(
     widths: &[u8],
     n: usize,
-    before: &'a [u32; 80],
-    blank: &'a [bool; 80],
-    value: &'a [u32; 80],
-    unknown: &'a [bool; 80],
+    old: &[u64],
+    new: &[u64],
     text: &mut [u8; 65536],
     pos: usize,
 ) -> usize
     ensures { λ r. ⌜ filled (now (text .exit)) r ≡ puts (filled (now (text .entry)) pos)
-        (changes (now (widths .entry)) n (valueAt (now (before .entry)) (now (blank .entry)))
-        (valueAt (now (value .entry)) (now (unknown .entry)))) ⌝ }
+        (changes (now (widths .entry)) n (cellAt (now (old .entry))) (cellAt (now (new .entry)))) ⌝ }
 {
     let end = naming::within(n);
     let mut p = pos;
     let mut v: usize = 0;
     while v < end {
         let w = byte_at(widths, v);
-        let old = values::value_at(before, blank, v);
-        let new = values::value_at(value, unknown, v);
-        p = put_change(w, v, old, new, text, p);
+        let a = value_in(old, v);
+        let b = value_in(new, v);
+        p = put_change(w, v, a, b, text, p);
         v += 1;
     }
     p

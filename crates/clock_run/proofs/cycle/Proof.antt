@@ -30,12 +30,12 @@ returns-3 c =
     let r = c .before .before .before .before in
     let s = r .before .before .before in
     let p = s .before .before in
-    let u = p .before .before .before .before .before .before .before in
+    let u = p .before .before .before .before in
     let h = u .before in
-    let i = h .before .before .before in
+    let i = h .before .before .before .before .before in
     let j = i .before .before in
     let a = j .before .before .args in
-    cycled (planOf (a .plan .now)) (nodeAt (a .lent .now)) (a .table .now) (a .numbers .now) (a .before) (a .t6)
+    cycled (planOf (a .plan .now)) (nodeAt (a .lent .now)) (a .table .now) (a .numbers .now) (a .before) (a .given)
     (sym (j .before .registers-fit .ensures) ∙ not-false _ (j .if1 .left))
     (sym (i .before .inputs-fit .ensures) ∙ not-false _ (i .if2 .left))
     (u .upper .ensures .0) (h .hand .ensures) (p .put-items .ensures) (s .settle .ensures) (r .rise .ensures)
@@ -54,6 +54,8 @@ cycle-spec =
     returns-2
     (λ c κs. search needs)
     (λ c κs. search needs)
+    (λ c. search needs)
+    (λ c. search needs)
     (λ c κs. search needs)
     (λ c κs. search needs)
     (λ c κs. search needs)

@@ -25,7 +25,7 @@ loop-again c =
     let l = s .before .before .before in
     let a = l .before .before .before .args in (
       omega arith,
-      items-more (a .value .now) (a .unknown .now) (a .at) _ _ (l .loop .inv .1) (s .before .value-at .ensures) (s .store .ensures)
+      items-more (a .value .now) (a .unknown .now) (a .at) _ _ (l .loop .inv .1) (s .before .item-at .ensures) (s .store .ensures)
           (c .put-cell .ensures),
     )
 

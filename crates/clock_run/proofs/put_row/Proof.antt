@@ -3,17 +3,18 @@ use mathlib.Core.Path.{_≡_, refl, _∙_}
 use Prim.Native.Nat.{_-_, _≤_}
 use native.Mathlib.Omega.{arith}
 use lib.ListN.{length, length-set}
-use Rattle.clock_run.specs.Traces.{putWords}
+use Rattle.clock_run.specs.Traces.{wordOf, putWords}
 use Rattle.clock_run.proofs.Turns.{words-none, words-more}
 use borrow.Author.Needs.{needs}
 use Rattle.clock_run.proofs.put_row.Statement.{statement}
 use Rattle.clock_run.proofs.put_row.Tie as tie
 
 abbrev Inv-loop : tie.InvT-loop
-Inv-loop c at out₀ k₀ out k = (k ≤ 72) × (length out ≡ length out₀) × (out ≡ putWords c at k out₀)
+Inv-loop first end clock cells places at out₀ k₀ out k =
+    (k ≤ 88) × (length out ≡ length out₀) × (out ≡ putWords (wordOf first end clock cells places) at k out₀)
 
 abbrev μ-loop : tie.MeasureT-loop
-μ-loop c at out₀ k₀ out k = 72 - k
+μ-loop first end clock cells places at out₀ k₀ out k = 88 - k
 
 loop-holds : tie.Need-loop-holds Inv-loop μ-loop
 loop-holds c = (omega arith, refl, words-none _ _ _)
@@ -25,7 +26,7 @@ loop-again c =
 
 returns : tie.Need-returns Inv-loop μ-loop
 returns c =
-    let e : c .before .loop .k ≡ 72 = omega arith in
+    let e : c .before .loop .k ≡ 88 = omega arith in
     rw e at (c .before .loop .inv .2)
 
 pub put-row-spec : {M : Type 1} → statement M

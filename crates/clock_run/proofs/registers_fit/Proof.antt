@@ -11,7 +11,7 @@ returns : tie.Need-returns
 unfolding registersFitOn
 returns c =
     let v = c .before in
-    let n = v .before .before .before .before .before .before in
+    let n = v .before .before .before .before .before in
     let a = n .before .before .args in
     rw (values-judged (planOf (a .plan .now)) (a .t2) (n .before .inputs .ensures) (n .registers .ensures) (v .values-fit .ensures)
     (not-true _ (c .if1 .taken)))
@@ -21,7 +21,7 @@ unfolding registersFitOn
 returns-2 c =
     let i = c .before .before .before in
     let v = i .before in
-    let n = v .before .before .before .before .before .before in
+    let n = v .before .before .before .before .before in
     let a = n .before .before .args in
     rw (values-judged (planOf (a .plan .now)) (a .t2) (n .before .inputs .ensures) (n .registers .ensures) (v .values-fit .ensures)
     (not-false _ (i .if1 .left)))
@@ -33,6 +33,8 @@ registers-fit-spec =
     (tie.spec
     (λ c κs. search needs)
     (λ c κs. search needs)
+    (λ c. search needs)
+    (λ c. search needs)
     (λ c κs. search needs)
     returns
     (λ c κs. search needs)

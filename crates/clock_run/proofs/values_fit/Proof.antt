@@ -38,7 +38,7 @@ returns c =
     let p = l .before .before .before .args in
     let t = not-true (f .fits2 .result) (c .if1 .taken) in
     all-fails (test (p .plan .now) (p .from) (p .value .now) (p .unknown .now) (p .at)) (l .loop .v) (p .n) (w .before .loop-test .taken)
-    (value-found (w .width .ensures) (f .before .value-at .ensures) (f .fits2 .ensures) t)
+    (value-found (w .width .ensures) (f .before .item-at .ensures) (f .fits2 .ensures) t)
 
 loop-again : tie.Need-loop-again Inv-loop μ-loop
 loop-again c =
@@ -49,7 +49,7 @@ loop-again c =
     let t = not-false (f .fits2 .result) (c .if1 .left) in (
       omega arith,
       all-more (test (p .plan .now) (p .from) (p .value .now) (p .unknown .now) (p .at)) (l .loop .v) (l .loop .inv .1)
-          (value-found (w .width .ensures) (f .before .value-at .ensures) (f .fits2 .ensures) t),
+          (value-found (w .width .ensures) (f .before .item-at .ensures) (f .fits2 .ensures) t),
     )
 
 returns-2 : tie.Need-returns-2 Inv-loop μ-loop

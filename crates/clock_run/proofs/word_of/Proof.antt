@@ -1,45 +1,47 @@
--- `clock_run::word_of` meets its contract. Assumes nothing.
-use borrow.Author.Tests.{lt-ltb, le-ltb}
-use Rattle.clock_run.specs.Traces.{wordOf}
+-- `clock_run::word_of` meets its contract, by the kinds of words. Assumes nothing.
+use native.Mathlib.Omega.{arith}
+use Rattle.clock_run.proofs.Turns.{word-clock, word-place, word-kept, word-wire, word-past}
 use borrow.Author.Needs.{needs}
 use Rattle.clock_run.proofs.word_of.Statement.{statement}
 use Rattle.clock_run.proofs.word_of.Tie as tie
 
 returns : tie.Need-returns
-unfolding wordOf
-returns c = rw (lt-ltb _ 32 (c .before .before .before .if1 .taken)) (c .marked .ensures)
+returns c = word-clock _ _ _ _ _ _ (c .if1 .taken)
 
 returns-2 : tie.Need-returns-2
-unfolding wordOf
 returns-2 c =
-    let i = c .before .before in
-    rw (le-ltb _ 32 (i .before .if1 .left), lt-ltb _ 40 (i .if2 .taken)) (c .long .ensures)
+    word-place _ _ _ _ _ _ (c .before .before .before .if1 .left) (c .before .before .if2 .taken) (c .long .ensures)
 
 returns-3 : tie.Need-returns-3
-unfolding wordOf
 returns-3 c =
-    let i = c .before .before .before in
-    rw (le-ltb _ 32 (i .before .before .if1 .left), le-ltb _ 40 (i .before .if2 .left), lt-ltb _ 72 (i .if3 .taken)) (c .marked2 .ensures)
+    word-kept _ _ _ _ _ _ (c .before .before .before .if1 .left) (omega (arith, c .before .before .if2 .left))
+    (c .before .if3 .taken)
 
 returns-4 : tie.Need-returns-4
-unfolding wordOf
-returns-4 c = rw (le-ltb _ 32 (c .before .before .if1 .left), le-ltb _ 40 (c .before .if2 .left), le-ltb _ 72 (c .if3 .left))
+returns-4 c =
+    word-wire _ _ _ _ _ _ (c .before .before .before .before .before .before .if1 .left) (omega (arith, c .before .before .before .before .before .if2 .left))
+    (omega (arith, c .before .before .before .before .if3 .left)) (c .before .before .before .if4 .taken) (c .before .load .ensures)
+    (c .store .ensures)
+
+returns-5 : tie.Need-returns-5
+returns-5 c =
+    word-past _ _ _ _ _ _ (c .before .before .before .if1 .left) (omega (arith, c .before .before .if2 .left))
+    (omega (arith, c .before .if3 .left)) (omega (arith, c .if4 .left))
 
 pub word-of-spec : {M : Type 1} → statement M
 word-of-spec =
     tie.close
     (tie.spec
-    (λ c. search needs)
-    (λ c. search needs)
-    (λ c. search needs)
-    (λ c κs. search needs)
     returns
     (λ c. search needs)
     (λ c κs. search needs)
     returns-2
     (λ c. search needs)
     (λ c. search needs)
+    returns-3
+    (λ c. search needs)
     (λ c. search needs)
     (λ c κs. search needs)
-    returns-3
-    returns-4)
+    (λ c κs. search needs)
+    returns-4
+    returns-5)

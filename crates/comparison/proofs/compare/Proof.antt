@@ -1,68 +1,62 @@
--- `comparison::compare` meets its contract. The loop's invariant: the orders from `k` on show what all show. Assumes nothing.
+-- `comparison::compare` meets its contract. Assumes nothing.
 use borrow.Author.Needs.{needs}
-use Prim.Native.Nat.{_-_}
-use mathlib.Core.Path.{_≡_, refl, sym, _∙_}
-use native.Mathlib.Omega.{arith}
-use lib.ListN.{length, drop}
-use Rattle.comparison.specs.Comparison.{findingFrom, finding}
-use Rattle.comparison.proofs.Differences.{finding-none, finding-apart, finding-more}
+use mathlib.Core.Path.{sym, _∙_}
+use Rattle.comparison.proofs.Differences.{finding-1, finding-2, finding-3, finding-4}
 use Rattle.comparison.proofs.compare.Statement.{statement}
 use Rattle.comparison.proofs.compare.Tie as tie
 
-abbrev Inv-loop : tie.InvT-loop
-Inv-loop m expressed orders k₀ k = findingFrom m expressed k (drop k orders) ≡ finding m orders expressed
-
-abbrev μ-loop : tie.MeasureT-loop
-μ-loop m expressed orders k₀ k = 3 - k
-
-loop-holds : tie.Need-loop-holds Inv-loop μ-loop
-unfolding finding
-loop-holds c = refl
-
-returns : tie.Need-returns Inv-loop μ-loop
+returns : tie.Need-returns
 returns c =
-    let at-difference = c .before .before in
-    let at-test = at-difference .before .before in
-    let at-loop = at-test .before in
-    let start = at-loop .before in
-    let a = start .args in
-    let g : length (a .t2) ≡ 3 = start .good .1 .0 .1 .0 .1 in
-    sym (finding-apart (a .m) (a .expressed) (a .t2) _ (at-loop .loop .k) (omega (arith, at-test .loop-test .taken)) _
-    (at-difference .first-difference .ensures) (sym (c .before .differs .ensures) ∙ c .if1 .taken)) ∙ at-loop .loop .inv
+    let plain = c .before .before in
+    c .apart .ensures
+    ∙ finding-1 _ _ _ _ _ (plain .before .first-difference .ensures) (sym (plain .differs .ensures) ∙ c .before .if1 .taken)
 
-loop-again : tie.Need-loop-again Inv-loop μ-loop
-loop-again c =
-    let at-difference = c .before .before in
-    let at-test = at-difference .before .before in
-    let at-loop = at-test .before in
-    let start = at-loop .before in
-    let a = start .args in
-    let g : length (a .t2) ≡ 3 = start .good .1 .0 .1 .0 .1 in
-    sym (finding-more (a .m) (a .expressed) (a .t2) _ (at-loop .loop .k) (omega (arith, at-test .loop-test .taken)) _
-    (at-difference .first-difference .ensures) (sym (c .before .differs .ensures) ∙ c .if1 .left)) ∙ at-loop .loop .inv
-
-returns-2 : tie.Need-returns-2 Inv-loop μ-loop
+returns-2 : tie.Need-returns-2
 returns-2 c =
-    let at-loop = c .before in
-    let start = at-loop .before in
-    let a = start .args in
-    let g : length (a .t2) ≡ 3 = start .good .1 .0 .1 .0 .1 in
-    sym (finding-none (a .m) (a .expressed) (a .t2) (a .expressed) (at-loop .loop .k)
-    (omega (arith, c .loop-test .left))) ∙ at-loop .loop .inv
+    let first = c .before .before in
+    let test = first .before .before in
+    let plain = test .before in
+    c .apart2 .ensures
+    ∙ finding-2 _ _ _ _ _ (plain .before .first-difference .ensures) (sym (plain .differs .ensures) ∙ test .if1 .left)
+    (first .before .first-difference2 .ensures) (sym (first .differs2 .ensures) ∙ c .before .if2 .taken)
+
+returns-3 : tie.Need-returns-3
+returns-3 c =
+    let second = c .before .before in
+    let again = second .before .before in
+    let first = again .before in
+    let test = first .before .before in
+    let plain = test .before in
+    c .apart3 .ensures
+    ∙ finding-3 _ _ _ _ _ (plain .before .first-difference .ensures) (sym (plain .differs .ensures) ∙ test .if1 .left)
+    (first .before .first-difference2 .ensures) (sym (first .differs2 .ensures) ∙ again .if2 .left)
+    (second .before .first-difference3 .ensures) (sym (second .differs3 .ensures) ∙ c .before .if3 .taken)
+
+returns-4 : tie.Need-returns-4
+returns-4 c =
+    let second = c .before in
+    let again = second .before .before in
+    let first = again .before in
+    let test = first .before .before in
+    let plain = test .before in
+    finding-4 _ _ _ _ _ (plain .before .first-difference .ensures) (sym (plain .differs .ensures) ∙ test .if1 .left)
+    (first .before .first-difference2 .ensures) (sym (first .differs2 .ensures) ∙ again .if2 .left)
+    (second .before .first-difference3 .ensures) (sym (second .differs3 .ensures) ∙ c .if3 .left)
 
 pub compare-spec : {M : Type 1} → statement M
 compare-spec =
     tie.close
     (tie.spec
-    Inv-loop
-    μ-loop
-    loop-holds
-    (λ c. search needs)
-    (λ c. search needs)
+    (λ c κs. search needs)
     (λ c κs. search needs)
     (λ c κs. search needs)
     returns
-    (λ c. search needs)
-    (λ c. search needs)
-    loop-again
-    returns-2)
+    (λ c κs. search needs)
+    (λ c κs. search needs)
+    (λ c κs. search needs)
+    returns-2
+    (λ c κs. search needs)
+    (λ c κs. search needs)
+    (λ c κs. search needs)
+    returns-3
+    returns-4)

@@ -1,61 +1,53 @@
 -- `comparison::first_variable` meets its contract. The loop's invariant: the search from `v` on finds what the whole finds.
 -- Assumes nothing.
 use borrow.Author.Needs.{needs}
-use Prim.Native.Nat.{ℕ, _-_}
-use mathlib.Core.Bool.{Bool, not}
-use mathlib.Core.List.{List}
+use Prim.Native.Nat.{_-_}
 use mathlib.Core.Path.{_≡_, refl, sym, _∙_}
-use Rattle.values.specs.Values.{same}
-use Rattle.values.specs.Planes.{valueAt}
 use Rattle.stimulus.specs.Counting.{firstFrom}
 use Rattle.stimulus.proofs.Searching.{first-hit, first-miss, first-none}
+use Rattle.comparison.specs.Comparison.{valuesDiffer}
 use Rattle.comparison.proofs.Differences.{value-found}
 use Rattle.comparison.proofs.first_variable.Statement.{statement}
 use Rattle.comparison.proofs.first_variable.Tie as tie
 
-abbrev test : List ℕ → List Bool → List ℕ → List Bool → ℕ → Bool
-test value unknown other blank v = not (same (valueAt value unknown v) (valueAt other blank v))
-
 abbrev Inv-loop : tie.InvT-loop
-Inv-loop value unknown other blank from to v₀ v =
-    firstFrom (test value unknown other blank) (to - v) v ≡ firstFrom (test value unknown other blank) (to - from) from
+Inv-loop a b from to v₀ v = firstFrom (valuesDiffer a b) (to - v) v ≡ firstFrom (valuesDiffer a b) (to - from) from
 
 abbrev μ-loop : tie.MeasureT-loop
-μ-loop value unknown other blank from to v₀ v = to - v
+μ-loop a b from to v₀ v = to - v
 
 loop-holds : tie.Need-loop-holds Inv-loop μ-loop
 loop-holds c = refl
 
 returns : tie.Need-returns Inv-loop μ-loop
+unfolding valuesDiffer
 returns c =
-    let at-same = c .before in
-    let at-there = at-same .before in
-    let at-here = at-there .before .before .before in
-    let at-test = at-here .before .before .before in
-    let at-loop = at-test .before in
-    let a = at-loop .before .args in
-    sym (first-hit (test (a .value .now) (a .unknown .now) (a .other .now) (a .blank .now)) (a .to) (at-loop .loop .v)
-    (at-test .loop-test .taken)
-    (value-found (at-here .value-at .ensures) (at-there .value-at2 .ensures) (at-same .same .ensures) (c .if1 .taken))) ∙ at-loop .loop .inv
+    let same = c .before in
+    let there = same .before in
+    let here = there .before in
+    let test = here .before in
+    let l = test .before .loop in
+    let a = test .before .before .before .before .args in
+    sym (first-hit (valuesDiffer (a .a .now) (a .b .now)) (a .to) (l .v) (test .loop-test .taken)
+    (value-found (here .value-in .ensures) (there .value-in2 .ensures) (same .same .ensures) (c .if1 .taken))) ∙ l .inv
 
 loop-again : tie.Need-loop-again Inv-loop μ-loop
+unfolding valuesDiffer
 loop-again c =
-    let at-same = c .before in
-    let at-there = at-same .before in
-    let at-here = at-there .before .before .before in
-    let at-test = at-here .before .before .before in
-    let at-loop = at-test .before in
-    let a = at-loop .before .args in
-    sym (first-miss (test (a .value .now) (a .unknown .now) (a .other .now) (a .blank .now)) (a .to) (at-loop .loop .v)
-    (at-test .loop-test .taken)
-    (value-found (at-here .value-at .ensures) (at-there .value-at2 .ensures) (at-same .same .ensures) (c .if1 .left))) ∙ at-loop .loop .inv
+    let same = c .before in
+    let there = same .before in
+    let here = there .before in
+    let test = here .before in
+    let l = test .before .loop in
+    let a = test .before .before .before .before .args in
+    sym (first-miss (valuesDiffer (a .a .now) (a .b .now)) (a .to) (l .v) (test .loop-test .taken)
+    (value-found (here .value-in .ensures) (there .value-in2 .ensures) (same .same .ensures) (c .if1 .left))) ∙ l .inv
 
 returns-2 : tie.Need-returns-2 Inv-loop μ-loop
 returns-2 c =
-    let at-loop = c .before in
-    let a = at-loop .before .args in
-    sym (first-none (test (a .value .now) (a .unknown .now) (a .other .now) (a .blank .now)) (a .to) (at-loop .loop .v)
-    (c .loop-test .left)) ∙ at-loop .loop .inv
+    let l = c .before .loop in
+    let a = c .before .before .before .before .args in
+    sym (first-none (valuesDiffer (a .a .now) (a .b .now)) (a .to) (l .v) (c .loop-test .left)) ∙ l .inv
 
 pub first-variable-spec : {M : Type 1} → statement M
 first-variable-spec =

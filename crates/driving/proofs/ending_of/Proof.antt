@@ -1,6 +1,6 @@
 -- `driving::ending_of` meets its contract. Assumes nothing.
 use borrow.Author.Needs.{needs}
-use Rattle.driving.proofs.Driving.{ending-refused, ending-rested, ending-restless}
+use Rattle.driving.proofs.Endings.{ending-refused, ending-rested, ending-restless}
 use Rattle.driving.proofs.ending_of.Statement.{statement}
 use Rattle.driving.proofs.ending_of.Tie as tie
 

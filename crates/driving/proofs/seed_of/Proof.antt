@@ -1,6 +1,6 @@
 -- `driving::seed_of` meets its contract, by way. Assumes nothing.
 use borrow.Author.Needs.{needs}
-use Rattle.driving.specs.Driving.{seedOf}
+use Rattle.driving.specs.Plans.{seedOf}
 use Rattle.driving.proofs.seed_of.Statement.{statement}
 use Rattle.driving.proofs.seed_of.Tie as tie
 

@@ -8,44 +8,42 @@ use Rattle.events.specs.declared.Inputs.{Inputs}
 use Rattle.plan.specs.Plan.{planOf}
 use Rattle.prepared_cycles.specs.Cycles.{rowInputs}
 use Rattle.prepared_cycles.specs.Phases.{Moment, momentOf, phaseAt, phasesAt, ended}
-use Rattle.prepared_cycles.specs.Traces.{lent, rounds, traceFromAt}
-use Rattle.prepared_cycles.proofs.Items.{row-inside}
+use Rattle.prepared_cycles.specs.Traces.{rounds, traceFromAt}
+use Rattle.prepared_cycles.proofs.Items.{row-inside, row-written}
 use Rattle.prepared_cycles.proofs.Going.{laid-out, phases-whole, phases-end, phases-on, phases-off}
-use Rattle.prepared_cycles.proofs.Tracing.{Kept, kept-written, numbers-room, flags-room, places-room, room-parts}
+use Rattle.prepared_cycles.proofs.Tracing.{Kept, kept-written, row-room}
 use Rattle.prepared_cycles.proofs.Tracing.{trace-whole, trace-end, trace-on, trace-off}
 use Rattle.prepared_cycles.proofs.trace_phases.Statement.{statement}
 use Rattle.prepared_cycles.proofs.trace_phases.Tie as tie
 
 abbrev Inv-loop : tie.InvT-loop
-Inv-loop plan value unknown numbers₀ flags₀ places₀ cells₀ pending₀ stood₀ standing₀ n p₀
-    numbers flags places cells pending stood standing p =
+Inv-loop plan value unknown out₀ cells₀ pending₀ stood₀ standing₀ n p₀
+    out cells pending stood standing p =
     (p ≤ n)
-    × Kept n value unknown (lent numbers₀ flags₀ places₀) (lent numbers flags places)
+    × Kept n value unknown out₀ out
     × (phasesAt (planOf plan) (rowInputs (planOf plan .inputs) value unknown) (n - p) p (momentOf cells pending stood standing)
     ≡ phasesAt (planOf plan) (rowInputs (planOf plan .inputs) value unknown) n 0 (momentOf cells₀ pending₀ stood₀ standing₀))
     × (traceFromAt (planOf plan) (rowInputs (planOf plan .inputs) value unknown) (n - p) p (momentOf cells pending stood standing)
-    (lent numbers flags places)
+    out
     ≡ traceFromAt (planOf plan) (rowInputs (planOf plan .inputs) value unknown) n 0 (momentOf cells₀ pending₀ stood₀ standing₀)
-    (lent numbers₀ flags₀ places₀))
+    out₀)
 
 abbrev μ-loop : tie.MeasureT-loop
-μ-loop plan value unknown numbers₀ flags₀ places₀ cells₀ pending₀ stood₀ standing₀ n p₀
-    numbers flags places cells pending stood standing p =
+μ-loop plan value unknown out₀ cells₀ pending₀ stood₀ standing₀ n p₀
+    out cells pending stood standing p =
     n - p
 
 loop-holds : tie.Need-loop-holds Inv-loop μ-loop
 loop-holds c =
-    let known = c .before .before .before .before .before .before .before .before .before .before in
+    let known = c .before .before .before .before .before .before .before .before in
     let s = known .before .before in (
       omega arith,
       record {
         few = omega (arith, known);
         count = refl;
         flagged = s .pre .0;
-        room = room-parts _ _ _ _ (s .pre .1);
-        numbers = refl;
-        flags = refl;
-        places = refl;
+        room = s .pre .1;
+        long = refl;
       },
       phases-whole _ _ _ _ _,
       trace-whole _ _ _ _ _ _,
@@ -64,12 +62,12 @@ returns c =
     let l = at-inputs .before .before in
     let at-slots = l .before .before in
     let at-unpack = at-slots .before .before .before .before in
-    let a = at-unpack .before .before .before .before .before .before .before .args in
+    let a = at-unpack .before .before .before .before .before .args in
     let q = planOf (a .plan .now) in
     let inputs = rowInputs (q .inputs) (a .value .now) (a .unknown .now) in
     let o = momentOf (l .loop .cells) (l .loop .pending) (l .loop .stood) (l .loop .standing) in
-    let w = lent (l .loop .numbers) (l .loop .flags) (l .loop .places) in
-    let first = lent (a .numbers .now) (a .flags .now) (a .places .now) in
+    let w = l .loop .out in
+    let first = a .out .now in
     let h = at-inputs .before .loop-test .taken in
     let e = at-phase .phase .ensures ∙ ap (λ (x : Inputs). phaseAt q x o) (at-inputs .inputs-at .ensures) in
     let z = laid-out q (a .t2) _ _ _ (at-slots .slots-of .ensures) (at-unpack .unpack .ensures) in (
@@ -83,42 +81,42 @@ returns c =
 
 put-row-requires : tie.Need-put-row-requires Inv-loop μ-loop
 put-row-requires c κs =
-    let at-test = c .before .before .before .before .before .before .before .before .before .before .before .before .before in
+    let at-test = c .before .before .before .before .before .before .before .before .before .before .before in
     let k = at-test .before .loop .inv .1 in
     let h = at-test .loop-test .taken in
-    (numbers-room k _ h, (flags-room k _ h, places-room k _ h))
+    row-room k _ h
 
 add-p : tie.Need-add-p Inv-loop μ-loop
 add-p c =
-    let at-put = c .before .before .before .before .before .before in
-    let at-if = at-put .before .before .before .before .before .before in
+    let at-put = c .before .before in
+    let at-if = at-put .before .before .before .before in
     let at-inputs = at-if .before .before .before .before .before .before .before in
     omega (arith, at-inputs .before .loop-test .taken, at-inputs .before .before .loop .inv .1 .few)
 
 loop-less : tie.Need-loop-less Inv-loop μ-loop
 loop-less c =
-    let at-put = c .before .before .before .before .before .before in
-    let at-if = at-put .before .before .before .before .before .before in
+    let at-put = c .before .before in
+    let at-if = at-put .before .before .before .before in
     let at-inputs = at-if .before .before .before .before .before .before .before in
     omega (arith, at-inputs .before .loop-test .taken)
 
 loop-again : tie.Need-loop-again Inv-loop μ-loop
 loop-again c =
-    let at-put = c .before .before .before .before .before .before in
-    let at-if = at-put .before .before .before .before .before .before in
+    let at-put = c .before .before in
+    let at-if = at-put .before .before .before .before in
     let at-phase = at-if .before .before .before in
     let at-inputs = at-phase .before .before .before .before in
     let l = at-inputs .before .before in
-    let a = l .before .before .before .before .before .before .before .before .before .before .before .before .before .args in
+    let a = l .before .before .before .before .before .before .before .before .before .before .before .args in
     let q = planOf (a .plan .now) in
     let inputs = rowInputs (q .inputs) (a .value .now) (a .unknown .now) in
     let o = momentOf (l .loop .cells) (l .loop .pending) (l .loop .stood) (l .loop .standing) in
-    let w = lent (l .loop .numbers) (l .loop .flags) (l .loop .places) in
+    let w = l .loop .out in
     let h = at-inputs .before .loop-test .taken in
     let e = at-phase .phase .ensures ∙ ap (λ (x : Inputs). phaseAt q x o) (at-inputs .inputs-at .ensures) in
-    let x = at-put .put-row .ensures in (
+    let x = row-written (l .loop .p) w _ _ _ _ (at-put .put-row .ensures) in (
       omega (arith, h),
-      kept-written (l .loop .inv .1) _ _ _ _ x,
+      kept-written (l .loop .inv .1) _ _ _ x,
       sym (phases-on q inputs _ (l .loop .p) o h _ e (at-if .if1 .left)) ∙ l .loop .inv .2,
       sym (trace-on q inputs _ (l .loop .p) o w h _ e (at-if .if1 .left) _ x) ∙ l .loop .inv .3,
     )
@@ -128,10 +126,10 @@ returns-2 c =
     let l = c .before .before .before .before in
     let at-slots = l .before .before in
     let at-unpack = at-slots .before .before .before .before in
-    let a = at-unpack .before .before .before .before .before .before .before .args in
+    let a = at-unpack .before .before .before .before .before .args in
     let q = planOf (a .plan .now) in
     let inputs = rowInputs (q .inputs) (a .value .now) (a .unknown .now) in
-    let first = lent (a .numbers .now) (a .flags .now) (a .places .now) in
+    let first = a .out .now in
     let h = c .before .before .before .loop-test .left in
     let z = laid-out q (a .t2) _ _ _ (at-slots .slots-of .ensures) (at-unpack .unpack .ensures) in (
       c .ended2 .ensures
@@ -154,16 +152,12 @@ trace-phases-spec =
     inputs-at-requires
     (λ c κs. search needs)
     (λ c κs. search needs)
-    (λ c. c .before .before .before .before .before .before .before .before .before .before .before .before .loop .inv .1 .numbers)
-    (λ c. c .before .before .before .before .before .before .before .before .before .before .before .before .loop .inv .1 .flags)
-    (λ c. c .before .before .before .before .before .before .before .before .before .before .before .before .loop .inv .1 .places)
+    (λ c. c .before .before .before .before .before .before .before .before .before .before .before .before .loop .inv .1 .long)
     returns
     put-row-requires
     add-p
     loop-less
     loop-again
     (λ c κs. search needs)
-    (λ c. c .before .before .before .before .loop .inv .1 .numbers)
-    (λ c. c .before .before .before .before .loop .inv .1 .flags)
-    (λ c. c .before .before .before .before .loop .inv .1 .places)
+    (λ c. c .before .before .before .before .loop .inv .1 .long)
     returns-2)

@@ -2,7 +2,7 @@
 use borrow.Author.Needs.{needs}
 use native.Mathlib.Omega.{arith}
 use mathlib.Core.Path.{sym, ap, _∙_}
-use Rattle.stimulus.specs.declared.Class.the-variants.{Separator}
+use Rattle.stimulus.specs.declared.Class.the-variants.{Blank}
 use Rattle.stimulus.specs.Lines.{valuesOf}
 use Rattle.stimulus.proofs.Runs.{run-inside, ended-not}
 use Rattle.stimulus.proofs.Lines.{line-none, line-some, first-inside}
@@ -20,7 +20,7 @@ first-place-requires c κs =
     let r = c .before .before in
     let s = r .before .before .before in
     let h = r .run-end .ensures in
-    let i = run-inside Separator (s .args .line .now) 0 (omega arith) in
+    let i = run-inside Blank (s .args .line .now) 0 (omega arith) in
     omega arith
 
 read-values-requires : tie.Need-read-values-requires
@@ -55,7 +55,7 @@ parse-spec =
     let s = r .before .before .before in
     let g = s .good in
     let h = r .run-end .ensures in
-    let i = run-inside Separator (s .args .line .now) 0 (omega arith) in
+    let i = run-inside Blank (s .args .line .now) 0 (omega arith) in
     record { fits = omega arith })
     returns
     first-place-requires

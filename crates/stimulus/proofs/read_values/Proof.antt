@@ -6,11 +6,11 @@ use mathlib.Core.Bool.{false}
 use mathlib.Core.Path.{_≡_, refl, sym, ap, _∙_}
 use Prim.Native.Nat.{ℕ, _≤_, _-_}
 use lib.ListN.{length, getD, length-set, replicate}
-use Rattle.stimulus.specs.declared.Class.the-variants.{Separator}
+use Rattle.stimulus.specs.declared.Class.the-variants.{Blank}
 use Rattle.stimulus.specs.declared.Taken.{Taken}
-use Rattle.stimulus.specs.Lines.{taken, valuesFrom, valuesOf}
+use Rattle.stimulus.specs.Lines.{cellAt, taken, valuesFrom, valuesOf}
 use Rattle.stimulus.proofs.Runs.{run-inside}
-use Rattle.stimulus.proofs.Lines.{slots-few, taken-inside, values-turn, values-stop, values-done}
+use Rattle.stimulus.proofs.Lines.{slots-few, cell-inside, taken-inside, values-turn, values-stop, values-done}
 use Rattle.stimulus.proofs.read_values.Statement.{statement}
 use Rattle.stimulus.proofs.read_values.Tie as tie
 
@@ -35,15 +35,24 @@ loop-holds c =
       ap (λ (x : ℕ). valuesFrom (a .line .now) (a .widths .now) (x - 1) 1 (a .from) (replicate 16 0) (replicate 16 false)) (c .slots .ensures),
     )
 
+take-value-requires : tie.Need-take-value-requires Inv-loop μ-loop
+take-value-requires c κs =
+    let q = c .before in
+    let l = q .before .before .before in
+    let j = cell-inside (l .before .before .before .before .args .line .now) (l .loop .k) (l .loop .at) (l .loop .inv .0) in
+    rw (q .cell-at .ensures) j
+
 returns : tie.Need-returns Inv-loop μ-loop
 returns c =
     let t = c .before .before in
     let b = t .before in
-    let p = b .before in
+    let q = b .before in
+    let p = q .before in
     let l = p .before .before in
     let a = l .before .before .before .before .args in
     let w = b .byte-at .ensures ∙ ap (λ (x : ℕ). getD (a .widths .now) x 0) (p .place .ensures) in
-    let e = t .take-value .ensures ∙ ap (λ (x : ℕ). taken (a .line .now) (l .loop .at) x) w in
+    let e : t .take-value .result ≡ taken (a .line .now) (cellAt (a .line .now) (l .loop .k) (l .loop .at)) (getD (a .widths .now) (l .loop .k) 0)
+    = cc (t .take-value .ensures, q .cell-at .ensures, w) in
     sym
     (values-stop (a .line .now) (a .widths .now) _ (l .loop .k) (l .loop .at) (l .loop .value) (l .loop .unknown) _ e
     (p .before .loop-test .taken) (c .if1 .taken))
@@ -51,7 +60,7 @@ returns c =
 
 array-write-value : tie.Need-array-write-value Inv-loop μ-loop
 array-write-value c =
-    let p = c .before .before .before .before in
+    let p = c .before .before .before .before .before in
     let l = p .before .before in
     let h = slots-few (l .before .before .before .before .args .inputs) in
     let e = l .before .slots .ensures in
@@ -62,7 +71,7 @@ array-write-value c =
 
 array-write-unknown : tie.Need-array-write-unknown Inv-loop μ-loop
 array-write-unknown c =
-    let p = c .before .before .before .before in
+    let p = c .before .before .before .before .before in
     let l = p .before .before in
     let h = slots-few (l .before .before .before .before .args .inputs) in
     let e = l .before .slots .ensures in
@@ -73,7 +82,7 @@ array-write-unknown c =
 
 add-k : tie.Need-add-k Inv-loop μ-loop
 add-k c =
-    let p = c .before .before .before .before in
+    let p = c .before .before .before .before .before in
     let l = p .before .before in
     let h = slots-few (l .before .before .before .before .args .inputs) in
     let e = l .before .slots .ensures in
@@ -84,12 +93,15 @@ loop-again : tie.Need-loop-again Inv-loop μ-loop
 loop-again c =
     let t = c .before .before in
     let b = t .before in
-    let p = b .before in
+    let q = b .before in
+    let p = q .before in
     let l = p .before .before in
     let a = l .before .before .before .before .args in
     let w = b .byte-at .ensures ∙ ap (λ (x : ℕ). getD (a .widths .now) x 0) (p .place .ensures) in
-    let e = t .take-value .ensures ∙ ap (λ (x : ℕ). taken (a .line .now) (l .loop .at) x) w in
-    let i = taken-inside (a .line .now) (l .loop .at) (b .byte-at .result) (l .loop .inv .0) in
+    let e : t .take-value .result ≡ taken (a .line .now) (cellAt (a .line .now) (l .loop .k) (l .loop .at)) (getD (a .widths .now) (l .loop .k) 0)
+    = cc (t .take-value .ensures, q .cell-at .ensures, w) in
+    let j = cell-inside (a .line .now) (l .loop .k) (l .loop .at) (l .loop .inv .0) in
+    let i = taken-inside (a .line .now) (q .cell-at .result) (b .byte-at .result) (rw (q .cell-at .ensures) j) in
     let f = ap (λ (x : Taken). x .to) (t .take-value .ensures) in (
       omega arith,
       length-set (l .loop .value) _ _ ∙ l .loop .inv .1,
@@ -100,14 +112,14 @@ loop-again c =
           ∙ l .loop .inv .3,
     )
 
-add-t24 : tie.Need-add-t24 Inv-loop μ-loop
-add-t24 c =
+add-t25 : tie.Need-add-t25 Inv-loop μ-loop
+add-t25 c =
     let r = c .before in
     let l = r .before .before in
     let s = l .before .before .before .before in
     let g = s .good in
     let h = r .run-end .ensures in
-    let i = run-inside Separator (s .args .line .now) (l .loop .at) (l .loop .inv .0) in
+    let i = run-inside Blank (s .args .line .now) (l .loop .at) (l .loop .inv .0) in
     record { fits = omega arith }
 
 returns-2 : tie.Need-returns-2 Inv-loop μ-loop
@@ -129,8 +141,9 @@ read-values-spec =
     (λ c κs. search needs)
     loop-holds
     (λ c κs. search needs)
+    (λ c κs. c .before .before .loop .inv .0)
     (λ c κs. search needs)
-    (λ c κs. c .before .before .before .loop .inv .0)
+    take-value-requires
     returns
     (λ c. search needs)
     array-write-value
@@ -140,5 +153,5 @@ read-values-spec =
     loop-again
     (λ c κs. search needs)
     (λ c κs. search needs)
-    add-t24
+    add-t25
     returns-2)

@@ -12,12 +12,17 @@ use Rattle.waveform.proofs.print_header.Tie as tie
 returns : tie.Need-returns
 unfolding ascii header
 returns c =
-    let a = c .before .before .before .before .before .before .before .before .before .before .before .before .args in
-    let n : c .before .before .before .before .before .before .before .before .before .before .wide .result + c .before .before .before .before .before .before .before .before .before .wide2 .result + c .before .before .before .before .before .before .before .before .wide3 .result ≡ a .inputs + a .registers + a .wires =
-    omega (arith, c .before .before .before .before .before .before .before .before .before .before .wide .ensures, c .before .before .before .before .before .before .before .before .before .wide2 .ensures, c .before .before .before .before .before .before .before .before .wide3 .ensures) in
+    let declared = c .before .before .before in
+    let front = declared .before .before in
+    let third = front .before .before in
+    let second = third .before in
+    let first = second .before in
+    let m = first .before .before .before .args .m in
+    let n : first .wide .result + second .wide2 .result + third .wide3 .result ≡ m .inputs + m .registers + m .wires =
+    omega (arith, first .wide .ensures, second .wide2 .ensures, third .wide3 .ensures) in
     rw (sym n)
-    (both _ _ _ _ _ (c .before .before .before .before .before .put-word .ensures)
-    (both _ _ _ _ _ (c .before .before .before .put-declarations .ensures) (c .put-word2 .ensures)))
+    (both _ _ _ _ _ (front .put-front .ensures)
+    (both _ _ _ _ _ (declared .put-declarations .ensures) (c .put-word .ensures)))
 
 pub print-header-spec : {M : Type 1} → statement M
 print-header-spec =
@@ -27,7 +32,6 @@ print-header-spec =
     (λ c κs. search needs)
     (λ c. search needs)
     (λ c κs. search needs)
-    (λ c. search needs)
     (λ c. search needs)
     (λ c κs. search needs)
     (λ c κs. search needs)

@@ -6,7 +6,7 @@ use Rattle.waveform.proofs.put_figures.Tie as tie
 
 returns : tie.Need-returns
 unfolding figures
-returns c = rw (c .before .before .before .a .given .1) (c .put-binary .ensures)
+returns c = rw (c .before .before .before .a .given .1) (c .put-shortened .ensures)
 
 returns-2 : tie.Need-returns-2
 unfolding figures

@@ -7,7 +7,7 @@ use Rattle.options.proofs.judging.run_of.Tie as tie
 returns : tie.Need-returns
 unfolding runOf
 returns c =
-    let at-last = c .before .before in
+    let at-last = c .before .before .before in
     let at-words = at-last .before in
     let at-inputs = at-words .before .before in
     rw (
@@ -17,14 +17,16 @@ returns c =
       at-words .before .word-of3 .ensures,
       at-words .word-of4 .ensures,
       at-last .is-given .ensures,
-      c .before .is-given2 .ensures,
-      c .is-given3 .ensures,
+      c .before .before .is-given2 .ensures,
+      c .before .is-given3 .ensures,
+      c .is-given4 .ensures,
     )
 
 pub run-of-spec : {M : Type 1} → statement M
 run-of-spec =
     tie.close
     (tie.spec
+    (λ c κs. search needs)
     (λ c κs. search needs)
     (λ c κs. search needs)
     (λ c κs. search needs)

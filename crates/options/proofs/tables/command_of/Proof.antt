@@ -85,7 +85,8 @@ returns-6 c =
 returns-7 : tie.Need-returns-7
 unfolding ascii commandOf
 returns-7 c =
-    let at6 = c in
+    let at7 = c in
+    let at6 = at7 .before .before .before in
     let at5 = at6 .before .before .before in
     let at4 = at5 .before .before .before in
     let at3 = at4 .before .before .before in
@@ -98,6 +99,27 @@ returns-7 c =
       sym (at4 .before .is-word4 .ensures) ∙ at4 .if4 .left,
       sym (at5 .before .is-word5 .ensures) ∙ at5 .if5 .left,
       sym (at6 .before .is-word6 .ensures) ∙ at6 .if6 .left,
+      sym (at7 .before .is-word7 .ensures) ∙ at7 .if7 .taken,
+    )
+
+returns-8 : tie.Need-returns-8
+unfolding ascii commandOf
+returns-8 c =
+    let at7 = c in
+    let at6 = at7 .before .before .before in
+    let at5 = at6 .before .before .before in
+    let at4 = at5 .before .before .before in
+    let at3 = at4 .before .before .before in
+    let at2 = at3 .before .before .before in
+    let at1 = at2 .before .before .before in
+    rw (
+      sym (at1 .before .is-word .ensures) ∙ at1 .if1 .left,
+      sym (at2 .before .is-word2 .ensures) ∙ at2 .if2 .left,
+      sym (at3 .before .is-word3 .ensures) ∙ at3 .if3 .left,
+      sym (at4 .before .is-word4 .ensures) ∙ at4 .if4 .left,
+      sym (at5 .before .is-word5 .ensures) ∙ at5 .if5 .left,
+      sym (at6 .before .is-word6 .ensures) ∙ at6 .if6 .left,
+      sym (at7 .before .is-word7 .ensures) ∙ at7 .if7 .left,
     )
 
 pub command-of-spec : {M : Type 1} → statement M
@@ -122,4 +144,7 @@ command-of-spec =
     (λ c. search needs)
     (λ c κs. search needs)
     returns-6
-    returns-7)
+    (λ c. search needs)
+    (λ c κs. search needs)
+    returns-7
+    returns-8)

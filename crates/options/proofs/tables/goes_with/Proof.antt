@@ -1,6 +1,6 @@
 -- `options::tables::goes_with` meets its contract, row by row. Assumes nothing.
 use borrow.Author.Needs.{needs}
-use borrow.Author.Tests.{eq-eqb, ne-eqb}
+use borrow.Author.Tests.{eq-eqb, ne-eqb, lt-ltb, le-ltb}
 use Rattle.options.specs.Tables.{goesWith}
 use Rattle.options.proofs.tables.goes_with.Statement.{statement}
 use Rattle.options.proofs.tables.goes_with.Tie as tie
@@ -20,67 +20,23 @@ returns-3 c = rw (ne-eqb _ _ (c .before .if1 .left), eq-eqb _ _ (c .if3 .taken))
 returns-4 : tie.Need-returns-4
 unfolding goesWith
 returns-4 c =
-    let at3 = c .before in
-    rw (ne-eqb _ _ (at3 .before .if1 .left), ne-eqb _ _ (at3 .if3 .left), eq-eqb _ _ (c .if4 .taken))
+    let at4 = c .before in
+    let at3 = at4 .before in
+    rw (ne-eqb _ _ (at3 .before .if1 .left), ne-eqb _ _ (at3 .if3 .left), eq-eqb _ _ (at4 .if4 .taken)) (c .is-fed .ensures)
 
 returns-5 : tie.Need-returns-5
 unfolding goesWith
 returns-5 c =
     let at4 = c .before in
     let at3 = at4 .before in
-    rw (
-      ne-eqb _ _ (at3 .before .if1 .left),
-      ne-eqb _ _ (at3 .if3 .left),
-      ne-eqb _ _ (at4 .if4 .left),
-      eq-eqb _ _ (c .if5 .taken),
-    )
+    rw (ne-eqb _ _ (at3 .before .if1 .left), ne-eqb _ _ (at3 .if3 .left), ne-eqb _ _ (at4 .if4 .left), lt-ltb _ _ (c .if5 .taken))
 
 returns-6 : tie.Need-returns-6
 unfolding goesWith
 returns-6 c =
-    let at5 = c .before in
-    let at4 = at5 .before in
+    let at4 = c .before in
     let at3 = at4 .before in
-    rw (
-      ne-eqb _ _ (at3 .before .if1 .left),
-      ne-eqb _ _ (at3 .if3 .left),
-      ne-eqb _ _ (at4 .if4 .left),
-      ne-eqb _ _ (at5 .if5 .left),
-      eq-eqb _ _ (c .if6 .taken),
-    )
-
-returns-7 : tie.Need-returns-7
-unfolding goesWith
-returns-7 c =
-    let at7 = c .before in
-    let at6 = at7 .before in
-    let at5 = at6 .before in
-    let at4 = at5 .before in
-    let at3 = at4 .before in
-    rw (
-      ne-eqb _ _ (at3 .before .if1 .left),
-      ne-eqb _ _ (at3 .if3 .left),
-      ne-eqb _ _ (at4 .if4 .left),
-      ne-eqb _ _ (at5 .if5 .left),
-      ne-eqb _ _ (at6 .if6 .left),
-      eq-eqb _ _ (at7 .if7 .taken),
-    ) (c .is-fed .ensures)
-
-returns-8 : tie.Need-returns-8
-unfolding goesWith
-returns-8 c =
-    let at6 = c .before in
-    let at5 = at6 .before in
-    let at4 = at5 .before in
-    let at3 = at4 .before in
-    rw (
-      ne-eqb _ _ (at3 .before .if1 .left),
-      ne-eqb _ _ (at3 .if3 .left),
-      ne-eqb _ _ (at4 .if4 .left),
-      ne-eqb _ _ (at5 .if5 .left),
-      ne-eqb _ _ (at6 .if6 .left),
-      ne-eqb _ _ (c .if7 .left),
-    )
+    rw (ne-eqb _ _ (at3 .before .if1 .left), ne-eqb _ _ (at3 .if3 .left), ne-eqb _ _ (at4 .if4 .left), le-ltb _ _ (c .if5 .left))
 
 pub goes-with-spec : {M : Type 1} → statement M
 goes-with-spec =
@@ -89,9 +45,7 @@ goes-with-spec =
     returns
     returns-2
     returns-3
+    (λ c κs. search needs)
     returns-4
     returns-5
-    returns-6
-    (λ c κs. search needs)
-    returns-7
-    returns-8)
+    returns-6)

@@ -11,11 +11,11 @@ use Rattle.prepared_cycles.proofs.traces.put_places.Statement.{statemen
 use Rattle.prepared_cycles.proofs.traces.put_places.Tie as tie
 
 abbrev Inv-loop : tie.InvT-loop
-Inv-loop stood places₀ at i₀ places i =
-    (i ≤ 8) × (length places ≡ length places₀) × (places ≡ sets places₀ at (listOf i (λ j. getD stood j 0)))
+Inv-loop stood out₀ at i₀ out i =
+    (i ≤ 8) × (length out ≡ length out₀) × (out ≡ sets out₀ at (listOf i (λ j. getD stood j 0)))
 
 abbrev μ-loop : tie.MeasureT-loop
-μ-loop stood places₀ at i₀ places i = 8 - i
+μ-loop stood out₀ at i₀ out i = 8 - i
 
 loop-holds : tie.Need-loop-holds Inv-loop μ-loop
 unfolding listOf
@@ -23,11 +23,11 @@ loop-holds c = (omega arith, refl, refl)
 
 loop-again : tie.Need-loop-again Inv-loop μ-loop
 loop-again c =
-    let l = c .before .before in
-    let p = l .before .args in (
+    let l = c .before .before .before in
+    let p = l .before .before .args in (
       omega arith,
       simp length-set (l .loop .inv .1),
-      rw (l .loop .inv .2) (listOf-on (λ j. getD (p .stood .now) j 0) (p .places .now) (p .at) (l .loop .i)),
+      rw (c .wide .ensures, l .loop .inv .2) (listOf-on (λ j. getD (p .stood .now) j 0) (p .out .now) (p .at) (l .loop .i)),
     )
 
 returns : tie.Need-returns Inv-loop μ-loop
@@ -44,6 +44,8 @@ put-places-spec =
     μ-loop
     loop-holds
     (λ c. search needs)
+    (λ c κs. search needs)
+    (λ c. omega arith)
     (λ c. omega arith)
     (λ c. omega arith)
     (λ c. search needs)

@@ -1,6 +1,9 @@
 -- `stimulus::pieces::find_line` meets its contract, row by row. Assumes nothing.
 use borrow.Author.Needs.{needs}
-use borrow.Author.Tests.{lt-ltb, le-ltb, not-true, not-false}
+use borrow.Author.Tests.{lt-ltb, le-ltb, lt-leb, le-leb}
+use native.Mathlib.Omega.{arith}
+use Prim.Native.Nat.{_+_}
+use lib.ListN.{length}
 use Rattle.stimulus.specs.Waiting.{waiting}
 use Rattle.stimulus.proofs.pieces.find_line.Statement.{statement}
 use Rattle.stimulus.proofs.pieces.find_line.Tie as tie
@@ -12,25 +15,46 @@ returns c = rw (← c .before .line-end .ensures, lt-ltb _ _ (c .if1 .taken))
 returns-2 : tie.Need-returns-2
 unfolding waiting
 returns-2 c =
-    let at-end = c .before in
-    let ended = at-end .before .before .before .args .ended in
-    rw (← at-end .before .line-end .ensures, le-ltb _ _ (at-end .if1 .left), not-true ended (c .if2 .taken))
+    let at-end = c .before .before in
+    rw (← at-end .before .line-end .ensures, le-ltb _ _ (at-end .if1 .left), c .before .if2 .taken, lt-ltb _ _ (c .if3 .taken))
 
 returns-3 : tie.Need-returns-3
 unfolding waiting
 returns-3 c =
-    let at-more = c .before in
-    let at-end = at-more .before in
-    let ended = at-end .before .before .before .args .ended in
-    rw (← at-end .before .line-end .ensures, le-ltb _ _ (at-end .if1 .left), not-false ended (at-more .if2 .left), lt-ltb _ _ (c .if3 .taken))
+    let at-end = c .before .before in
+    rw (← at-end .before .line-end .ensures, le-ltb _ _ (at-end .if1 .left), c .before .if2 .taken, le-ltb _ _ (c .if3 .left))
 
 returns-4 : tie.Need-returns-4
 unfolding waiting
 returns-4 c =
-    let at-more = c .before in
+    let at-end = c .before .before in
+    let a = at-end .before .before .before .args in
+    rw (← at-end .before .line-end .ensures, le-ltb _ _ (at-end .if1 .left), c .before .if2 .left, lt-leb (a .from + length (a .bytes .now)) (a .to) (omega arith))
+
+returns-5 : tie.Need-returns-5
+unfolding waiting
+returns-5 c =
+    let at-more = c .before .before in
     let at-end = at-more .before in
-    let ended = at-end .before .before .before .args .ended in
-    rw (← at-end .before .line-end .ensures, le-ltb _ _ (at-end .if1 .left), not-false ended (at-more .if2 .left), le-ltb _ _ (c .if3 .left))
+    let a = at-end .before .before .before .args in
+    rw (← at-end .before .line-end .ensures, le-ltb _ _ (at-end .if1 .left), at-more .if2 .left, lt-leb (a .from + length (a .bytes .now)) (a .to) (omega arith))
+
+returns-6 : tie.Need-returns-6
+unfolding waiting
+returns-6 c =
+    let at-more = c .before .before in
+    let at-end = at-more .before in
+    let a = at-end .before .before .before .args in
+    rw (← at-end .before .line-end .ensures, le-ltb _ _ (at-end .if1 .left), at-more .if2 .left, le-leb (a .from + length (a .bytes .now)) (a .to) (omega arith))
 
 pub find-line-spec : {M : Type 1} → statement M
-find-line-spec = tie.close (tie.spec (λ c κs. search needs) returns returns-2 returns-3 returns-4)
+find-line-spec =
+    tie.close
+    (tie.spec
+    (λ c κs. search needs)
+    returns
+    returns-2
+    returns-3
+    returns-4
+    returns-5
+    returns-6)

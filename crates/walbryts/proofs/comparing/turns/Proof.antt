@@ -4,10 +4,10 @@ use Rattle.walbryts.proofs.comparing.turns.Statement.{statement}
 use Rattle.walbryts.proofs.comparing.turns.Tie as tie
 
 abbrev Inv-loop : tie.InvT-loop
-Inv-loop p sheet nodes rows widths index fd buffer₀ s₀ left₀ buffer s left = Unit {0}
+Inv-loop p plan lent table numbers fd buffer₀ widths s₀ left₀ buffer s left = Unit {0}
 
 abbrev μ-loop : tie.MeasureT-loop
-μ-loop p sheet nodes rows widths index fd buffer₀ s₀ left₀ buffer s left = left
+μ-loop p plan lent table numbers fd buffer₀ widths s₀ left₀ buffer s left = left
 
 pub turns-spec : {M : Type 1} → statement M
 turns-spec =
@@ -17,6 +17,9 @@ turns-spec =
     μ-loop
     (λ c κs. search needs)
     (λ c. tt)
+    (λ c κs. search needs)
+    (λ c κs. search needs)
+    (λ c κs. search needs)
     (λ c κs. search needs)
     (λ c. search needs)
     (λ c. search needs)

@@ -4,10 +4,10 @@ use Rattle.walbryts.proofs.running.turns.Statement.{statement}
 use Rattle.walbryts.proofs.running.turns.Tie as tie
 
 abbrev Inv-loop : tie.InvT-loop
-Inv-loop p sheet nodes rows widths names text₀ buffer₀ c₀ left₀ text buffer c left = Unit {0}
+Inv-loop p plan lent table numbers names path buffer₀ text₀ waves₀ widths c₀ left₀ buffer text waves c left = Unit {0}
 
 abbrev μ-loop : tie.MeasureT-loop
-μ-loop p sheet nodes rows widths names text₀ buffer₀ c₀ left₀ text buffer c left = left
+μ-loop p plan lent table numbers names path buffer₀ text₀ waves₀ widths c₀ left₀ buffer text waves c left = left
 
 pub turns-spec : {M : Type 1} → statement M
 turns-spec =
@@ -15,11 +15,16 @@ turns-spec =
     (tie.spec
     Inv-loop
     μ-loop
+    (λ c κs. search needs)
     (λ c. tt)
     (λ c κs. search needs)
     (λ c κs. search needs)
+    (λ c κs. search needs)
+    (λ c κs. search needs)
+    (λ c κs. search needs)
     (λ c. search needs)
     (λ c. search needs)
     (λ c. tt)
-    (λ c. search needs)
+    (λ c κs. search needs)
+    (λ c κs. search needs)
     (λ c. search needs))

@@ -1,2 +1,0 @@
-pub mod Firing
-pub mod Changing

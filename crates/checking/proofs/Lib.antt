@@ -1,5 +1,0 @@
-pub mod Passes
-pub mod Places
-pub mod Rows
-pub mod Turns
-pub mod Judging

@@ -1,0 +1,4 @@
+pub mod Filling
+pub mod Tests
+pub mod Holding
+pub mod Claims

@@ -1,0 +1,11 @@
+pub mod Lists
+pub mod Writers
+pub mod Worth
+pub mod Answering
+pub mod Holding
+pub mod Handing
+pub mod Rows
+pub mod Cycling
+pub mod Fits
+pub mod Repeating
+pub mod Claims

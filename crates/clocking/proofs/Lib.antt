@@ -1,9 +1,0 @@
-pub mod Planes
-pub mod Turns
-pub mod Settling
-pub mod Working
-pub mod Taking
-pub mod Handing
-pub mod Keeping
-pub mod Reaching
-pub mod Clocking

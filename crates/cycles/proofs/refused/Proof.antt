@@ -1,0 +1,13 @@
+-- `cycles::cycles::refused` meets its contract. Assumes nothing.
+use mathlib.Core.Path.{refl}
+use Rattle.nextstate.specs.CycleRun.{refused}
+use Rattle.cycles.proofs.refused.Statement.{statement}
+use Rattle.cycles.proofs.refused.Tie as tie
+
+returns : tie.Need-returns
+unfolding refused
+returns c = refl
+
+pub refused-spec : {M : Type 1} → statement M
+refused-spec =
+    tie.close (tie.spec returns)

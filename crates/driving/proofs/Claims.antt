@@ -1,0 +1,64 @@
+-- The claim of driven cycles on a plan. Assumes nothing.
+use mathlib.Core.Path.{_≡_, refl, ap, _∙_}
+use mathlib.Core.Bool.{Bool, true, false}
+use mathlib.Core.List.{List}
+use Prim.Native.Nat.{ℕ, _^_, _<_}
+use native.Mathlib.Omega.{arith}
+use lib.Dec.{ltb}
+use lib.ListN.{length, getD, replicate, length-replicate, getD-replicate, List·getD-eq-default}
+use borrow.Author.Tests.{ltb-true, ltb-false}
+use Rattle.values.specs.Values.{pick}
+use Rattle.state.specs.State.{Bounded}
+use Rattle.events.specs.Calls.{started, start}
+use Rattle.events.proofs.Fits.{shaped-started}
+use Rattle.plan.specs.Plan.{planOf}
+use Rattle.prepared.specs.Prepared.{preparedPlan, startAt}
+use Rattle.prepared.specs.Claims as prepared
+use Rattle.prepared.proofs.Claims as preparing
+use Rattle.prepared_cycles.specs.declared.Driven.{Driven}
+use Rattle.prepared_cycles.specs.Claims as cycling
+use Rattle.prepared_cycles.proofs.Claims as cycles
+use Rattle.prepared_cycles.specs.Drives.{settled, driveCycles, drivenCycles}
+use Rattle.driving.specs.Plans.{seedOf, isDrawn, restOf, traced, begunAt, tracedAt, rowsAt, begunOn, tracedOn, rowsOn}
+use Rattle.driving.specs.Claims.{OnTheSheet}
+
+small : (n v k : ℕ) → 0 < k → getD (replicate n 0) v 0 < k
+small n v k h = by (ltb v n) refl
+  where
+    by : (t : Bool) → ltb v n ≡ t → getD (replicate n 0) v 0 < k
+    by true e = rw (getD-replicate {A = ℕ} n v 0 0 (ltb-true v n e)) h
+    by false e =
+        let l = ltb-false v n e in
+        let m = length-replicate {A = ℕ} n 0 in
+        rw (List·getD-eq-default {A = ℕ} (replicate n 0) 0 {n = v} (omega arith)) h
+
+bounded-started : (n : ℕ) → Bounded (started n)
+unfolding started
+bounded-started n =
+    record {
+      value = λ v. small 80 v (2 ^ 32) (omega arith);
+      pending = λ r. small 32 r (2 ^ 32) (omega arith);
+      places = λ i. small 8 i (2 ^ 8) (omega arith);
+      time = omega arith;
+      count = omega arith;
+    }
+
+pub on-the-sheet : OnTheSheet
+unfolding OnTheSheet prepared.OnTheSheet cycling.OnTheSheet begunAt begunOn tracedAt tracedOn rowsAt rowsOn startAt
+on-the-sheet s ws m e l =
+    let p = preparing.on-the-sheet s ws m e l in
+    record {
+      begin =
+          λ way.
+          ap (restOf way)
+          (cycles.on-the-sheet s ws m e l (startAt (planOf (preparedPlan s ws))) (shaped-started _) (bounded-started _) .settle (isDrawn way) (seedOf way)
+          ∙ ap (settled s (isDrawn way) (seedOf way)) (p .start));
+      trace =
+          λ r h b ns xs w.
+          ap (λ (d : Driven). pick (ltb (length ns) 16) (traced 0 r) (traced (d .phases) (restOf (r .way) d)))
+          (cycles.on-the-sheet s ws m e l (r .state) h b .drive (isDrawn (r .way)) (r .seed) ns xs w);
+      rows =
+          λ r h b ns xs w.
+          ap (λ (v : List ℕ). pick (ltb (length ns) 16) w v)
+          (cycles.on-the-sheet s ws m e l (r .state) h b .driven (isDrawn (r .way)) (r .seed) ns xs w);
+    }

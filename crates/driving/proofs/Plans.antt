@@ -1,0 +1,83 @@
+-- Laws by which the code goes on a plan, and those of a state's parts. Assumes nothing.
+use mathlib.Core.Path.{_≡_, refl, sym, ap, _∙_}
+use mathlib.Core.Bool.{Bool, true, false}
+use mathlib.Core.List.{List, [], _∷_, _++_}
+use Prim.Native.Nat.{ℕ, zero, suc, _+_, _<_, _≤_}
+use native.Mathlib.Nat.{not-suc-le-zero, le-of-suc-le-suc}
+use native.Mathlib.Omega.{arith}
+use borrow.Author.Tests.{lt-ltb, le-ltb}
+use lib.ListN.{length, getD, length-append, List·getD-eq-default}
+use lib.Seq.{sets}
+use Rattle.state.specs.declared.State.{State}
+use Rattle.state.specs.Saved.{listOf}
+use Rattle.state.proofs.Rows.{sets-append, sets-whole, length-listOf}
+use Rattle.nextstate.specs.declared.Registers.{Registers}
+use Rattle.options.specs.declared.Way.{Way}
+use Rattle.plan.specs.Plan.{Plan}
+use Rattle.plan_state.specs.Planes.{marked}
+use Rattle.prepared.specs.Prepared.{startAt}
+use Rattle.prepared_cycles.specs.declared.Driven.{Driven}
+use Rattle.prepared_cycles.specs.Traces.{placesIn, rowOf}
+use Rattle.prepared_cycles.specs.Drives.{settledAt, driveAt, drivenAt}
+use Rattle.driving.specs.declared.Rest.{Rest}
+use Rattle.driving.specs.declared.Traced.{Traced}
+use Rattle.driving.specs.Plans.{seedOf, isDrawn, restOf, traced, begunAt, tracedAt, rowsAt, wordsOf, registersIn}
+
+-- ---- begin and trace
+
+pub begun-is : (q : Plan) (way : Way) (st : State) (seed : ℕ) (t : Bool) (d : Driven) (r : Rest) → st ≡ startAt q → seed ≡ seedOf way
+    → t ≡ isDrawn way → d ≡ settledAt q t seed st → r ≡ restOf way d → r ≡ begunAt q way
+unfolding begunAt
+begun-is q way st seed t d r a b c e f = f ∙ ap (restOf way) (e ∙ (λ i. settledAt q (c i) (b i) (a i)))
+
+module _ (q : Plan) (r : Rest) (ns : List ℕ) (xs : List Bool) (w : List ℕ) where
+  abbrev Answers : Traced → List ℕ → Type 0
+  Answers t v = (t ≡ tracedAt q r ns xs w) × (v ≡ rowsAt q r ns xs w)
+
+  pub traced-none : length ns < 16 → Answers (traced 0 r) w
+  unfolding tracedAt rowsAt
+  traced-none h = (rw (lt-ltb (length ns) 16 h) refl, rw (lt-ltb (length ns) 16 h) refl)
+
+  pub traced-run : 16 ≤ length ns → (t : Bool) → t ≡ isDrawn (r .way) → (d : Driven) (v : List ℕ)
+      → d ≡ driveAt q t (r .seed) (r .state) ns xs w → v ≡ drivenAt q t (r .seed) (r .state) ns xs w → (e : Rest) → e ≡ restOf (r .way) d
+      → Answers (traced (d .phases) e) v
+  unfolding tracedAt rowsAt
+  traced-run h t c d v f g e k =
+      let f' = f ∙ ap (λ (b : Bool). driveAt q b (r .seed) (r .state) ns xs w) c in
+      let g' = g ∙ ap (λ (b : Bool). drivenAt q b (r .seed) (r .state) ns xs w) c in
+      (rw (le-ltb (length ns) 16 h, k, ← f') refl, rw (le-ltb (length ns) 16 h) g')
+
+-- ---- a row
+
+pub row-whole : (st : State) (zs us vs : List ℕ) → length zs ≡ 88 → us ≡ sets zs 0 (wordsOf (st .value) (st .unknown))
+    → vs ≡ sets us 80 (placesIn (st .places)) → vs ≡ rowOf st
+unfolding rowOf
+row-whole st zs us vs l e f =
+    let ws = wordsOf (st .value) (st .unknown) in
+    let ps = placesIn (st .places) in
+    let n : length ws ≡ 80 = length-listOf (λ v. marked (getD (st .value) v 0) (getD (st .unknown) v false)) 80 in
+    let at-end : 80 ≡ 0 + length ws = omega arith in
+    let k : length ps ≡ 8 = length-listOf (λ i. getD (st .places) i 0) 8 in
+    f
+    ∙ ap (λ (x : List ℕ). sets x 80 ps) e
+    ∙ ap (λ (x : ℕ). sets (sets zs 0 ws) x ps) at-end
+    ∙ sym (sets-append zs 0 ws ps)
+    ∙ sets-whole zs (ws ++ ps) (l ∙ sym (length-append ws ps ∙ (λ i. n i + k i)))
+
+-- ---- registers
+
+module _ {A : Type 0} where
+  pub getD-past : (l : List A) (d : A) (v : ℕ) → length l ≤ v → d ≡ getD l v d
+  getD-past l d v h = sym (List·getD-eq-default l d {n = v} h)
+
+  pub getD-any : (l : List A) (d e : A) (v : ℕ) → v < length l → getD l v d ≡ getD l v e
+  getD-any [] d e v h = absurd (not-suc-le-zero h)
+  getD-any (x ∷ l) d e zero h = refl
+  getD-any (x ∷ l) d e (suc v) h = getD-any l d e v (le-of-suc-le-suc h)
+
+pub registers-is :
+    (inputs : ℕ) (st : State) (a : List ℕ) (x : List Bool) → a ≡ listOf 32 (λ r. getD (st .value) (inputs + r) 0) →
+    x ≡ listOf 32 (λ r. getD (st .unknown) (inputs + r) true) →
+    _≡_ {A = Registers} (record { value = a; unknown = x; places = st .places }) (registersIn inputs st)
+unfolding registersIn
+registers-is inputs st a x e h = rw (e, h)

@@ -1,0 +1,29 @@
+-- What is claimed of driven cycles on a plan: on what `prepare` filled from an accepted sheet, whatever the plan held before, the start is
+-- run to rest, and each row of a trace has the state that the single calls of document 01 leave on that sheet, one after the other: an
+-- instant, then the plain run, or the choices that the same seeds draw (`prepared_cycles`, specs/Drives, `onSheet`). proofs/Claims shows
+-- it.
+use mathlib.Core.Path.{_≡_}
+use mathlib.Core.Bool.{Bool}
+use mathlib.Core.List.{List}
+use Prim.Native.Nat.{ℕ}
+use lib.ListN.{length}
+use Rattle.sheet.specs.Reading.{ok}
+use Rattle.sheet.specs.Expression.{Expr}
+use Rattle.sheet.specs.Module.{Module, read}
+use Rattle.state.specs.State.{Shaped, Bounded}
+use Rattle.options.specs.declared.Way.{Way}
+use Rattle.plan.specs.Plan.{Plan, planOf}
+use Rattle.prepared.specs.Prepared.{preparedPlan}
+use Rattle.driving.specs.declared.Rest.{Rest}
+use Rattle.driving.specs.Plans.{begunAt, tracedAt, rowsAt, begunOn, tracedOn, rowsOn}
+
+pub record Same (s : List ℕ) (q : Plan) : Type 0 where
+  pub begin : (way : Way) → begunAt q way ≡ begunOn s way
+  -- Every state that code has is of such lengths and numbers.
+  pub trace : (r : Rest) → Shaped (r .state) → Bounded (r .state) → (ns : List ℕ) (xs : List Bool) (w : List ℕ)
+      → tracedAt q r ns xs w ≡ tracedOn s r ns xs w
+  pub rows : (r : Rest) → Shaped (r .state) → Bounded (r .state) → (ns : List ℕ) (xs : List Bool) (w : List ℕ)
+      → rowsAt q r ns xs w ≡ rowsOn s r ns xs w
+
+unfoldable pub OnTheSheet : Type 0
+OnTheSheet = (s ws : List ℕ) (m : Module Expr) → read s ≡ ok m → length ws ≡ 25212 → Same s (planOf (preparedPlan s ws))

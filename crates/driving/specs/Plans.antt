@@ -1,0 +1,89 @@
+-- A module driven through clock cycles on its plan, by the way of the run: from the start to rest, and rows of inputs, two instants each,
+-- each run to rest (`prepared_cycles`). Defined for plans of any contents; specs/Claims says what they are on an accepted sheet.
+use mathlib.Core.Bool.{Bool, true, false}
+use mathlib.Core.List.{List}
+use Prim.Native.Nat.{ℕ, _+_}
+use lib.ListN.{length, getD}
+use lib.Dec.{ltb}
+use Rattle.values.specs.Values.{pick}
+use Rattle.state.specs.declared.State.{State}
+use Rattle.state.specs.Saved.{listOf}
+use Rattle.events.specs.Calls.{start}
+use Rattle.nextstate.specs.declared.Registers.{Registers}
+use Rattle.options.specs.declared.Way.{Way}
+use Rattle.options.specs.declared.Way.the-variants.{Plain, Drawn, Expressed}
+use Rattle.plan.specs.Plan.{Plan}
+use Rattle.plan_state.specs.Planes.{marked}
+use Rattle.prepared.specs.Prepared.{startAt}
+use Rattle.prepared_cycles.specs.declared.Driven.{Driven}
+use Rattle.prepared_cycles.specs.Drives.{settled, driveCycles, drivenCycles, settledAt, driveAt, drivenAt}
+use Rattle.driving.specs.declared.Rest.{Rest}
+use Rattle.driving.specs.declared.Traced.{Traced}
+
+abbrev pub rest : Way → ℕ → Bool → State → ℕ → Rest
+rest way number rested st seed = record { way = way; number = number; rested = rested; state = st; seed = seed }
+
+-- ---- the way of a run
+
+-- The seed that choices are drawn by.
+unfoldable pub seedOf : Way → ℕ
+seedOf Plain = 0
+seedOf (Drawn n) = n
+seedOf Expressed = 0
+
+-- Are its choices drawn? Events go by the plain run else, also before and beside the expressions.
+unfoldable pub isDrawn : Way → Bool
+isDrawn Plain = false
+isDrawn (Drawn n) = true
+isDrawn Expressed = false
+
+-- What driven cycles leave.
+unfoldable pub restOf : Way → Driven → Rest
+restOf way d = rest way (d .number) (d .rested) (d .state) (d .seed)
+
+abbrev pub traced : ℕ → Rest → Traced
+traced p r = record { phases = p; rest = r }
+
+-- ---- on a plan
+
+unfoldable pub begunAt : Plan → Way → Rest
+begunAt q way = restOf way (settledAt q (isDrawn way) (seedOf way) (startAt q))
+
+module _ (q : Plan) (r : Rest) (ns : List ℕ) (xs : List Bool) (w : List ℕ) where
+  -- Where there is no row nothing is altered.
+  unfoldable pub tracedAt : Traced
+  tracedAt =
+      let d = driveAt q (isDrawn (r .way)) (r .seed) (r .state) ns xs w in
+      pick (ltb (length ns) 16) (traced 0 r) (traced (d .phases) (restOf (r .way) d))
+
+  -- What is left in what is lent.
+  unfoldable pub rowsAt : List ℕ
+  rowsAt = pick (ltb (length ns) 16) w (drivenAt q (isDrawn (r .way)) (r .seed) (r .state) ns xs w)
+
+-- ---- the same by the single calls on a sheet
+
+unfoldable pub begunOn : List ℕ → Way → Rest
+begunOn s way = restOf way (settled s (isDrawn way) (seedOf way) (start s .state))
+
+module _ (s : List ℕ) (r : Rest) (ns : List ℕ) (xs : List Bool) (w : List ℕ) where
+  unfoldable pub tracedOn : Traced
+  tracedOn =
+      let d = driveCycles s (isDrawn (r .way)) (r .seed) (r .state) ns xs w in
+      pick (ltb (length ns) 16) (traced 0 r) (traced (d .phases) (restOf (r .way) d))
+
+  unfoldable pub rowsOn : List ℕ
+  rowsOn = pick (ltb (length ns) 16) w (drivenCycles s (isDrawn (r .way)) (r .seed) (r .state) ns xs w)
+
+-- ---- a state's parts
+
+abbrev pub wordsOf : List ℕ → List Bool → List ℕ
+wordsOf ns xs = listOf 80 (λ v. marked (getD ns v 0) (getD xs v false))
+
+-- A state's registers and places, as a cycle run is handed them.
+unfoldable pub registersIn : ℕ → State → Registers
+registersIn inputs st =
+    record {
+      value = listOf 32 (λ r. getD (st .value) (inputs + r) 0);
+      unknown = listOf 32 (λ r. getD (st .unknown) (inputs + r) true);
+      places = st .places;
+    }

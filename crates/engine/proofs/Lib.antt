@@ -1,3 +1,0 @@
-pub mod Acting
-pub mod Taking
-pub mod Running

@@ -1,0 +1,49 @@
+-- `options::judging::fitted` meets its contract, row by row. Assumes nothing.
+use borrow.Author.Needs.{needs}
+use borrow.Author.Tests.{eq-eqb, ne-eqb}
+use mathlib.Core.Path.{sym, ap, _∙_}
+use Prim.Native.Nat.{ℕ}
+use Rattle.options.specs.declared.Request.the-variants.{Wrong, Asked}
+use Rattle.options.specs.Requests.{fitted}
+use Rattle.options.proofs.judging.fitted.Statement.{statement}
+use Rattle.options.proofs.judging.fitted.Tie as tie
+
+returns : tie.Need-returns
+unfolding fitted
+returns c = rw (← c .before .misfit .ensures, ne-eqb _ _ (c .if1 .taken))
+
+returns-2 : tie.Need-returns-2
+unfolding fitted
+returns-2 c =
+    let at-clash = c .before in
+    let at-misfit = at-clash .before .before in
+    rw (
+      ← at-misfit .before .misfit .ensures,
+      eq-eqb _ _ (at-misfit .if1 .left),
+      sym (at-clash .before .clashing .ensures) ∙ at-clash .if2 .taken,
+    )
+    (ap (λ (n : ℕ). Wrong n 6) (c .word-of .ensures))
+
+returns-3 : tie.Need-returns-3
+unfolding fitted
+returns-3 c =
+    let at-clash = c .before in
+    let at-misfit = at-clash .before .before in
+    rw (
+      ← at-misfit .before .misfit .ensures,
+      eq-eqb _ _ (at-misfit .if1 .left),
+      sym (at-clash .before .clashing .ensures) ∙ at-clash .if2 .left,
+    )
+    (ap Asked (c .commanded .ensures))
+
+pub fitted-spec : {M : Type 1} → statement M
+fitted-spec =
+    tie.close
+    (tie.spec
+    (λ c κs. search needs)
+    returns
+    (λ c κs. search needs)
+    (λ c κs. search needs)
+    returns-2
+    (λ c κs. search needs)
+    returns-3)

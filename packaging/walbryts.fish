@@ -1,0 +1,15 @@
+# Completion of walbryts for fish.
+set -l commands list check run compare extract verilog sheet
+complete -c walbryts -n "not __fish_seen_subcommand_from $commands" -f -a "$commands"
+complete -c walbryts -n "not __fish_seen_subcommand_from $commands" -l help -d "what there is"
+complete -c walbryts -n "not __fish_seen_subcommand_from $commands" -l version -d "the version"
+complete -c walbryts -l verilog -d "the module is Verilog text"
+complete -c walbryts -n "__fish_seen_subcommand_from run" -l wires -d "show the wires too"
+complete -c walbryts -n "__fish_seen_subcommand_from run" -l seed -x -d "draw the choices"
+complete -c walbryts -n "__fish_seen_subcommand_from run" -l by-expressions -d "by the extracted expressions"
+complete -c walbryts -n "__fish_seen_subcommand_from run" -l last -d "only the last cycle"
+complete -c walbryts -n "__fish_seen_subcommand_from run" -l vcd -r -d "write a waveform"
+complete -c walbryts -n "__fish_seen_subcommand_from run" -l progress -d "say how far it has come"
+complete -c walbryts -n "__fish_seen_subcommand_from run" -l any-order -d "no word where the order matters"
+complete -c walbryts -n "__fish_seen_subcommand_from run compare extract" -l names -r -d "names of variables"
+complete -c walbryts -n "__fish_seen_subcommand_from extract" -l dot -d "a graph for Graphviz"
