@@ -8,28 +8,28 @@ use Rattle.values.specs.declared.Value.the-variants.{Known, Unknown}
 use Rattle.values.specs.Planes.{numberOf, isUnknown}
 use Rattle.sheet.specs.Reading.{word, wordOf}
 use Rattle.state.specs.declared.State.{State}
-use Rattle.state.specs.State.{withPlanes, withSlots, withPlaces, withMarks, withCounters}
+use Rattle.state.specs.State.{withPlanes, withSlots, withPlaces, withMarks, countersOf, withCounters}
 use Rattle.state.specs.State.{withValue, withPending, withPlace, withDue}
 use Rattle.state.specs.Saved.{rows, listOf, allBelow, flagByte, wordBytes, valueRow, valueBytes, slotRow, slotBytes}
-use Rattle.state.specs.Saved.{placeRow, placeBytes, markRow, markBytes, saved}
+use Rattle.state.specs.Saved.{placeRow, placeBytes, markRow, markBytes, body, tail, saved}
 use Rattle.state.specs.Saved.{isFlag, flagAt, valueFlags, slotFlags, markFlags}
-use Rattle.state.specs.Saved.{isSaved, stateIn, loaded, zeroState}
+use Rattle.state.specs.Saved.{bodyFlags, isForm, countersIn, stateIn, loaded, zeroState}
 
 -- Variable 0 is x, register 1 is to become 67305985, thread 7 is at place 9, wire 31 is due, time 258 and count 3.
 sample : State
 sample =
-    withCounters (withDue (withPlace (withPending (withValue zeroState 0 Unknown) 1 (Known 67305985)) 7 9) 31 true) 258 3
+    withCounters (withDue (withPlace (withPending (withValue zeroState 0 Unknown) 1 (Known 67305985)) 7 9) 31 true) (countersOf 258 3)
 
 -- The form and variable 0, x with the number 0; register 1's slot, held, known, low byte first; thread 7's place; wire 31's
 -- mark, time and count.
 sample-saved :
     (take 6 (saved sample) ≡ 1 ∷ 1 ∷ 0 ∷ 0 ∷ 0 ∷ 0 ∷ []) × (take 6 (drop 407 (saved sample)) ≡ 1 ∷ 0 ∷ 1 ∷ 2 ∷ 3 ∷ 4 ∷ [])
     × (getD (saved sample) 600 0 ≡ 9) × (drop 632 (saved sample) ≡ 1 ∷ 2 ∷ 1 ∷ 0 ∷ 0 ∷ 3 ∷ 0 ∷ 0 ∷ 0 ∷ [])
-unfolding sample zeroState withCounters withDue withMarks withPlace withPlaces withPending withSlots withValue withPlanes numberOf isUnknown saved valueBytes slotBytes placeBytes markBytes rows valueRow slotRow placeRow markRow flagByte wordBytes
+unfolding sample zeroState withCounters withDue withMarks withPlace withPlaces withPending withSlots withValue withPlanes numberOf isUnknown saved body tail valueBytes slotBytes placeBytes markBytes rows valueRow slotRow placeRow markRow flagByte wordBytes
 sample-saved = (refl, refl, refl, refl)
 
 sample-loaded : loaded (saved sample) ≡ some sample
-unfolding sample zeroState withCounters withDue withMarks withPlace withPlaces withPending withSlots withValue withPlanes numberOf isUnknown saved valueBytes slotBytes placeBytes markBytes rows valueRow slotRow placeRow markRow flagByte wordBytes loaded isSaved valueFlags slotFlags markFlags allBelow isFlag stateIn listOf flagAt wordOf word
+unfolding sample zeroState withCounters withDue withMarks withPlace withPlaces withPending withSlots withValue withPlanes numberOf isUnknown saved body tail valueBytes slotBytes placeBytes markBytes rows valueRow slotRow placeRow markRow flagByte wordBytes loaded isForm bodyFlags valueFlags slotFlags markFlags allBelow isFlag countersIn stateIn listOf flagAt wordOf word
 sample-loaded = refl
 
 -- Bytes of another length, form or flag: no byte, one byte more, form 2, and 2 at the flag of a value, at the two flags of
@@ -38,5 +38,5 @@ bad-refused :
     (loaded [] ≡ none) × (loaded (saved zeroState ++ (0 ∷ [])) ≡ none) × (loaded (set (saved zeroState) 0 2) ≡ none)
     × (loaded (set (saved zeroState) 396 2) ≡ none) × (loaded (set (saved zeroState) 587 2) ≡ none)
     × (loaded (set (saved zeroState) 588 2) ≡ none) × (loaded (set (saved zeroState) 632 2) ≡ none)
-unfolding zeroState saved valueBytes slotBytes placeBytes markBytes rows valueRow slotRow placeRow markRow flagByte wordBytes loaded isSaved valueFlags slotFlags markFlags allBelow isFlag stateIn listOf flagAt wordOf word
+unfolding zeroState saved body tail valueBytes slotBytes placeBytes markBytes rows valueRow slotRow placeRow markRow flagByte wordBytes loaded isForm bodyFlags valueFlags slotFlags markFlags allBelow isFlag countersIn stateIn listOf flagAt wordOf word
 bad-refused = (refl, refl, refl, refl, refl, refl, refl)

@@ -9,7 +9,7 @@ use lib.ListN.{length, getD, set, length-append}
 use lib.Seq.{sets}
 use Rattle.state.specs.declared.State.{State}
 use Rattle.state.specs.Saved.{rows, flagByte, wordBytes, valueRow, slotRow, placeRow, markRow}
-use Rattle.state.specs.Saved.{valueBytes, slotBytes, placeBytes, markBytes, saved}
+use Rattle.state.specs.Saved.{valueBytes, slotBytes, placeBytes, markBytes, body, tail, saved}
 use Rattle.state.proofs.Rows.{sets-append, length-rows, rows-step}
 
 -- ---- four bytes of a number
@@ -109,11 +109,11 @@ module _ (ds : List Bool) where
 
 -- ---- the whole: parts of the lengths that the form has, one after the other
 
-join : (l vs ss ps ms ts cs : List ℕ)
+join : (n : ℕ) (l vs ss ps ms ts cs : List ℕ)
     → length vs ≡ 400 → length ss ≡ 192 → length ps ≡ 8 → length ms ≡ 32 → length ts ≡ 4
-    → sets (sets (sets (sets (sets (sets (set l 0 1) 1 vs) 401 ss) 593 ps) 601 ms) 633 ts) 637 cs
-    ≡ sets l 0 (1 ∷ vs ++ ss ++ ps ++ ms ++ ts ++ cs)
-join l vs ss ps ms ts cs v s p m t = sym (simp (sets-append, length-append, v, s, p, m, t))
+    → sets (sets (sets (sets (sets (sets (set l 0 n) 1 vs) 401 ss) 593 ps) 601 ms) 633 ts) 637 cs
+    ≡ sets l 0 (n ∷ (vs ++ ss ++ ps ++ ms) ++ (ts ++ cs))
+join n l vs ss ps ms ts cs v s p m t = sym (simp (sets-append, length-append, v, s, p, m, t))
 
 pub saved-sets : (st : State) (l : List ℕ)
     → sets (sets (sets (sets (sets (sets (set l 0 1)
@@ -121,12 +121,12 @@ pub saved-sets : (st : State) (l : List ℕ)
     401 (slotBytes (st .held) (st .pending) (st .unsure)))
     593 (placeBytes (st .places)))
     601 (markBytes (st .due)))
-    633 (wordBytes (st .time)))
-    637 (wordBytes (st .count))
+    633 (wordBytes (st .counters .time)))
+    637 (wordBytes (st .counters .count))
     ≡ sets l 0 (saved st)
-unfolding saved
+unfolding saved body tail
 saved-sets st l =
-    join l (valueBytes (st .value) (st .unknown)) (slotBytes (st .held) (st .pending) (st .unsure))
-    (placeBytes (st .places)) (markBytes (st .due)) (wordBytes (st .time)) (wordBytes (st .count))
+    join 1 l (valueBytes (st .value) (st .unknown)) (slotBytes (st .held) (st .pending) (st .unsure))
+    (placeBytes (st .places)) (markBytes (st .due)) (wordBytes (st .counters .time)) (wordBytes (st .counters .count))
     (length-values (st .value) (st .unknown)) (length-slots (st .held) (st .pending) (st .unsure))
-    (length-places (st .places)) (length-marks (st .due)) (length-word (st .time))
+    (length-places (st .places)) (length-marks (st .due)) (length-word (st .counters .time))

@@ -7,8 +7,10 @@ use lib.Dec.{leb, eqb}
 use lib.ListN.{length, getD, replicate}
 use Rattle.values.specs.Values.{pick}
 use Rattle.sheet.specs.Reading.{wordOf}
+use Rattle.state.specs.declared.Counters.{Counters}
 use Rattle.state.specs.declared.State.{State}
 use Rattle.state.specs.declared.Loaded.{Loaded}
+use Rattle.state.specs.State.{countersOf}
 
 -- ---- rows, one after the other
 
@@ -64,15 +66,21 @@ markRow ds k = flagByte (getD ds k false) ∷ []
 unfoldable pub markBytes : List Bool → List ℕ
 markBytes ds = rows 32 (markRow ds)
 
--- The form's number is 1. "time and count (4 bytes each): 640 bytes"
-unfoldable pub saved : State → List ℕ
-saved st =
-    1 ∷ valueBytes (st .value) (st .unknown)
+-- After the form's number: 632 bytes
+unfoldable pub body : State → List ℕ
+body st =
+    valueBytes (st .value) (st .unknown)
     ++ slotBytes (st .held) (st .pending) (st .unsure)
     ++ placeBytes (st .places)
     ++ markBytes (st .due)
-    ++ wordBytes (st .time)
-    ++ wordBytes (st .count)
+
+-- "time and count (4 bytes each)"
+unfoldable pub tail : Counters → List ℕ
+tail c = wordBytes (c .time) ++ wordBytes (c .count)
+
+-- The form's number is 1. "640 bytes" follow.
+unfoldable pub saved : State → List ℕ
+saved st = 1 ∷ body st ++ tail (st .counters)
 
 -- ---- loaded: the state that bytes are the saved form of
 
@@ -96,12 +104,18 @@ slotFlags b = allBelow 32 (λ r. isFlag b (401 + 6 * r) && isFlag b (402 + 6 * r
 unfoldable pub markFlags : List ℕ → Bool
 markFlags b = allBelow 32 (λ k. isFlag b (601 + k))
 
--- Bytes of another length, form or flag are no state.
-unfoldable pub isSaved : List ℕ → Bool
-isSaved b = eqb (length b) 641 && eqb (getD b 0 0) 1 && valueFlags b && slotFlags b && markFlags b
+unfoldable pub bodyFlags : List ℕ → Bool
+bodyFlags b = valueFlags b && slotFlags b && markFlags b
 
-unfoldable pub stateIn : List ℕ → State
-stateIn b =
+-- Bytes of another length, form or flag are no state.
+unfoldable pub isForm : ℕ → ℕ → List ℕ → Bool
+isForm form size b = eqb (length b) size && eqb (getD b 0 0) form && bodyFlags b
+
+unfoldable pub countersIn : List ℕ → Counters
+countersIn b = countersOf (wordOf b 633) (wordOf b 637)
+
+unfoldable pub stateIn : List ℕ → Counters → State
+stateIn b c =
     record {
       value = listOf 80 (λ v. wordOf b (2 + 5 * v));
       unknown = listOf 80 (λ v. flagAt b (1 + 5 * v));
@@ -110,12 +124,11 @@ stateIn b =
       held = listOf 32 (λ r. flagAt b (401 + 6 * r));
       places = listOf 8 (λ i. getD b (593 + i) 0);
       due = listOf 32 (λ k. flagAt b (601 + k));
-      time = wordOf b 633;
-      count = wordOf b 637;
+      counters = c;
     }
 
 unfoldable pub loaded : List ℕ → Option State
-loaded b = pick (isSaved b) (some (stateIn b)) none
+loaded b = pick (isForm 1 641 b) (some (stateIn b (countersIn b))) none
 
 -- ---- what `load` answers
 
@@ -130,8 +143,7 @@ zeroState =
       held = replicate 32 false;
       places = replicate 8 0;
       due = replicate 32 false;
-      time = 0;
-      count = 0;
+      counters = countersOf 0 0;
     }
 
 -- Where nothing is found, the state says nothing: it is the one with every number 0.

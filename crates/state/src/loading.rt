@@ -1,4 +1,5 @@
 // A state out of its saved form.
+use super::Counters;
 use super::Loaded;
 use super::State;
 use sheet::byte_at;
@@ -7,8 +8,8 @@ ghost use mathlib.Core.Path.{_≡_};
 ghost use Prim.Native.Nat.{_+_, _*_};
 ghost use lib.ListN.{getD};
 ghost use Rattle.sheet.specs.Reading.{wordOf};
-ghost use Rattle.state.specs.Saved.{isFlag, valueFlags, slotFlags, markFlags, isSaved};
-ghost use Rattle.state.specs.Saved.{flagAt, listOf, stateIn, zeroState, loaded, loadedAnswer};
+ghost use Rattle.state.specs.Saved.{isFlag, valueFlags, slotFlags, markFlags, bodyFlags, isForm};
+ghost use Rattle.state.specs.Saved.{flagAt, listOf, countersIn, stateIn, zeroState, loaded, loadedAnswer};
 
 // ---- are these bytes the saved form of a state?
 
@@ -61,15 +62,9 @@ fn mark_flags(bytes: &[u8]) -> bool
     true
 }
 
-fn is_saved(bytes: &[u8]) -> bool
-    ensures { λ r. ⌜ r ≡ isSaved (now (bytes .entry)) ⌝ }
+fn body_flags(bytes: &[u8]) -> bool
+    ensures { λ r. ⌜ r ≡ bodyFlags (now (bytes .entry)) ⌝ }
 {
-    if bytes.len() != 641 {
-        return false;
-    }
-    if byte_at(bytes, 0) != 1 {
-        return false;
-    }
     if !value_flags(bytes) {
         return false;
     }
@@ -77,6 +72,19 @@ fn is_saved(bytes: &[u8]) -> bool
         return false;
     }
     mark_flags(bytes)
+}
+
+// Are they of this form, with its number of bytes?
+fn is_form(form: u8, size: usize, bytes: &[u8]) -> bool
+    ensures { λ r. ⌜ r ≡ isForm form size (now (bytes .entry)) ⌝ }
+{
+    if bytes.len() != size {
+        return false;
+    }
+    if byte_at(bytes, 0) != form {
+        return false;
+    }
+    body_flags(bytes)
 }
 
 // ---- the parts of the state
@@ -174,8 +182,17 @@ fn due_in(bytes: &[u8]) -> [bool; 32]
 
 // ---- the state
 
-fn state_in(bytes: &[u8]) -> State
-    ensures { λ r. ⌜ r ≡ stateIn (now (bytes .entry)) ⌝ }
+fn counters_in(bytes: &[u8]) -> Counters
+    ensures { λ r. ⌜ r ≡ countersIn (now (bytes .entry)) ⌝ }
+{
+    Counters {
+        time: word_at(bytes, 633),
+        count: word_at(bytes, 637),
+    }
+}
+
+fn state_in(bytes: &[u8], counters: Counters) -> State
+    ensures { λ r. ⌜ r ≡ stateIn (now (bytes .entry)) counters ⌝ }
 {
     let value = value_in(bytes);
     let unknown = unknown_in(bytes);
@@ -192,8 +209,7 @@ fn state_in(bytes: &[u8]) -> State
         held,
         places,
         due,
-        time: word_at(bytes, 633),
-        count: word_at(bytes, 637),
+        counters,
     }
 }
 
@@ -209,8 +225,7 @@ fn zero_state() -> State
         held: [false; 32],
         places: [0u8; 8],
         due: [false; 32],
-        time: 0,
-        count: 0,
+        counters: Counters { time: 0, count: 0 },
     }
 }
 
@@ -218,13 +233,14 @@ fn zero_state() -> State
 pub fn load(bytes: &[u8]) -> Loaded
     ensures { λ r. ⌜ r ≡ loadedAnswer (loaded (now (bytes .entry))) ⌝ }
 {
-    if !is_saved(bytes) {
+    if !is_form(1, 641, bytes) {
         let state = zero_state();
         return Loaded {
             found: false,
             state,
         };
     }
-    let state = state_in(bytes);
+    let counters = counters_in(bytes);
+    let state = state_in(bytes, counters);
     Loaded { found: true, state }
 }

@@ -88,7 +88,7 @@ pub fn save(st: State, out: &mut [u8; 641])
     put_slots(&st.held, &st.pending, &st.unsure, &mut bytes);
     put_places(&st.places, &mut bytes);
     put_marks(&st.due, &mut bytes);
-    put_word(st.time, &mut bytes, 633);
-    put_word(st.count, &mut bytes, 637);
+    put_word(st.counters.time, &mut bytes, 633);
+    put_word(st.counters.count, &mut bytes, 637);
     *out = bytes;
 }

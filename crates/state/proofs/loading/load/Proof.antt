@@ -9,16 +9,16 @@ use Rattle.state.proofs.loading.load.Tie as tie
 returns : tie.Need-returns
 unfolding loaded loadedAnswer
 returns c =
-    let e = sym (c .before .before .is-saved .ensures) ∙ not-true _ (c .before .if1 .taken) in
+    let e = sym (c .before .before .is-form .ensures) ∙ not-true _ (c .before .if1 .taken) in
     rw (e, c .zero-state .ensures)
 
 returns-2 : tie.Need-returns-2
 unfolding loaded loadedAnswer
 returns-2 c =
-    let e = sym (c .before .before .is-saved .ensures) ∙ not-false _ (c .before .if1 .left) in
-    rw (e, c .state-in .ensures)
+    let e = sym (c .before .before .before .is-form .ensures) ∙ not-false _ (c .before .before .if1 .left) in
+    rw (e, c .state-in .ensures, c .before .counters-in .ensures)
 
 pub load-spec : {M : Type 1} → statement M
 load-spec =
     tie.close
-    (tie.spec (λ c κs. search needs) (λ c κs. search needs) returns (λ c κs. search needs) returns-2)
+    (tie.spec (λ c κs. search needs) (λ c κs. search needs) returns (λ c κs. search needs) (λ c κs. search needs) returns-2)

@@ -3,7 +3,7 @@ use mathlib.Core.Path.{_∙_}
 use Prim.Native.Nat.{ℕ}
 use lib.ListN.{replicate, length-replicate}
 use borrow.Author.Needs.{needs}
-use Rattle.state.proofs.Laid.{sets-saved}
+use Rattle.state.proofs.Saved.{sets-saved}
 use Rattle.state.proofs.Stores.{saved-sets}
 use Rattle.state.proofs.saving.save.Statement.{statement}
 use Rattle.state.proofs.saving.save.Tie as tie
