@@ -19,7 +19,7 @@ use Rattle.pseudocode.specs.Fetching.{fetchAt}
 use Rattle.masks.specs.Masks.{first, anyMark}
 use Rattle.masks.proofs.Masks.{any-none, any-some, first-lowest}
 use Rattle.state.specs.declared.State.{State}
-use Rattle.state.specs.State.{withCounters, pendingOf, placeOf, isDue}
+use Rattle.state.specs.State.{countersOf, withCounters, pendingOf, placeOf, isDue}
 use Rattle.events.specs.Cycle.{current, anyBelow, isWait, threadEnabled, items, enabled, anyEnabled, isSome, anyPending}
 use Rattle.events.specs.Cycle.{quiet, runThread, runWire}
 use Rattle.events.specs.Cycle as cycle
@@ -194,7 +194,7 @@ module _ {s : List ℕ} {m : Module Expr} {q : Plan} (w : PlanOf s m q) (st : St
   -- A choice is made on the state with one more in the count.
   live-counted : liveOf m (counted st) ≡ liveOf m st
   unfolding counted
-  live-counted = live-withCounters m st (st .time) (st .count + 1)
+  live-counted = live-withCounters m st (countersOf (st .counters .time) (st .counters .count + 1))
 
   unless-live :
       (n : ℕ) (l : Live) (new : State) → l ≡ liveOf m new →
@@ -224,52 +224,52 @@ module _ {s : List ℕ} {m : Module Expr} {q : Plan} (w : PlanOf s m q) (st : St
 
   thread-live :
       (i : ℕ) → i < length (m .threads) →
-      takeThread q (st .count) i (liveOf m st)
-      ≡ takenOf m (answer (pick (threadEnabled m st i) (spend (st .count)) 33) st (runThread m i (counted st)))
+      takeThread q (st .counters .count) i (liveOf m st)
+      ≡ takenOf m (answer (pick (threadEnabled m st i) (spend (st .counters .count)) 33) st (runThread m i (counted st)))
   unfolding takeThread takeInstr threadEnabled answer placeOf waiting liveOf sceneOf
   thread-live i h = by (fetchAt (q .tables .sheet) (q .tables .code) i (placeOf st i)) refl (thread-waits i h)
     where
       by : (y : Instruction) → fetchAt (q .tables .sheet) (q .tables .code) i (placeOf st i) ≡ y →
           waiting y ≡ isWait (current m st i) →
-          takeInstr q (st .count) i (placeOf st i) y (liveOf m st)
+          takeInstr q (st .counters .count) i (placeOf st i) y (liveOf m st)
           ≡ takenOf m
-          (answer (pick (not (isWait (current m st i))) (spend (st .count)) 33) st (runThread m i (counted st)))
+          (answer (pick (not (isWait (current m st i))) (spend (st .counters .count)) 33) st (runThread m i (counted st)))
       by (Wait t) e d = rw (← d)
       by (Act a) e d =
           rw (← d)
-          (unless-live (st .count) (act q i (placeOf st i) a (liveOf m st)) (runThread m i (counted st))
+          (unless-live (st .counters .count) (act q i (placeOf st i) a (liveOf m st)) (runThread m i (counted st))
           (act-counted i a h e))
 
   wire-live :
       (j : ℕ) → j < length (m .wires) →
-      takeWire q (st .count) j (liveOf m st)
-      ≡ takenOf m (answer (pick (isDue st j) (spend (st .count)) 33) st (runWire m j (counted st)))
+      takeWire q (st .counters .count) j (liveOf m st)
+      ≡ takenOf m (answer (pick (isDue st j) (spend (st .counters .count)) 33) st (runWire m j (counted st)))
   unfolding takeWire isDue liveOf sceneOf answer
   wire-live j h = by (getD (st .due) j false)
     where
       by : (t : Bool) →
-          pick t (unless (st .count) (liveOf m st) (inScene (settle q j) (liveOf m st))) (taken 33 (liveOf m st))
-          ≡ takenOf m (answer (pick t (spend (st .count)) 33) st (runWire m j (counted st)))
+          pick t (unless (st .counters .count) (liveOf m st) (inScene (settle q j) (liveOf m st))) (taken 33 (liveOf m st))
+          ≡ takenOf m (answer (pick t (spend (st .counters .count)) 33) st (runWire m j (counted st)))
       by true =
-          unless-live (st .count) (inScene (settle q j) (liveOf m st)) (runWire m j (counted st))
+          unless-live (st .counters .count) (inScene (settle q j) (liveOf m st)) (runWire m j (counted st))
           (ap (inScene (settle q j)) (sym live-counted) ∙ settle-live w j (counted st) h (kept-counted k))
       by false = refl
 
   commit-taken :
-      takeCommit q (st .count) (liveOf m st)
+      takeCommit q (st .counters .count) (liveOf m st)
       ≡ takenOf m
-      (answer (pick (anyEnabled m st) 34 (pick (anyPending m st) (spend (st .count)) 35)) st (cycle.commit m (counted st)))
+      (answer (pick (anyEnabled m st) 34 (pick (anyPending m st) (spend (st .counters .count)) 35)) st (cycle.commit m (counted st)))
   unfolding takeCommit liveOf sceneOf answer
   commit-taken = rw (any-enabled, any-pending) (by (anyEnabled m st) (anyPending m st))
     where
       by : (a b : Bool) →
           pick a (taken 34 (liveOf m st))
-          (pick b (unless (st .count) (liveOf m st) (commit q (liveOf m st)))
+          (pick b (unless (st .counters .count) (liveOf m st) (commit q (liveOf m st)))
           (taken 35 (liveOf m st)))
-          ≡ takenOf m (answer (pick a 34 (pick b (spend (st .count)) 35)) st (cycle.commit m (counted st)))
+          ≡ takenOf m (answer (pick a 34 (pick b (spend (st .counters .count)) 35)) st (cycle.commit m (counted st)))
       by true b = refl
       by false true =
-          unless-live (st .count) (commit q (liveOf m st)) (cycle.commit m (counted st))
+          unless-live (st .counters .count) (commit q (liveOf m st)) (cycle.commit m (counted st))
           (ap (commit q) (sym live-counted) ∙ commit-live w (counted st) (kept-counted k))
       by false false = refl
 
@@ -278,7 +278,7 @@ module _ {s : List ℕ} {m : Module Expr} {q : Plan} (w : PlanOf s m q) (st : St
   refused = refl
 
   -- A choice has the number that it has in the simulation cycle, and leaves the state that it leaves there.
-  pub take-live : (c : ℕ) → takeChoice q (st .count) c (liveOf m st) ≡ takenOf m (chooseIn m st c)
+  pub take-live : (c : ℕ) → takeChoice q (st .counters .count) c (liveOf m st) ≡ takenOf m (chooseIn m st c)
   unfolding takeChoice chooseIn refusal performed items enabled
   take-live c =
       ap (λ (n : ℕ). tests n (q .shape .wires)) (w .threads)
@@ -287,21 +287,21 @@ module _ {s : List ℕ} {m : Module Expr} {q : Plan} (w : PlanOf s m q) (st : St
     where
       tests : ℕ → ℕ → Taken
       tests threads wires =
-          pick (ltb c threads) (takeThread q (st .count) c (liveOf m st))
-          (pick (ltb c (threads + wires)) (takeWire q (st .count) (c - threads) (liveOf m st))
-          (pick (eqb c 255) (takeCommit q (st .count) (liveOf m st))
+          pick (ltb c threads) (takeThread q (st .counters .count) c (liveOf m st))
+          (pick (ltb c (threads + wires)) (takeWire q (st .counters .count) (c - threads) (liveOf m st))
+          (pick (eqb c 255) (takeCommit q (st .counters .count) (liveOf m st))
           (taken 22 (liveOf m st))))
 
       by : (a : Bool) → ltb c (length (m .threads)) ≡ a →
           (b : Bool) → ltb c (length (m .threads) + length (m .wires)) ≡ b → (d : Bool) →
-          pick a (takeThread q (st .count) c (liveOf m st))
-          (pick b (takeWire q (st .count) (c - length (m .threads)) (liveOf m st))
-          (pick d (takeCommit q (st .count) (liveOf m st))
+          pick a (takeThread q (st .counters .count) c (liveOf m st))
+          (pick b (takeWire q (st .counters .count) (c - length (m .threads)) (liveOf m st))
+          (pick d (takeCommit q (st .counters .count) (liveOf m st))
           (taken 22 (liveOf m st))))
           ≡ takenOf m
           (answer
-          (pick b (pick (pick a (threadEnabled m st c) (isDue st (c - length (m .threads)))) (spend (st .count)) 33)
-          (pick d (pick (anyEnabled m st) 34 (pick (anyPending m st) (spend (st .count)) 35))
+          (pick b (pick (pick a (threadEnabled m st c) (isDue st (c - length (m .threads)))) (spend (st .counters .count)) 33)
+          (pick d (pick (anyEnabled m st) 34 (pick (anyPending m st) (spend (st .counters .count)) 35))
           22))
           st
           (pick a (runThread m c (counted st))
@@ -324,7 +324,7 @@ module _ {s : List ℕ} {m : Module Expr} {q : Plan} (w : PlanOf s m q) (st : St
   -- An instant is made on the state with one more in time.
   live-timed : liveOf m (timed st) ≡ liveOf m st
   unfolding timed
-  live-timed = live-withCounters m st (st .time + 1) (st .count)
+  live-timed = live-withCounters m st (countersOf (st .counters .time + 1) (st .counters .count))
 
   pub feed-timed-live : (a : ℕ → Value) → inScene (feed q a) (liveOf m st) ≡ liveOf m (cycle.feed m a (timed st))
   feed-timed-live a = ap (inScene (feed q a)) (sym live-timed) ∙ feed-live w (timed st) (kept-timed k) a

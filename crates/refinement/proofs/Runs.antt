@@ -31,9 +31,9 @@ use Rattle.refinement.proofs.Choices.{busy-live, plain-live, take-live}
 -- ---- the count after an accepted choice
 
 count-accepted :
-    (m : Module Expr) (st : State) (c : ℕ) → chooseIn m st c .number ≡ 0 → chooseIn m st c .state .count ≡ st .count + 1
+    (m : Module Expr) (st : State) (c : ℕ) → chooseIn m st c .number ≡ 0 → chooseIn m st c .state .counters .count ≡ st .counters .count + 1
 count-accepted m st c h =
-    ap (λ r. r .state .count) (chooseIn-accepted m st c (sym (number-chooseIn m st c) ∙ h)) ∙ count-performed m st c
+    ap (λ r. r .state .counters .count) (chooseIn-accepted m st c (sym (number-chooseIn m st c) ∙ h)) ∙ count-performed m st c
 
 module _ {s : List ℕ} {m : Module Expr} {q : Plan} (w : PlanOf s m q) where
   -- ---- over a list
@@ -54,12 +54,12 @@ module _ {s : List ℕ} {m : Module Expr} {q : Plan} (w : PlanOf s m q) where
 
   pub runList-live :
       (cs : List ℕ) (st : State) → Shaped st → Fits m st →
-      runList q cs (st .count) (liveOf m st) ≡ runOf m (runIn m cs st)
+      runList q cs (st .counters .count) (liveOf m st) ≡ runOf m (runIn m cs st)
   unfolding runList runIn
   runList-live [] st g f = refl
   runList-live (c ∷ cs) st g f =
-      ap (λ (t : Taken). onward t (runList q cs (st .count + 1) (t .left))) (take-live w st (fits-kept g f) c)
-      ∙ onward-live (chooseIn m st c) (runList q cs (st .count + 1) (liveOf m (chooseIn m st c .state)))
+      ap (λ (t : Taken). onward t (runList q cs (st .counters .count + 1) (t .left))) (take-live w st (fits-kept g f) c)
+      ∙ onward-live (chooseIn m st c) (runList q cs (st .counters .count + 1) (liveOf m (chooseIn m st c .state)))
       (runIn m cs (chooseIn m st c .state))
       (λ e.
       ap (λ (n : ℕ). runList q cs n (liveOf m (chooseIn m st c .state))) (sym (count-accepted m st c e))
@@ -88,19 +88,19 @@ module _ {s : List ℕ} {m : Module Expr} {q : Plan} (w : PlanOf s m q) where
   plain-step :
       (st : State) → Kept m st → (rest : ℕ → Live → Run) (b : Rested) →
       (chooseIn m st (calls.plainChoice m st) .number ≡ 0 →
-      rest (st .count + 1) (liveOf m (chooseIn m st (calls.plainChoice m st) .state)) ≡ restedOf m b) →
+      rest (st .counters .count + 1) (liveOf m (chooseIn m st (calls.plainChoice m st) .state)) ≡ restedOf m b) →
       pick (busy (liveOf m st))
-      (onward (takeChoice q (st .count) (plainChoice q (liveOf m st)) (liveOf m st))
-      (rest (st .count + 1) (takeChoice q (st .count) (plainChoice q (liveOf m st)) (liveOf m st) .left)))
+      (onward (takeChoice q (st .counters .count) (plainChoice q (liveOf m st)) (liveOf m st))
+      (rest (st .counters .count + 1) (takeChoice q (st .counters .count) (plainChoice q (liveOf m st)) (liveOf m st) .left)))
       (run 0 0 (liveOf m st))
       ≡ restedOf m
       (pick (quiet m st) (record { accepted = 0; verdict = Quiet; state = st })
       (resting st (chooseIn m st (calls.plainChoice m st)) b))
   unfolding numberOfVerdict
   plain-step st k rest b h =
-      ap (λ (t : Taken). pick (busy (liveOf m st)) (onward t (rest (st .count + 1) (t .left))) (run 0 0 (liveOf m st)))
-      (ap (λ (c : ℕ). takeChoice q (st .count) c (liveOf m st)) (plain-live w st k) ∙ take-live w st k c)
-      ∙ ap (λ (t : Bool). pick t (onward (takenOf m r) (rest (st .count + 1) (liveOf m (r .state)))) (run 0 0 (liveOf m st)))
+      ap (λ (t : Taken). pick (busy (liveOf m st)) (onward t (rest (st .counters .count + 1) (t .left))) (run 0 0 (liveOf m st)))
+      (ap (λ (c : ℕ). takeChoice q (st .counters .count) c (liveOf m st)) (plain-live w st k) ∙ take-live w st k c)
+      ∙ ap (λ (t : Bool). pick t (onward (takenOf m r) (rest (st .counters .count + 1) (liveOf m (r .state)))) (run 0 0 (liveOf m st)))
       (busy-live w st k)
       ∙ by (quiet m st)
     where
@@ -111,10 +111,10 @@ module _ {s : List ℕ} {m : Module Expr} {q : Plan} (w : PlanOf s m q) where
       r = chooseIn m st c
 
       by : (t : Bool) →
-          pick (not t) (onward (takenOf m r) (rest (st .count + 1) (liveOf m (r .state)))) (run 0 0 (liveOf m st))
+          pick (not t) (onward (takenOf m r) (rest (st .counters .count + 1) (liveOf m (r .state)))) (run 0 0 (liveOf m st))
           ≡ restedOf m (pick t (record { accepted = 0; verdict = Quiet; state = st }) (resting st r b))
       by true = refl
-      by false = resting-live st c (rest (st .count + 1) (liveOf m (r .state))) b h
+      by false = resting-live st c (rest (st .counters .count + 1) (liveOf m (r .state))) b h
 
   spent-live :
       (st : State) (t : Bool) →
@@ -125,7 +125,7 @@ module _ {s : List ℕ} {m : Module Expr} {q : Plan} (w : PlanOf s m q) where
 
   pub runPlain-live :
       (n : ℕ) (st : State) → Shaped st → Fits m st →
-      runPlain q n (st .count) (liveOf m st) ≡ restedOf m (runBy m (calls.plainChoice m) n st)
+      runPlain q n (st .counters .count) (liveOf m st) ≡ restedOf m (runBy m (calls.plainChoice m) n st)
   unfolding runPlain runBy
   runPlain-live zero st g f = spent-live st (quiet m st)
   runPlain-live (suc n) st g f =

@@ -20,6 +20,7 @@ use Rattle.pseudocode.specs.declared.Action.{Action}
 use Rattle.pseudocode.specs.declared.Instruction.the-variants.{Act}
 use Rattle.pseudocode.specs.Fetching.{fetchAt}
 use Rattle.masks.proofs.Masks.{flags-same}
+use Rattle.state.specs.declared.Counters.{Counters}
 use Rattle.state.specs.declared.State.{State}
 use Rattle.state.specs.State.{Shaped, withPlanes, withSlots, withPlaces, withMarks, withCounters, valueOf, withValue}
 use Rattle.state.specs.State.{pendingOf, withPending, withoutPending, placeOf, withPlace, isDue, withDue}
@@ -44,9 +45,9 @@ use Rattle.refinement.proofs.Changing.{Midway, midway-start, midway-put
 
 -- ---- what a scene and a live state do not look at
 
-pub live-withCounters : (m : Module Expr) (st : State) (t n : ℕ) → liveOf m (withCounters st t n) ≡ liveOf m st
+pub live-withCounters : (m : Module Expr) (st : State) (c : Counters) → liveOf m (withCounters st c) ≡ liveOf m st
 unfolding liveOf sceneOf readyIn threadEnabled current placeOf withCounters
-live-withCounters m st t n = refl
+live-withCounters m st c = refl
 
 -- The slots of the pending values that a state shares with another.
 record SameSlots (s t : State) : Type 0 where
