@@ -116,9 +116,10 @@ pub fn choose(plan: &PlanTable, st: State, c: u8) -> Chosen
         room,
     );
     let left = t.marks;
+    let count = counting(t.number, st.counters.count);
     let counters = Counters {
         time: st.counters.time,
-        count: counting(t.number, st.counters.count),
+        count,
     };
     let state = plan_state::pack(&cells, &pending, places, left, counters);
     Chosen {
@@ -153,9 +154,10 @@ pub fn run(plan: &PlanTable, st: State, choices: &[u8]) -> Ran
         room,
     );
     let left = t.marks;
+    let count = st.counters.count + t.accepted as u32;
     let counters = Counters {
         time: st.counters.time,
-        count: st.counters.count + t.accepted as u32,
+        count,
     };
     let state = plan_state::pack(&cells, &pending, places, left, counters);
     Ran {
@@ -205,9 +207,10 @@ pub fn run_plain(plan: &PlanTable, st: State, limit: u16) -> Rested
     );
     let left = t.marks;
     let verdict = verdict_of(t.number, left);
+    let count = st.counters.count + t.accepted as u32;
     let counters = Counters {
         time: st.counters.time,
-        count: st.counters.count + t.accepted as u32,
+        count,
     };
     let state = plan_state::pack(&cells, &pending, places, left, counters);
     Rested {
@@ -253,8 +256,9 @@ pub fn instant(plan: &PlanTable, st: State, a: Inputs) -> Chosen
         &a.value,
         &a.unknown,
     );
+    let time = st.counters.time + 1;
     let counters = Counters {
-        time: st.counters.time + 1,
+        time,
         count: st.counters.count,
     };
     let state = plan_state::pack(&cells, &pending, places, left, counters);

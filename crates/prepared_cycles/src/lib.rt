@@ -8,6 +8,7 @@ mod traces;
 use plan::Cells;
 use plan::PlanTable;
 use plan_changes::Marks;
+use state::Counters;
 use state::State;
 ghost use mathlib.Core.Path.{_≡_};
 ghost use mathlib.Core.Bool.{true, false};
@@ -68,7 +69,11 @@ fn ended(
         ⌝ }
 {
     let marks = standing.marks;
-    let state = plan_state::pack(cells, pending, places, marks, standing.time, standing.count);
+    let counters = Counters {
+        time: standing.time,
+        count: standing.count,
+    };
+    let state = plan_state::pack(cells, pending, places, marks, counters);
     Cycled {
         phases,
         number,
@@ -93,8 +98,8 @@ fn run_phases(plan: &PlanTable, st: State, value: &[u32], unknown: &[bool]) -> C
     let mut places = st.places;
     let mut standing = Standing {
         marks,
-        time: st.time,
-        count: st.count,
+        time: st.counters.time,
+        count: st.counters.count,
     };
     let n = 2 * (value.len() / 16);
     let mut p: usize = 0;
@@ -157,8 +162,8 @@ fn trace_phases(
     let mut stood = st.places;
     let mut standing = Standing {
         marks,
-        time: st.time,
-        count: st.count,
+        time: st.counters.time,
+        count: st.counters.count,
     };
     let n = 2 * (value.len() / 16);
     let mut p: usize = 0;

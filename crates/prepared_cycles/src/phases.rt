@@ -6,6 +6,7 @@ use events::Inputs;
 use plan::Cells;
 use plan::PlanTable;
 use plan_changes::Marks;
+use state::FULL;
 ghost use mathlib.Core.Path.{_≡_};
 ghost use mathlib.Core.List.{List};
 ghost use Prim.Native.Nat.{ℕ};
@@ -26,7 +27,7 @@ fn refusal(plan: &PlanTable, marks: Marks, time: u32, a: Inputs) -> u8
     if plan_engine::busy(marks) {
         return 32;
     }
-    if time == 4294967295 { 36 } else { 0 }
+    if time == FULL { 36 } else { 0 }
 }
 
 // An instant, and the plain run after it.
@@ -55,7 +56,7 @@ pub fn phase(
         };
     }
     let fed = plan_engine::feed(plan, cells, pending, places, marks, &a.value, &a.unknown);
-    let room = 4294967295 - standing.count as u64;
+    let room = FULL as u64 - standing.count as u64;
     let run = plan_engine::run_plain(plan, cells, pending, places, fed, 65535, room);
     let left = run.marks;
     let time = standing.time + 1;
