@@ -23,10 +23,9 @@ use Rattle.pseudocode.specs.Fetching.{termAt}
 use Rattle.pseudocode.proofs.Fetching.{term-of}
 use Rattle.masks.specs.Masks.{anyMark}
 use Rattle.masks.proofs.Masks.{any-none}
-use Rattle.events.specs.Cycle.{codeOf, instrAt, anyBelow, waitFires}
+use Rattle.events.specs.Cycle.{codeOf, instrAt, anyBelow, termsFire, waitFires}
 use Rattle.events.proofs.Cycle.{absurd-bool, any-same, some-below}
-use Rattle.changes.specs.Changes as changes
-use Rattle.refinement.proofs.Firing.{waits-fire}
+use Rattle.refinement.proofs.Firing.{term-fires, waits-fire}
 use Rattle.plan.specs.declared.Instruction.{Instruction}
 use Rattle.plan.specs.Plan.{Plan}
 use Rattle.plan_changes.specs.Changes.{eight, termWakes, wakes, wakeThread, wakeBelow, wake}
@@ -60,8 +59,8 @@ any-or f g (suc n) =
 -- g are the values so far, h those with variable v's new value b; f are those before the change.
 module _ (f g h : ℕ → Value) (v : ℕ) (b : Value) (fresh : g v ≡ f v) (new : h v ≡ b) (others : (u : ℕ) → v ≢ u → h u ≡ g u) where
   term-put : (t : EdgeTerms) (k : ℕ)
-      → changes.termFires t f h k ≡ (changes.termFires t f g k || termWakes t v (f v) b k)
-  unfolding changes.termFires termWakes
+      → term-fires f h t k ≡ (term-fires f g t k || termWakes t v (f v) b k)
+  unfolding termWakes
   term-put t k = by (eqb (termAt t k .variable) v) refl
     where
       u : ℕ
@@ -74,19 +73,19 @@ module _ (f g h : ℕ → Value) (v : ℕ) (b : Value) (fresh : g v ≡ f v) (ne
       by false q = rw (q, others u (λ e. eqb-false u v q (sym e))) (sym (or-false (fires (termAt t k .edge) (f u) (g u))))
 
   terms-put : (t : EdgeTerms) (n : ℕ)
-      → anyBelow n (changes.termFires t f h)
-      ≡ (anyBelow n (changes.termFires t f g) || anyBelow n (termWakes t v (f v) b))
+      → anyBelow n (term-fires f h t) ≡ (anyBelow n (term-fires f g t) || anyBelow n (termWakes t v (f v) b))
   terms-put t n =
-      any-same (changes.termFires t f h) (λ k. changes.termFires t f g k || termWakes t v (f v) b k) n (λ k l. term-put t k)
-      ∙ any-or (changes.termFires t f g) (termWakes t v (f v) b) n
+      any-same (term-fires f h t) (λ k. term-fires f g t k || termWakes t v (f v) b k) n (λ k l. term-put t k)
+      ∙ any-or (term-fires f g t) (termWakes t v (f v) b) n
 
   pub wait-put : {q : Plan} {x : Instr Expr} {y : Instruction} → Fetched q x y
       → waitFires x f h ≡ (waitFires x f g || wakes y v (f v) b)
-  unfolding waitFires wakes eight changes.eight termsOf
+  unfolding waitFires wakes termsOf
   wait-put (a-wait {ts = ts} l) =
       sym (waits-fire f h ts l)
-      ∙ terms-put (termsOf ts) (changes.eight (length ts))
-      ∙ ap (λ (r : Bool). r || anyBelow (eight (length ts)) (termWakes (termsOf ts) v (f v) b)) (waits-fire f g ts l)
+      ∙ terms-put (termsOf ts) (length ts)
+      ∙ ap (λ (r : Bool). r || anyBelow (length ts) (termWakes (termsOf ts) v (f v) b)) (waits-fire f g ts l)
+      ∙ ap (λ (n : ℕ). termsFire ts f g || anyBelow n (termWakes (termsOf ts) v (f v) b)) (sym (eight-same (length ts) l))
   wait-put (a-set s) = refl
   wait-put (a-later s) = refl
   wait-put a-go = refl

@@ -1,5 +1,4 @@
--- What a change on tables and masks relies on in a state, at its start and in its midst; a state that fits the sheet has
--- it. Assumes nothing.
+-- What a change relies on in a state, at its start and in its midst; a state that fits the sheet has it. Assumes nothing.
 use mathlib.Core.Path.{_≡_, refl, _∙_}
 use mathlib.Core.Bool.{Bool, true, false}
 use mathlib.Core.Option.{none, some}

@@ -1,5 +1,4 @@
--- How a state lies in flat arrays and masks, and which tables belong to a module. proofs/ shows that the steps of `engine` on
--- them are the steps of the simulation cycle.
+-- The threads of a state that stand off a wait, and the tables that belong to a module.
 use Prim.Native.Nat.{ℕ, zero, suc}
 use mathlib.Core.Path.{_≡_}
 use mathlib.Core.Bool.{Bool, _&&_}
@@ -11,15 +10,8 @@ use Rattle.sheet.specs.Module.{Module}
 use Rattle.soundness.specs.Soundness.{Sound}
 use Rattle.state.specs.declared.State.{State}
 use Rattle.events.specs.Cycle.{threadEnabled}
-use Rattle.events.specs.declared.Chosen.{Chosen}
-use Rattle.events.specs.declared.Ran.{Ran}
-use Rattle.events.specs.declared.Rested.{Rested}
-use Rattle.events.specs.Verdict.{numberOfVerdict}
 use Rattle.tables.specs.Holding.{Holding}
-use Rattle.changes.specs.Scene.{Scene, scene}
-use Rattle.engine.specs.Live.{Plan, Live, live}
-use Rattle.engine.specs.Acting.{Taken, taken}
-use Rattle.engine.specs.Running.{Run, run}
+use Rattle.engine.specs.Live.{Plan}
 
 -- ---- readyIn: the threads that stand off a wait, as 32 marks
 
@@ -30,25 +22,6 @@ each (suc n) i f = f i ∷ each n (suc i) f
 
 unfoldable pub readyIn : Module Expr → State → List Bool
 readyIn m st = each 32 0 (λ i. ltb i (length (m .threads)) && threadEnabled m st i)
-
--- ---- sceneOf, liveOf: how a state lies in flat arrays and masks
-
-unfoldable pub sceneOf : Module Expr → State → Scene
-sceneOf m st = scene (st .value) (st .unknown) (st .places) (st .due) (readyIn m st)
-
-unfoldable pub liveOf : Module Expr → State → Live
-liveOf m st = live (sceneOf m st) (st .held) (st .pending) (st .unsure)
-
--- ---- takenOf, runOf, restedOf: what the simulation cycle answers, as a choice and a run on arrays and masks give it
-
-abbrev pub takenOf : Module Expr → Chosen → Taken
-takenOf m r = taken (r .number) (liveOf m (r .state))
-
-abbrev pub runOf : Module Expr → Ran → Run
-runOf m r = run (r .accepted) (r .number) (liveOf m (r .state))
-
-abbrev pub restedOf : Module Expr → Rested → Run
-restedOf m r = run (r .accepted) (numberOfVerdict (r .verdict)) (liveOf m (r .state))
 
 -- ---- PlanOf: the tables of a module that was read
 

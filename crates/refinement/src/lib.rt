@@ -1,1 +1,1 @@
-// The steps on tables and masks are the steps of the simulation cycle: a crate of laws, without code.
+// Laws of the simulation cycle that its steps on a plan rely on: a crate of laws, without code.

@@ -1,135 +1,89 @@
--- The public calls by the reader's answer: a refused sheet's number, or the call on the tables that were filled. Assumes nothing.
-use mathlib.Core.Path.{_≡_, refl, ap, _∙_}
-use mathlib.Core.Bool.{Bool, false}
-use mathlib.Core.List.{List}
-use Prim.Native.Nat.{ℕ, _-_, _≤_}
-use native.Mathlib.Omega.{arith}
-use lib.ListN.{length, take, drop, replicate}
-use Rattle.values.specs.Values.{pick}
-use Rattle.sheet.specs.Expression.{Expr, located}
-use Rattle.sheet.specs.Module.{Module, readSheet, read}
-use Rattle.sheet.specs.Answers.{sheetAnswer}
-use Rattle.sheet.specs.declared.Layout.{Layout}
-use Rattle.sheet.specs.declared.SheetRead.{SheetRead}
-use Rattle.sheet.proofs.Trees.{trees}
+-- The calls by what `prepare` answers: a refused sheet's number, or the call on the plan that it filled. Assumes nothing.
+use mathlib.Core.Path.{_≡_, refl, sym, ap, _∙_}
+use mathlib.Core.Bool.{Bool, true, false}
+use mathlib.Core.List.{List, [], _∷_}
+use Prim.Native.Nat.{ℕ, _^_}
+use borrow.Author.Needs.{needs}
+use borrow.Author.Tests.{lt-ltb}
+use mir.Syntax.{w32}
+use mir.Val.{Fits}
+use denote.Laws.{Is}
+use denote.Struct.Laws.{val}
+use lib.Dec.{ltb}
+use lib.ListN.{length, getD}
+use Rattle.values.specs.declared.Value.the-variants.{Known, Unknown}
+use Rattle.values.specs.Values.{pick, fits}
+use Rattle.values.specs.Planes.{valueAt}
+use Rattle.sheet.specs.Expression.{Expr}
+use Rattle.sheet.specs.Module.{Module, read}
 use Rattle.state.specs.declared.State.{State}
-use Rattle.state.specs.State.{Shaped}
+use Rattle.state.proofs.Accessors.{Good, shaped-good, bounded-good}
 use Rattle.events.specs.declared.Inputs.{Inputs}
-use Rattle.events.specs.declared.Chosen.{Chosen}
-use Rattle.events.specs.declared.Ran.{Ran}
 use Rattle.events.specs.declared.Verdict.the-variants.{Refused}
-use Rattle.events.specs.declared.Rested.{Rested}
-use Rattle.events.specs.Calls.{stateFits, judged, chooseIn, choose, runIn, runList, runBy, plainChoice, runPlain, instantIn, instant}
-use Rattle.fitting.proofs.Fitting.{Sizes}
-use Rattle.tables.specs.Readers.{atMost, watchedBelow}
-use Rattle.engine.specs.declared.Shape.{Shape}
-use Rattle.engine.specs.Live.{Plan, planOf}
-use Rattle.refinement.specs.Refinement.{PlanOf}
-use Rattle.simulator.specs.Filled.{shapeOf, widthsEnd, compiled, readersOf, filled, chooseAt, runAt, plainAt, instantAt}
-use Rattle.simulator.proofs.Reading.{ReadAs, accepted, refused, read-as}
-use Rattle.simulator.proofs.Plan.{widths-inside, plan-of, sizes-of}
-use Rattle.simulator.proofs.Filled.{choose-at, run-at, plain-at, instant-at}
+use Rattle.events.specs.Calls.{judged, chooseIn, choose, runIn, runList, runBy, plainChoice, runPlain, inputOf, instantIn, instant}
+use Rattle.events.proofs.Inputs.{the-type, the-row}
+use Rattle.events.proofs.Inputs.Laws.{the-laws}
+use Rattle.plan.specs.Plan.{planOf}
+use Rattle.prepared.specs.declared.Prepared.{Prepared}
+use Rattle.prepared.specs.Prepared.{readOf, preparedPlan}
+use Rattle.prepared.specs.Claims.{Same, OnTheSheet}
+use Rattle.prepared.proofs.Answered.{Answered, accepted, refused, answered}
+use Rattle.prepared.proofs.Claims.{on-the-sheet}
 
--- ---- the tables that the code has filled
+-- ---- inputs passed by value are numbers of 32 bits
 
-plan-same :
-    (s : List ℕ) (l : Layout) (end : ℕ) (shape : Shape) (sizes code readers : List ℕ) (watched : List Bool) → end ≡ widthsEnd l →
-    shape ≡ shapeOf l → sizes ≡ compiled s l .sizes → code ≡ compiled s l .code → readers ≡ readersOf s l →
-    watched ≡ watchedBelow s code sizes (atMost 8 (l .threads)) (replicate 80 false) →
-    planOf s (take (end - 4) (drop 4 s)) code readers watched (l .starts) shape ≡ filled s l
-plan-same s l end shape sizes code readers watched e h z c r w = rw (w, e, h, z, c, r) refl
+abbrev pub GoodInputs : Inputs → Type 0
+GoodInputs a = Is the-row a (val the-type the-laws a ∷ [])
 
-module _ (s : List ℕ) (r : SheetRead) (e : r ≡ sheetAnswer (readSheet (located s) s)) where
-  pub widths-end-inside : r .number ≡ 0 → widthsEnd (r .layout) ≤ length s
-  widths-end-inside n = by (read-as s r e)
+pub inputs-small : (a : Inputs) → GoodInputs a → (v : ℕ) → fits 32 (inputOf a v) ≡ true
+unfolding inputOf valueAt fits
+inputs-small a g v = by (ltb v (length (a .value))) (getD (a .unknown) v true)
+  where
+    small : Fits w32 (getD (a .value) v 0)
+    small = search needs
+
+    by : (t u : Bool) → fits 32 (pick t (pick u Unknown (Known (getD (a .value) v 0))) Unknown) ≡ true
+    by true true = refl
+    by true false = lt-ltb (getD (a .value) v 0) (2 ^ 32) (small .fits)
+    by false u = refl
+
+module _ (s : List ℕ) (r : Prepared) (e : r ≡ record { number = readOf s .number; place = readOf s .place }) (st : State) where
+  number-same : r .number ≡ readOf s .number
+  number-same = ap (λ (x : Prepared). x .number) e
+
+  -- ---- a sheet that is refused
+
+  module _ (d : r .number ≡ 0 → ⊥) where
+    judged-refused : {A : Type 0} (bad : ℕ → A) (good : Module Expr → A) → bad (r .number) ≡ judged (read s) st bad good
+    unfolding judged
+    judged-refused bad good = by (answered s)
+      where
+        by : Answered s → bad (r .number) ≡ judged (read s) st bad good
+        by (accepted m g z) = absurd (d (number-same ∙ z))
+        by (refused n p g z b) = rw (number-same, g, z) refl
+
+    pub choose-refused : (c : ℕ) → record { number = r .number; state = st } ≡ choose s st c
+    unfolding choose
+    choose-refused c = judged-refused (λ k. record { number = k; state = st }) (λ m. chooseIn m st c)
+
+    pub run-refused : (cs : List ℕ) → record { accepted = 0; number = r .number; state = st } ≡ runList s st cs
+    unfolding runList
+    run-refused cs = judged-refused (λ k. record { accepted = 0; number = k; state = st }) (λ m. runIn m cs st)
+
+    pub plain-refused : (n : ℕ) → record { accepted = 0; verdict = Refused (r .number); state = st } ≡ runPlain s st n
+    unfolding runPlain
+    plain-refused n = judged-refused (λ k. record { accepted = 0; verdict = Refused k; state = st }) (λ m. runBy m (plainChoice m) n st)
+
+    pub instant-refused : (a : Inputs) → record { number = r .number; state = st } ≡ instant s st a
+    unfolding instant
+    instant-refused a = judged-refused (λ k. record { number = k; state = st }) (λ m. instantIn m st a)
+
+  -- ---- a sheet that is accepted, and the plan that was filled from it, whatever it held before
+
+  pub calls-same : r .number ≡ 0 → (ws vs : List ℕ) → length ws ≡ 25212 → vs ≡ preparedPlan s ws → Good st → Same s (planOf vs) st
+  unfolding OnTheSheet
+  calls-same z ws vs l p h = by (answered s)
     where
-      by : ReadAs s r → widthsEnd (r .layout) ≤ length s
-      by (accepted x h m z l) = rw l (widths-inside s x h .inside)
-      by (refused k p h z b l) = absurd (omega arith)
-
-  module _ (st : State) where
-    -- ---- a sheet that is refused
-
-    module _ (n : r .number ≡ 0 → ⊥) where
-      judged-refused :
-          {A : Type 0} (bad : ℕ → A) (good : Module Expr → A) → bad (r .number) ≡ judged (read s) st bad good
-      unfolding judged
-      judged-refused bad good = by (read-as s r e)
-        where
-          by : ReadAs s r → bad (r .number) ≡ judged (read s) st bad good
-          by (accepted x h m z l) = absurd (n z)
-          by (refused k p h z b l) = rw (z, h) refl
-
-      pub choose-refused : (c : ℕ) → record { number = r .number; state = st } ≡ choose s st c
-      unfolding choose
-      choose-refused c = judged-refused (λ k. record { number = k; state = st }) (λ m. chooseIn m st c)
-
-      pub run-refused : (cs : List ℕ) → record { accepted = 0; number = r .number; state = st } ≡ runList s st cs
-      unfolding runList
-      run-refused cs = judged-refused (λ k. record { accepted = 0; number = k; state = st }) (λ m. runIn m cs st)
-
-      pub plain-refused :
-          (limit : ℕ) → record { accepted = 0; verdict = Refused (r .number); state = st } ≡ runPlain s st limit
-      unfolding runPlain
-      plain-refused limit =
-          judged-refused (λ k. record { accepted = 0; verdict = Refused k; state = st }) (λ m. runBy m (plainChoice m) limit st)
-
-      pub instant-refused : (a : Inputs) → record { number = r .number; state = st } ≡ instant s st a
-      unfolding instant
-      instant-refused a = judged-refused (λ k. record { number = k; state = st }) (λ m. instantIn m st a)
-
-    -- ---- a sheet that is accepted, the tables that the code has filled, and what the call on them gave
-
-    module _ (n : r .number ≡ 0) (g : Shaped st) (end : ℕ) (shape : Shape) (sizes code readers : List ℕ) (watched : List Bool)
-        (d : end ≡ widthsEnd (r .layout)) (h : shape ≡ shapeOf (r .layout)) (z : sizes ≡ compiled s (r .layout) .sizes)
-        (k : code ≡ compiled s (r .layout) .code) (l : readers ≡ readersOf s (r .layout))
-        (w : watched ≡ watchedBelow s code sizes (atMost 8 (r .layout .threads)) (replicate 80 false)) where
-      abbrev made : Plan
-      made = planOf s (take (end - 4) (drop 4 s)) code readers watched (r .layout .starts) shape
-
-      made-same : made ≡ filled s (r .layout)
-      made-same = plan-same s (r .layout) end shape sizes code readers watched d h z k l w
-
-      -- A call on tables, where on every accepted sheet's tables it judges the state and then is the call on the module.
-      judged-accepted :
-          {A : Type 0} (bad : ℕ → A) (good : Module Expr → A) (on : Plan → List ℕ → A) →
-          ((m : Module Expr) (q : Plan) → PlanOf s m q → (ns : List ℕ) → Sizes m ns →
-          on q ns ≡ pick (stateFits m st) (good m) (bad 31)) →
-          on made sizes ≡ judged (read s) st bad good
-      unfolding judged
-      judged-accepted bad good on law =
-          ap (λ p. on p sizes) made-same ∙ ap (λ ns. on (filled s (r .layout)) ns) z ∙ by (read-as s r e)
-        where
-          by : ReadAs s r → on (filled s (r .layout)) (compiled s (r .layout) .sizes) ≡ judged (read s) st bad good
-          by (accepted x h m z l) =
-              let t = trees s x .contents in
-              rw (l, m) (law t _ (plan-of s x t h m) _ (sizes-of s x t h m))
-          by (refused k p h z b l) = absurd (omega arith)
-
-      pub choose-accepted : (c : ℕ) (o : Chosen) → o ≡ chooseAt made sizes st c → o ≡ choose s st c
-      unfolding choose
-      choose-accepted c o q =
-          q
-          ∙ judged-accepted (λ k. record { number = k; state = st }) (λ m. chooseIn m st c) (λ p ns. chooseAt p ns st c)
-          (λ m q w ns z. choose-at w ns z st g c)
-
-      pub run-accepted : (cs : List ℕ) (o : Ran) → o ≡ runAt made sizes st cs → o ≡ runList s st cs
-      unfolding runList
-      run-accepted cs o q =
-          q
-          ∙ judged-accepted (λ k. record { accepted = 0; number = k; state = st }) (λ m. runIn m cs st)
-          (λ p ns. runAt p ns st cs) (λ m q w ns z. run-at w ns z st g cs)
-
-      pub plain-accepted : (limit : ℕ) (o : Rested) → o ≡ plainAt made sizes st limit → o ≡ runPlain s st limit
-      unfolding runPlain
-      plain-accepted limit o q =
-          q
-          ∙ judged-accepted (λ k. record { accepted = 0; verdict = Refused k; state = st })
-          (λ m. runBy m (plainChoice m) limit st) (λ p ns. plainAt p ns st limit) (λ m q w ns z. plain-at w ns z st g limit)
-
-      pub instant-accepted : (a : Inputs) (o : Chosen) → o ≡ instantAt made sizes st a → o ≡ instant s st a
-      unfolding instant
-      instant-accepted a o q =
-          q
-          ∙ judged-accepted (λ k. record { number = k; state = st }) (λ m. instantIn m st a) (λ p ns. instantAt p ns st a)
-          (λ m q w ns z. instant-at w ns z st g a)
+      by : Answered s → Same s (planOf vs) st
+      by (accepted m g o) = rw p (on-the-sheet s ws m g l .calls st (shaped-good st h) (bounded-good st h))
+      by (refused n q g o d) = absurd (d (sym o ∙ sym number-same ∙ z))

@@ -15,8 +15,6 @@ use Rattle.sheet.proofs.Reading.{bind-ok, check-ok, ok-injective}
 use Rattle.sheet.proofs.Sections.{wires-count, headed}
 use Rattle.sheet.proofs.Trees.{trees}
 use Rattle.soundness.proofs.Soundness.{sound}
-use Rattle.events.specs.Cycle.{codeOf}
-use Rattle.fitting.proofs.Fitting.{Sizes}
 use Rattle.tables.specs.Holding.{Holding}
 use Rattle.tables.proofs.Holding.{module-same, holding-filled}
 use Rattle.refinement.specs.Refinement.{PlanOf}
@@ -90,7 +88,3 @@ module _ (s : List ℕ) (x : Sheet ℕ) (m : Module Expr) (h : readSheet (locate
         sizes = compiled s (layoutOf x) .sizes;
         holding = tables-hold;
       }
-
-  pub sizes-of : Sizes m (compiled s (layoutOf x) .sizes)
-  unfolding codeOf
-  sizes-of = tables-hold .size

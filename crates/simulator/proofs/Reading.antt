@@ -1,4 +1,4 @@
--- What a sheet's reader answers, and document 01's reading of modules: every call goes by it first. Assumes nothing.
+-- What a sheet's reader answers, by document 01's reading of modules, and the start by it. Assumes nothing.
 use mathlib.Core.Path.{_≡_, refl}
 use mathlib.Core.List.{List}
 use Prim.Native.Nat.{ℕ, _≤_}

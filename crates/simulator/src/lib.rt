@@ -1,7 +1,6 @@
 // The event simulator (document 01, "The simulation cycle"): start, choose, run, run_plain, instant.
 // Each public call equals its definition in events' specs/Calls, for every sheet, state, choice, list and input.
-mod calls;
-pub mod packing;
+// A call reads the sheet, prepares its plan, and runs on that plan.
 pub mod planning;
 
 use events::Chosen;
@@ -9,9 +8,6 @@ use events::Inputs;
 use events::Ran;
 use events::Rested;
 use events::Verdict;
-use planning::fill;
-use planning::shape_of;
-use planning::widths_end;
 use state::State;
 ghost use mathlib.Core.Path.{_≡_};
 ghost use Rattle.events.specs.Calls.{dueBelow, started, start, choose, runList, runPlain, instant};
@@ -61,45 +57,31 @@ pub fn start(sheet: &[u8]) -> Chosen
 
 // ---- the calls
 
+// What a choice or an instant on a refused sheet gives.
+fn refused(number: u8, state: State) -> Chosen
+    ensures { λ r. ⌜ r ≡ record { number = number; state = state } ⌝ }
+{
+    Chosen { number, state }
+}
+
 // A choice: an item by its number, or 255 for the commit.
 pub fn choose(sheet: &[u8], st: State, c: u8) -> Chosen
     ensures { λ r. ⌜ r ≡ choose (now (sheet .entry)) st c ⌝ }
 {
-    let read = sheet::read(sheet);
+    let mut plan = [0u32; 25212];
+    let read = prepared::prepare(sheet, &mut plan);
     if read.number != 0 {
-        return Chosen {
-            number: read.number,
-            state: st,
-        };
+        return refused(read.number, st);
     }
-    let layout = read.layout;
-    let mut code = [0u16; 4096];
-    let mut readers = [0u32; 80];
-    let mut watched = [false; 80];
-    let sizes = fill(sheet, layout, &mut code, &mut readers, &mut watched);
-    let end = widths_end(layout);
-    let widths = &sheet[4..end];
-    let starts = layout.starts;
-    let shape = shape_of(layout);
-    calls::choose(
-        sheet,
-        widths,
-        &code,
-        &readers,
-        &watched,
-        &starts,
-        &sizes,
-        shape,
-        st,
-        c,
-    )
+    prepared::choose(&plan, st, c)
 }
 
 // A run over a list of choices. It ends at the first refused one.
 pub fn run(sheet: &[u8], st: State, choices: &[u8]) -> Ran
     ensures { λ r. ⌜ r ≡ runList (now (sheet .entry)) st (now (choices .entry)) ⌝ }
 {
-    let read = sheet::read(sheet);
+    let mut plan = [0u32; 25212];
+    let read = prepared::prepare(sheet, &mut plan);
     if read.number != 0 {
         return Ran {
             accepted: 0,
@@ -107,34 +89,15 @@ pub fn run(sheet: &[u8], st: State, choices: &[u8]) -> Ran
             state: st,
         };
     }
-    let layout = read.layout;
-    let mut code = [0u16; 4096];
-    let mut readers = [0u32; 80];
-    let mut watched = [false; 80];
-    let sizes = fill(sheet, layout, &mut code, &mut readers, &mut watched);
-    let end = widths_end(layout);
-    let widths = &sheet[4..end];
-    let starts = layout.starts;
-    let shape = shape_of(layout);
-    calls::run(
-        sheet,
-        widths,
-        &code,
-        &readers,
-        &watched,
-        &starts,
-        &sizes,
-        shape,
-        st,
-        choices,
-    )
+    prepared::run(&plan, st, choices)
 }
 
 // The plain run of at most `limit` choices: it takes the lowest enabled item, else the commit.
 pub fn run_plain(sheet: &[u8], st: State, limit: u16) -> Rested
     ensures { λ r. ⌜ r ≡ runPlain (now (sheet .entry)) st limit ⌝ }
 {
-    let read = sheet::read(sheet);
+    let mut plan = [0u32; 25212];
+    let read = prepared::prepare(sheet, &mut plan);
     if read.number != 0 {
         return Rested {
             accepted: 0,
@@ -142,59 +105,17 @@ pub fn run_plain(sheet: &[u8], st: State, limit: u16) -> Rested
             state: st,
         };
     }
-    let layout = read.layout;
-    let mut code = [0u16; 4096];
-    let mut readers = [0u32; 80];
-    let mut watched = [false; 80];
-    let sizes = fill(sheet, layout, &mut code, &mut readers, &mut watched);
-    let end = widths_end(layout);
-    let widths = &sheet[4..end];
-    let starts = layout.starts;
-    let shape = shape_of(layout);
-    calls::run_plain(
-        sheet,
-        widths,
-        &code,
-        &readers,
-        &watched,
-        &starts,
-        &sizes,
-        shape,
-        st,
-        limit,
-    )
+    prepared::run_plain(&plan, st, limit)
 }
 
 // An instant: all inputs are set as one change, and the time goes on.
 pub fn instant(sheet: &[u8], st: State, a: Inputs) -> Chosen
     ensures { λ r. ⌜ r ≡ instant (now (sheet .entry)) st a ⌝ }
 {
-    let read = sheet::read(sheet);
-    if read.number != 0 {
-        return Chosen {
-            number: read.number,
-            state: st,
-        };
+    let mut plan = [0u32; 25212];
+    let answer = prepared::prepare(sheet, &mut plan);
+    if answer.number != 0 {
+        return refused(answer.number, st);
     }
-    let layout = read.layout;
-    let mut code = [0u16; 4096];
-    let mut readers = [0u32; 80];
-    let mut watched = [false; 80];
-    let sizes = fill(sheet, layout, &mut code, &mut readers, &mut watched);
-    let end = widths_end(layout);
-    let widths = &sheet[4..end];
-    let starts = layout.starts;
-    let shape = shape_of(layout);
-    calls::instant(
-        sheet,
-        widths,
-        &code,
-        &readers,
-        &watched,
-        &starts,
-        &sizes,
-        shape,
-        st,
-        a,
-    )
+    prepared::instant(&plan, st, a)
 }

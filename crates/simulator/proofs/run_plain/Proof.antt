@@ -1,47 +1,24 @@
--- `simulator::run_plain` meets its contract: each way through the code is a law of proofs/Answers. Assumes nothing.
+-- `simulator::run_plain` meets its contract: a sheet that is refused, or the call on its plan. Assumes nothing.
 use borrow.Author.Needs.{needs}
-use native.Mathlib.Omega.{arith}
-use Rattle.state.proofs.Accessors.{shaped-good}
-use Rattle.simulator.proofs.Plan.{widths-start}
-use Rattle.simulator.proofs.Answers.{plain-refused, plain-accepted, widths-end-inside}
+use mathlib.Core.Path.{_∙_}
+use Prim.Native.Nat.{ℕ}
+use lib.ListN.{length-replicate}
+use Rattle.simulator.proofs.Answers.{plain-refused, calls-same}
 use Rattle.simulator.proofs.run_plain.Statement.{statement}
 use Rattle.simulator.proofs.run_plain.Tie as tie
 
 returns : tie.Need-returns
-returns c = plain-refused _ _ (c .before .before .read .ensures) _ (c .if1 .taken) _
-
-sub-widths : tie.Need-sub-widths
-sub-widths c = omega (arith, c .widths-end .ensures, widths-start (c .before .before .before .before .before .before .before .before .read .result .layout))
-
-part-widths-start : tie.Need-part-widths-start
-part-widths-start c = omega (arith, c .widths-end .ensures, widths-start (c .before .before .before .before .before .before .before .before .read .result .layout))
-
-part-widths-end : tie.Need-part-widths-end
-part-widths-end c =
-    let a = c .before .before .before .before .before .before in
-    omega (arith, c .widths-end .ensures, widths-end-inside _ _ (a .before .before .read .ensures) (a .if1 .left))
+returns c = plain-refused _ _ (c .before .before .prepare .ensures .0) _ (c .if1 .taken) _
 
 returns-2 : tie.Need-returns-2
 returns-2 c =
-    let w = c .before .before .before .before .before .before .before .before .before in
-    let f = w .before .fill .ensures in
-    let a = w .before .before .before .before .before .before in
-    let p = a .before .before .before .before in
-    plain-accepted _ _ (a .before .before .read .ensures) (p .args .st) (a .if1 .left)
-    (shaped-good (p .args .st) (p .good .1 .0)) _ _ _ _ _ _ (w .widths-end .ensures)
-    (c .before .before .before .before .before .before .shape-of .ensures) (f .0) (f .1 .0) (f .1 .1 .0) (f .1 .1 .1) _ _ (c .run-plain .ensures)
+    let at-if = c .before .before in
+    let at-prepare = at-if .before .before in
+    let p = at-prepare .prepare .ensures in
+    let s = at-prepare .before .before .before in
+    c .run-plain .ensures
+    ∙ calls-same _ _ (p .0) (s .args .st) (at-if .if1 .left) _ _ (length-replicate {A = ℕ} 25212 0) (p .1) (s .good .1 .0) .plain
+    _
 
 pub run-plain-spec : {M : Type 1} → statement M
-run-plain-spec =
-    tie.close
-    (tie.spec
-    (λ c κs. search needs)
-    returns
-    (λ c κs. search needs)
-    (λ c κs. search needs)
-    sub-widths
-    part-widths-start
-    part-widths-end
-    (λ c κs. search needs)
-    (λ c κs. search needs)
-    returns-2)
+run-plain-spec = tie.close (tie.spec (λ c κs. search needs) returns (λ c κs. search needs) returns-2)
