@@ -94,7 +94,9 @@ uint8_t walbryts_list(const uint8_t *sheet, size_t sheet_len, uint8_t *text, siz
 
 /* ---- events. A state lies as its saved bytes in state[WALBRYTS_STATE] and becomes the one that the call gives back;
  * keeping a copy of the bytes saves it, copying them back loads it. Bytes that are no saved state are refused as a state
- * that doesn't fit the sheet, with 31, after the sheet's own numbers. */
+ * that doesn't fit the sheet, with 31, after the sheet's own numbers.
+ * All but the first two prepare the sheet on the stack: 180 KB at most. (Measured: 150 KB for a usual sheet, 171 KB for
+ * one that nests as deep as it may.) */
 
 /* Are the bytes a saved state: WALBRYTS_STATE of them, of this form, every flag and mark 0 or 1? */
 bool walbryts_is_state(const uint8_t *bytes, size_t bytes_len);
@@ -129,8 +131,7 @@ uint8_t walbryts_instant(const uint8_t *sheet, size_t sheet_len, uint8_t *state,
  * row's item 0, the clock's, isn't looked at. *phases takes how many instants were done with the run after them;
  * *running whether it was the run after an instant, and not the instant, that had the number. Gives 0 where all were,
  * else the number that stopped it, and the state is the one reached. A refused call gives 1 to 11, 31, or 25 where
- * value_len is no multiple of 16 or unknown_len is another length.
- * What is prepared of the sheet lies on the stack: 150 KB. */
+ * value_len is no multiple of 16 or unknown_len is another length. */
 uint8_t walbryts_run_cycles(const uint8_t *sheet, size_t sheet_len, uint8_t *state, const uint32_t *value,
                             size_t value_len, const bool *unknown, size_t unknown_len, size_t *phases, bool *running);
 
