@@ -15,7 +15,7 @@ use Rattle.pseudocode.specs.declared.Instruction.the-variants.{Wait, Act}
 use Rattle.pseudocode.specs.Fetching.{fetchAt}
 use Rattle.pseudocode.proofs.Fetching.{fetch-thread}
 use Rattle.masks.specs.Masks.{anyMark}
-use Rattle.events.specs.Calls.{spend}
+use Rattle.engine.specs.Acting.{spend}
 use Rattle.changes.specs.Scene.{Scene}
 use Rattle.changes.proofs.Firing.{placed-past}
 use Rattle.engine.specs.Live.{Plan, Live, live}

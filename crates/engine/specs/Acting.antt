@@ -15,7 +15,6 @@ use Rattle.pseudocode.specs.declared.Instruction.{Instruction}
 use Rattle.pseudocode.specs.declared.Instruction.the-variants.{Wait, Act}
 use Rattle.pseudocode.specs.Fetching.{fetchAt}
 use Rattle.masks.specs.Masks.{anyMark}
-use Rattle.events.specs.Calls.{spend}
 use Rattle.changes.specs.Scene.{Tables, Scene, scene, valuesIn}
 use Rattle.changes.specs.Changes.{after, placed, Changing, changing, put, finish, store}
 use Rattle.engine.specs.Live.{Plan, Live, live, worth}
@@ -91,6 +90,10 @@ pub record Taken : Type 0 where
 
 abbrev pub taken : ℕ → Live → Taken
 taken n l = record { number = n; left = l }
+
+-- 36, where a count of 32 bits is full.
+unfoldable pub spend : ℕ → ℕ
+spend n = pick (eqb n 4294967295) 36 0
 
 -- 36: "count (for a choice) at 4,294,967,295", judged last: then nothing is done.
 unfoldable pub unless : ℕ → Live → Live → Taken

@@ -16,7 +16,7 @@ ghost use Rattle.values.specs.Values.{pick, holds};
 ghost use Rattle.values.specs.Planes.{valueAt};
 ghost use Rattle.evaluation.specs.Bytes.{evalAt};
 ghost use Rattle.masks.specs.Masks.{bits};
-ghost use Rattle.events.specs.Calls.{spend};
+ghost use Rattle.engine.specs.Acting.{spend};
 ghost use Rattle.events.specs.Cycle.{anyBelow};
 ghost use Rattle.changes.specs.Scene.{Scene, tables, scene};
 ghost use Rattle.changes.specs.Changes.{after, placed, changing, store};

@@ -1,6 +1,6 @@
 -- `engine::spend` meets its contract, by its test.
 use borrow.Author.Tests.{eq-eqb, ne-eqb}
-use Rattle.events.specs.Calls.{spend}
+use Rattle.engine.specs.Acting.{spend}
 use Rattle.engine.proofs.spend.Statement.{statement}
 use Rattle.engine.proofs.spend.Tie as tie
 
