@@ -201,7 +201,8 @@ static void no_state(size_t at, uint8_t byte, bool saved) {
 }
 
 static void states(void) {
-    no_state(0, 2, false);
+    no_state(0, 1, false);
+    no_state(0, 3, false);
     no_state(WALBRYTS_VALUE_AT(79), 2, false);
     no_state(WALBRYTS_PENDING_AT(0), 255, false);
     no_state(WALBRYTS_DUE_AT(31), 2, false);
@@ -226,7 +227,7 @@ static void drive(uint32_t clock) {
 }
 
 static void full(size_t at) {
-    memset(lent.state + at, 0xFF, 4);
+    memset(lent.state + at, 0xFF, 8);
     keep();
 }
 

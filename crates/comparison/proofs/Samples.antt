@@ -9,7 +9,7 @@ use Rattle.values.specs.declared.Value.the-variants.{Known, Unknown}
 use Rattle.values.specs.Values.{same}
 use Rattle.values.specs.Planes.{valueAt}
 use Rattle.state.specs.declared.State.{State}
-use Rattle.state.specs.State.{valueOf, placeOf}
+use Rattle.state.specs.State.{countersOf, valueOf, placeOf}
 use Rattle.comparison.specs.declared.Counts.{Counts}
 use Rattle.comparison.specs.declared.Difference.the-variants.{Nowhere, Variable, Place}
 use Rattle.comparison.specs.declared.Finding.the-variants.{Same, Apart}
@@ -37,8 +37,7 @@ sample ns xs ps =
       held = replicate 32 false;
       places = ps;
       due = replicate 32 false;
-      time = 4;
-      count = 9;
+      counters = countersOf 4 9;
     }
 
 abbrev known : List Bool

@@ -84,9 +84,9 @@ judged (no n p) st refused accepted = refused n
 unfoldable pub answer : ℕ → State → State → Chosen
 answer n old new = pick (eqb n 0) (record { number = 0; state = new }) (record { number = n; state = old })
 
--- ---- counting: "Time and the count of accepted choices are 32 bits each."
+-- ---- counting: "Time and the count of accepted choices become 64 bits wide."
 
--- 36: "time (for an instant) or count (for a choice) at 4,294,967,295"
+-- 36: "time (for an instant) or count (for a choice)" at 18,446,744,073,709,551,615
 unfoldable pub spend : ℕ → ℕ
 spend n = pick (eqb n full) 36 0
 

@@ -72,7 +72,7 @@ pub record Rests (m : Module Expr) (r : Rested) (t : Run) : Type 0 where
   pub number : t .number ≡ numberOfVerdict (r .verdict)
   pub left : Shows m (r .state) (t .left)
 
--- The room that is left beside a count: "count (for a choice) at 4,294,967,295".
+-- The room that is left beside a count, up to a full one.
 abbrev pub Room : ℕ → State → Type 0
 Room room st = room + st .counters .count ≡ full
 

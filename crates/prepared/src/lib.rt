@@ -80,11 +80,11 @@ fn room_of(st: State) -> u64
     ensures { λ r. ⌜ r ≡ roomOf st ⌝ }
 {
     let count = st.counters.count;
-    FULL as u64 - count as u64
+    FULL - count
 }
 
 // The count once a choice was answered by `number`.
-fn counting(number: u8, count: u32) -> u32
+fn counting(number: u8, count: u64) -> u64
     requires { ⌜ (number ≡ 0 → count < full) ⌝ }
     ensures { λ r. ⌜ r ≡ counting number count ⌝ }
 {
@@ -154,7 +154,7 @@ pub fn run(plan: &PlanTable, st: State, choices: &[u8]) -> Ran
         room,
     );
     let left = t.marks;
-    let count = st.counters.count + t.accepted as u32;
+    let count = st.counters.count + t.accepted as u64;
     let counters = Counters {
         time: st.counters.time,
         count,
@@ -207,7 +207,7 @@ pub fn run_plain(plan: &PlanTable, st: State, limit: u16) -> Rested
     );
     let left = t.marks;
     let verdict = verdict_of(t.number, left);
-    let count = st.counters.count + t.accepted as u32;
+    let count = st.counters.count + t.accepted as u64;
     let counters = Counters {
         time: st.counters.time,
         count,

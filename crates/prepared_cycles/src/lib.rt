@@ -31,8 +31,8 @@ pub struct Cycled {
 // What goes along with the cells: the marks, the time and the count.
 pub struct Standing {
     pub marks: Marks,
-    pub time: u32,
-    pub count: u32,
+    pub time: u64,
+    pub count: u64,
 }
 
 // What a phase leaves: the number that stopped it, 0 where none did, whether a run was, and what goes along with the cells.

@@ -15,7 +15,7 @@ ghost use Rattle.plan_engine.specs.Live.{live};
 ghost use Rattle.prepared_cycles.specs.Phases.{moment, momentOf, phase, refusalAt, phaseAt};
 
 // The number of an instant, 0 where it is accepted.
-fn refusal(plan: &PlanTable, marks: Marks, time: u32, a: Inputs) -> u8
+fn refusal(plan: &PlanTable, marks: Marks, time: u64, a: Inputs) -> u8
     ensures { λ r. ⌜
         ((cs ns ps : List ℕ) (count : ℕ) →
         r ≡ refusalAt (planOf (now (plan .entry))) a (moment (live cs ns ps marks) time count))
@@ -56,11 +56,11 @@ pub fn phase(
         };
     }
     let fed = plan_engine::feed(plan, cells, pending, places, marks, &a.value, &a.unknown);
-    let room = FULL as u64 - standing.count as u64;
+    let room = FULL - standing.count;
     let run = plan_engine::run_plain(plan, cells, pending, places, fed, 65535, room);
     let left = run.marks;
     let time = standing.time + 1;
-    let count = standing.count + run.accepted as u32;
+    let count = standing.count + run.accepted as u64;
     Phased {
         number: run.number,
         running: run.number != 0,

@@ -9,6 +9,8 @@ use libc::STDIN_FILENO;
 use libc::STDOUT_FILENO;
 use nextstate::Clocked;
 use nextstate::Registers;
+use state::Counters;
+use state::Loaded;
 use state::State;
 ghost use Prim.Native.Nat.{_<_};
 ghost use Rattle.io.specs.Counts.{Counts};
@@ -188,8 +190,13 @@ fn say_picked(picked: u8) {
     }
 }
 
-// A saved state in hexadecimal, without its form byte.
-fn say_state(bytes: &[u8; 641]) {
+// A saved state in hexadecimal, without its form byte; in a script of form 1 with the low halves of its counters, where these are all.
+fn say_state(bytes: &[u8; 649], short: bool) {
+    if short {
+        say_hex(&bytes[..637], 1);
+        say_hex(&bytes[641..645], 0);
+        return;
+    }
     say_hex(bytes, 1);
 }
 
@@ -339,11 +346,12 @@ fn do_list(sheet: &[u8]) -> bool {
 }
 
 // `D`: the state.
-fn do_save(st: State) -> bool {
-    let mut bytes = [0u8; 641];
+fn do_save(form: u8, st: State) -> bool {
+    let mut bytes = [0u8; 649];
     state::save(st, &mut bytes);
+    let short = form == 1 && st.counters.time < 4294967296 && st.counters.count < 4294967296;
     say(b"state ");
-    say_state(&bytes);
+    say_state(&bytes, short);
     say(b"\n");
     true
 }
@@ -614,14 +622,31 @@ fn do_instant(sheet: &[u8], st: State) -> Next {
     told(b"instant ", simulator::instant(sheet, st, a))
 }
 
-// `L`: the state becomes this one, unjudged.
-fn do_load(st: State) -> Next {
-    let mut bytes = [0u8; 641];
-    bytes[0] = 1;
-    if !take(&mut bytes[1..]) {
-        return bad(st);
+// The state that a record holds, in form 2 of saved states; where it is cut short, no form is named and nothing found.
+fn take_state() -> Loaded {
+    let mut bytes = [0u8; 649];
+    if take(&mut bytes[1..]) {
+        bytes[0] = 2;
     }
-    let l = state::load(&bytes);
+    state::load(&bytes)
+}
+
+// In form 1.
+fn take_short() -> Loaded {
+    let mut bytes = [0u8; 641];
+    if take(&mut bytes[1..]) {
+        bytes[0] = 1;
+    }
+    state::load(&bytes)
+}
+
+// `L`: the state becomes this one, unjudged.
+fn do_load(form: u8, st: State) -> Next {
+    let l = if form == 1 {
+        take_short()
+    } else {
+        take_state()
+    };
     if !l.found {
         return bad(st);
     }
@@ -633,14 +658,49 @@ fn do_load(st: State) -> Next {
     }
 }
 
+// `M`: a saved state of either form is brought over.
+fn do_bring(st: State) -> Next {
+    let mut count = [0u8; 2];
+    let mut bytes = [0u8; 65536];
+    if !take(&mut count) {
+        return bad(st);
+    }
+    let n = word(count[0], count[1]);
+    let got = take_some(&mut bytes, n);
+    if got < n {
+        return bad(st);
+    }
+    let l = state::load(&bytes[..got]);
+    if !l.found {
+        say_line(b"bring ", 31);
+        return Next {
+            on: true,
+            state: st,
+        };
+    }
+    say_line(b"bring ", 0);
+    let brought = l.state;
+    Next {
+        on: true,
+        state: brought,
+    }
+}
+
 // ---- the script
 
 // A record that leaves the state alone.
-fn told_of(letter: u8, sheet: &[u8], st: State, nodes: &mut [u16], rows: &mut [u16]) -> bool {
+fn told_of(
+    form: u8,
+    letter: u8,
+    sheet: &[u8],
+    st: State,
+    nodes: &mut [u16],
+    rows: &mut [u16],
+) -> bool {
     match letter {
         b'N' => do_read(sheet),
         b'Q' => do_list(sheet),
-        b'D' => do_save(st),
+        b'D' => do_save(form, st),
         b'X' => do_extract(sheet, nodes, rows),
         b'T' => do_tables(nodes, rows),
         b'W' => do_word(nodes, rows),
@@ -652,7 +712,7 @@ fn told_of(letter: u8, sheet: &[u8], st: State, nodes: &mut [u16], rows: &mut [u
 }
 
 // One record. The end of the script stands where a letter could.
-fn record(sheet: &[u8], st: State, nodes: &mut [u16], rows: &mut [u16]) -> Next {
+fn record(form: u8, sheet: &[u8], st: State, nodes: &mut [u16], rows: &mut [u16]) -> Next {
     let mut letter = [0u8; 1];
     if !take(&mut letter) {
         return Next {
@@ -666,9 +726,10 @@ fn record(sheet: &[u8], st: State, nodes: &mut [u16], rows: &mut [u16]) -> Next 
         b'R' => do_run(sheet, st),
         b'P' => do_plain(sheet, st),
         b'I' => do_instant(sheet, st),
-        b'L' => do_load(st),
+        b'L' => do_load(form, st),
+        b'M' => if form == 1 { bad(st) } else { do_bring(st) },
         _ => Next {
-            on: told_of(letter[0], sheet, st, nodes, rows),
+            on: told_of(form, letter[0], sheet, st, nodes, rows),
             state: st,
         },
     }
@@ -684,14 +745,13 @@ fn zero() -> State {
         held: [false; 32],
         places: [0u8; 8],
         due: [false; 32],
-        time: 0,
-        count: 0,
+        counters: Counters { time: 0, count: 0 },
     }
 }
 
 // All records, on tables whose words are all 43690 at first. A proved loop has to end, and nothing says that a script does: so it
 // counts its turns down, from a number that no run uses up.
-fn records(sheet: &[u8]) {
+fn records(form: u8, sheet: &[u8]) {
     let mut nodes = [43690u16; 16385];
     let mut rows = [43690u16; 1057];
     let mut next = Next {
@@ -701,24 +761,25 @@ fn records(sheet: &[u8]) {
     let mut turns = u64::MAX;
     while turns > 0 && next.on {
         let st = next.state;
-        next = record(sheet, st, &mut nodes, &mut rows);
+        next = record(form, sheet, st, &mut nodes, &mut rows);
         turns -= 1;
     }
 }
 
-// The head: the form, 1 for this one, the sheet's length and the sheet.
+// The head: the form, 2, or 1 with short counters, the sheet's length and the sheet.
 fn main() {
     let mut head = [0u8; 3];
     let mut sheet = [0u8; 65536];
-    if !take(&mut head) || head[0] != 1 {
+    if !take(&mut head) || head[0] < 1 || head[0] > 2 {
         say(b"bad script\n");
         return;
     }
+    let form = head[0];
     let n = word(head[1], head[2]);
     let got = take_some(&mut sheet, n);
     if got < n {
         say(b"bad script\n");
         return;
     }
-    records(&sheet[..got]);
+    records(form, &sheet[..got]);
 }

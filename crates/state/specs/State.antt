@@ -26,14 +26,14 @@ pub record Bounded (st : State) : Type 0 where
   pub value : (v : ℕ) → getD (st .value) v 0 < 2 ^ 32
   pub pending : (r : ℕ) → getD (st .pending) r 0 < 2 ^ 32
   pub places : (i : ℕ) → getD (st .places) i 0 < 2 ^ 8
-  pub time : st .counters .time < 2 ^ 32
-  pub count : st .counters .count < 2 ^ 32
+  pub time : st .counters .time < 2 ^ 64
+  pub count : st .counters .count < 2 ^ 64
 
 -- ---- the counters
 
--- A counter at this number can't go on: "time (for an instant) or count (for a choice) at 4,294,967,295".
+-- A counter at this number can't go on: "Number 36 moves to 18,446,744,073,709,551,615 for each."
 abbrev pub full : ℕ
-full = 4294967295
+full = 18446744073709551615
 
 abbrev pub countersOf : ℕ → ℕ → Counters
 countersOf time count = record { time = time; count = count }

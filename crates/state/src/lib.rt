@@ -5,14 +5,14 @@ mod saving;
 pub use loading::load;
 pub use saving::save;
 
-// "Time and the count of accepted choices are 32 bits each."
+// "Time and the count of accepted choices become 64 bits wide."
 pub struct Counters {
-    pub time: u32,
-    pub count: u32,
+    pub time: u64,
+    pub count: u64,
 }
 
 // A counter that can't go on: number 36.
-pub const FULL: u32 = 4294967295;
+pub const FULL: u64 = 18446744073709551615;
 
 // A state. A value is a number or, where its unknown flag is up, x. A register's pending value counts where its held flag
 // is up.

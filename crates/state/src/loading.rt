@@ -5,11 +5,11 @@ use super::State;
 use sheet::byte_at;
 use sheet::word_at;
 ghost use mathlib.Core.Path.{_≡_};
-ghost use Prim.Native.Nat.{_+_, _*_};
+ghost use Prim.Native.Nat.{_+_, _*_, _≤_};
 ghost use lib.ListN.{getD};
 ghost use Rattle.sheet.specs.Reading.{wordOf};
 ghost use Rattle.state.specs.Saved.{isFlag, valueFlags, slotFlags, markFlags, bodyFlags, isForm};
-ghost use Rattle.state.specs.Saved.{flagAt, listOf, countersIn, stateIn, zeroState, loaded, loadedAnswer};
+ghost use Rattle.state.specs.Saved.{flagAt, listOf, longOf, countersIn, shortIn, stateIn, zeroState, loaded, loadedAnswer};
 
 // ---- are these bytes the saved form of a state?
 
@@ -182,12 +182,34 @@ fn due_in(bytes: &[u8]) -> [bool; 32]
 
 // ---- the state
 
+// A number of 64 bits, low half first.
+fn long_at(bytes: &[u8], at: usize) -> u64
+    requires { ⌜ at ≤ 641 ⌝ }
+    ensures { λ r. ⌜ r ≡ longOf (now (bytes .entry)) at ⌝ }
+{
+    let low = word_at(bytes, at);
+    let high = word_at(bytes, at + 4);
+    low as u64 + 4294967296 * high as u64
+}
+
 fn counters_in(bytes: &[u8]) -> Counters
     ensures { λ r. ⌜ r ≡ countersIn (now (bytes .entry)) ⌝ }
 {
     Counters {
-        time: word_at(bytes, 633),
-        count: word_at(bytes, 637),
+        time: long_at(bytes, 633),
+        count: long_at(bytes, 641),
+    }
+}
+
+// The short counters.
+fn short_in(bytes: &[u8]) -> Counters
+    ensures { λ r. ⌜ r ≡ shortIn (now (bytes .entry)) ⌝ }
+{
+    let time = word_at(bytes, 633);
+    let count = word_at(bytes, 637);
+    Counters {
+        time: time as u64,
+        count: count as u64,
     }
 }
 
@@ -229,18 +251,23 @@ fn zero_state() -> State
     }
 }
 
-// The state that the bytes are the saved form of.
+// The state that the bytes are a saved form of: the one that is written, or the one with short counters.
 pub fn load(bytes: &[u8]) -> Loaded
     ensures { λ r. ⌜ r ≡ loadedAnswer (loaded (now (bytes .entry))) ⌝ }
 {
-    if !is_form(1, 641, bytes) {
-        let state = zero_state();
-        return Loaded {
-            found: false,
-            state,
-        };
+    if is_form(2, 649, bytes) {
+        let counters = counters_in(bytes);
+        let state = state_in(bytes, counters);
+        return Loaded { found: true, state };
     }
-    let counters = counters_in(bytes);
-    let state = state_in(bytes, counters);
-    Loaded { found: true, state }
+    if is_form(1, 641, bytes) {
+        let counters = short_in(bytes);
+        let state = state_in(bytes, counters);
+        return Loaded { found: true, state };
+    }
+    let state = zero_state();
+    Loaded {
+        found: false,
+        state,
+    }
 }

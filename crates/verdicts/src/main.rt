@@ -3,6 +3,7 @@
 use comparison::Counts;
 use comparison::Verdict;
 use libc::STDOUT_FILENO;
+use state::Counters;
 use state::State;
 
 // A state of a module with a clock, a register, a wire and two threads.
@@ -20,8 +21,7 @@ fn state_of(register: u32, wire: u32, place: u8) -> State {
         held: [false; 32],
         places,
         due: [false; 32],
-        time: 0,
-        count: 0,
+        counters: Counters { time: 0, count: 0 },
     }
 }
 

@@ -48,8 +48,6 @@ phase-spec =
     returns
     (λ c κs. search needs)
     (λ c. search needs)
-    (λ c. search needs)
-    (λ c. search needs)
     (λ c κs. search needs)
     add-time
     (λ c. search needs)
