@@ -79,7 +79,9 @@ fn long_counters() {
     let sheet = flip_flop();
     let mut state = sheet.start();
     let inputs = Inputs::from([0, 5]);
-    for (time, after) in [(u64::from(u32::MAX), Ok(())), (u64::MAX - 1, Ok(())), (u64::MAX, Err(36))] {
+    for (time, after) in
+        [(u64::from(u32::MAX), Ok(())), (u64::MAX - 1, Ok(())), (u64::MAX, Err(36))]
+    {
         let mut bytes = *state.save();
         bytes[633..641].copy_from_slice(&time.to_le_bytes());
         state = State::load(&bytes).unwrap();

@@ -258,7 +258,7 @@ fn bring(random: &mut Random) -> Outcome {
 /// The start run to rest, an instant and a plain run, with these counters.
 fn run_on(sheet: &[u8], time: u64, count: u64) -> Outcome {
     let reading = sheet::read(sheet);
-    let inputs = reading.as_ref().map_or(0, |module| module.inputs);
+    let inputs = reading.as_ref().map_or(0, |module| usize::from(module.inputs));
     let answers = |calls: &dyn Calls| {
         let mut state = State::ZERO;
         let mut numbers = vec![calls.start(&mut state)];
