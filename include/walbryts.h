@@ -30,10 +30,10 @@ extern "C" {
 #define WALBRYTS_VARIABLES 80  /* variables of a sheet, at most */
 #define WALBRYTS_STACK 8388608 /* bytes of stack that reading a text needs at most */
 
-#define WALBRYTS_TEXT 65536 /* bytes of the buffer for a listing; no listing is longer */
-#define WALBRYTS_STATE 649  /* bytes of a saved state */
+#define WALBRYTS_TEXT 65536  /* bytes of the buffer for a listing; no listing is longer */
+#define WALBRYTS_STATE 649   /* bytes of a saved state */
 #define WALBRYTS_STATE_1 641 /* bytes of one that an older release saved, in form 1 */
-#define WALBRYTS_INPUTS 16  /* inputs in a row */
+#define WALBRYTS_INPUTS 16   /* inputs in a row */
 #define WALBRYTS_REGISTERS 32
 #define WALBRYTS_WIRES 32
 #define WALBRYTS_THREADS 8
