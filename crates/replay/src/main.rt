@@ -10,7 +10,6 @@ use libc::STDOUT_FILENO;
 use nextstate::Clocked;
 use nextstate::Registers;
 use state::Counters;
-use state::Loaded;
 use state::State;
 ghost use Prim.Native.Nat.{_<_};
 ghost use Rattle.io.specs.Counts.{Counts};
@@ -190,14 +189,31 @@ fn say_picked(picked: u8) {
     }
 }
 
-// A saved state in hexadecimal, without its form byte; in a script of form 1 with the low halves of its counters, where these are all.
-fn say_state(bytes: &[u8; 649], short: bool) {
-    if short {
-        say_hex(&bytes[..637], 1);
-        say_hex(&bytes[641..645], 0);
-        return;
-    }
+// A saved state in hexadecimal, without its form byte.
+fn say_state(bytes: &[u8; 649]) {
     say_hex(bytes, 1);
+}
+
+// The first bytes but one in hexadecimal.
+fn say_front(bytes: &[u8], n: usize) {
+    if n <= bytes.len() {
+        say_hex(&bytes[..n], 1);
+    }
+}
+
+// A saved state up to the low half of its time.
+fn say_short(bytes: &[u8; 649]) {
+    say_front(bytes, 637);
+}
+
+// The low half of a counter in hexadecimal.
+fn say_low(n: u64) {
+    let mut text = [0u8; 1024];
+    let a = put_hex((n % 256) as u8, &mut text, 0);
+    let b = put_hex((n / 256 % 256) as u8, &mut text, a);
+    let c = put_hex((n / 65536 % 256) as u8, &mut text, b);
+    let d = put_hex((n / 16777216 % 256) as u8, &mut text, c);
+    say_text(&text, d);
 }
 
 // The last line of a script that can't be read on.
@@ -345,13 +361,17 @@ fn do_list(sheet: &[u8]) -> bool {
     true
 }
 
-// `D`: the state.
-fn do_save(form: u8, st: State) -> bool {
+// `D`: the state; in a script of form 1 with short counters, where these hold them.
+fn do_save(st: State, form: u8) -> bool {
     let mut bytes = [0u8; 649];
     state::save(st, &mut bytes);
-    let short = form == 1 && st.counters.time < 4294967296 && st.counters.count < 4294967296;
     say(b"state ");
-    say_state(&bytes, short);
+    if form == 1 && st.counters.time < 4294967296 && st.counters.count < 4294967296 {
+        say_short(&bytes);
+        say_low(st.counters.count);
+    } else {
+        say_state(&bytes);
+    }
     say(b"\n");
     true
 }
@@ -622,31 +642,33 @@ fn do_instant(sheet: &[u8], st: State) -> Next {
     told(b"instant ", simulator::instant(sheet, st, a))
 }
 
-// The state that a record holds, in form 2 of saved states; where it is cut short, no form is named and nothing found.
-fn take_state() -> Loaded {
-    let mut bytes = [0u8; 649];
-    if take(&mut bytes[1..]) {
-        bytes[0] = 2;
-    }
-    state::load(&bytes)
-}
-
-// In form 1.
-fn take_short() -> Loaded {
-    let mut bytes = [0u8; 641];
-    if take(&mut bytes[1..]) {
-        bytes[0] = 1;
-    }
-    state::load(&bytes)
-}
-
 // `L`: the state becomes this one, unjudged.
-fn do_load(form: u8, st: State) -> Next {
-    let l = if form == 1 {
-        take_short()
-    } else {
-        take_state()
-    };
+fn do_load(st: State) -> Next {
+    let mut bytes = [0u8; 649];
+    bytes[0] = 2;
+    if !take(&mut bytes[1..]) {
+        return bad(st);
+    }
+    let l = state::load(&bytes);
+    if !l.found {
+        return bad(st);
+    }
+    say(b"load\n");
+    let loaded = l.state;
+    Next {
+        on: true,
+        state: loaded,
+    }
+}
+
+// `L` in a script of form 1.
+fn do_load_short(st: State) -> Next {
+    let mut bytes = [0u8; 641];
+    bytes[0] = 1;
+    if !take(&mut bytes[1..]) {
+        return bad(st);
+    }
+    let l = state::load(&bytes);
     if !l.found {
         return bad(st);
     }
@@ -690,17 +712,17 @@ fn do_bring(st: State) -> Next {
 
 // A record that leaves the state alone.
 fn told_of(
-    form: u8,
     letter: u8,
     sheet: &[u8],
     st: State,
     nodes: &mut [u16],
     rows: &mut [u16],
+    form: u8,
 ) -> bool {
     match letter {
         b'N' => do_read(sheet),
         b'Q' => do_list(sheet),
-        b'D' => do_save(form, st),
+        b'D' => do_save(st, form),
         b'X' => do_extract(sheet, nodes, rows),
         b'T' => do_tables(nodes, rows),
         b'W' => do_word(nodes, rows),
@@ -712,7 +734,7 @@ fn told_of(
 }
 
 // One record. The end of the script stands where a letter could.
-fn record(form: u8, sheet: &[u8], st: State, nodes: &mut [u16], rows: &mut [u16]) -> Next {
+fn record(sheet: &[u8], st: State, nodes: &mut [u16], rows: &mut [u16], form: u8) -> Next {
     let mut letter = [0u8; 1];
     if !take(&mut letter) {
         return Next {
@@ -726,10 +748,14 @@ fn record(form: u8, sheet: &[u8], st: State, nodes: &mut [u16], rows: &mut [u16]
         b'R' => do_run(sheet, st),
         b'P' => do_plain(sheet, st),
         b'I' => do_instant(sheet, st),
-        b'L' => do_load(form, st),
+        b'L' => if form == 1 {
+            do_load_short(st)
+        } else {
+            do_load(st)
+        },
         b'M' => if form == 1 { bad(st) } else { do_bring(st) },
         _ => Next {
-            on: told_of(form, letter[0], sheet, st, nodes, rows),
+            on: told_of(letter[0], sheet, st, nodes, rows, form),
             state: st,
         },
     }
@@ -751,7 +777,7 @@ fn zero() -> State {
 
 // All records, on tables whose words are all 43690 at first. A proved loop has to end, and nothing says that a script does: so it
 // counts its turns down, from a number that no run uses up.
-fn records(form: u8, sheet: &[u8]) {
+fn records(sheet: &[u8], form: u8) {
     let mut nodes = [43690u16; 16385];
     let mut rows = [43690u16; 1057];
     let mut next = Next {
@@ -761,7 +787,7 @@ fn records(form: u8, sheet: &[u8]) {
     let mut turns = u64::MAX;
     while turns > 0 && next.on {
         let st = next.state;
-        next = record(form, sheet, st, &mut nodes, &mut rows);
+        next = record(sheet, st, &mut nodes, &mut rows, form);
         turns -= 1;
     }
 }
@@ -781,5 +807,5 @@ fn main() {
         say(b"bad script\n");
         return;
     }
-    records(form, &sheet[..got]);
+    records(&sheet[..got], form);
 }

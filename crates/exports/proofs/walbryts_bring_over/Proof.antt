@@ -1,5 +1,5 @@
 -- `exports::walbryts_bring_over` meets its contract. Assumes nothing.
-use mathlib.Core.Path.{refl, ap, _∙_}
+use mathlib.Core.Path.{refl}
 use borrow.Author.Needs.{needs}
 use borrow.Author.Tests.{not-true, not-false}
 use Rattle.exports.specs.Saved.{bringing, broughtInto}
@@ -10,13 +10,14 @@ use Rattle.exports.proofs.walbryts_bring_over.Tie as tie
 returns : tie.Need-returns
 unfolding bringing broughtInto
 returns c =
-    let e = found-none _ _ (c .before .load .ensures) (not-true _ (c .if1 .taken)) in
+    let e = found-none _ _ (c .before .before .load .ensures) (not-true _ (c .if1 .taken)) in
     (rw e refl, rw e refl)
 
 returns-2 : tie.Need-returns-2
 unfolding bringing broughtInto
 returns-2 c =
-    let e = found-some _ _ (c .before .before .before .load .ensures) (not-false _ (c .before .before .if1 .left)) in
+    let at-if = c .before .before .before in
+    let e = found-some _ _ (at-if .before .before .load .ensures) (not-false _ (at-if .if1 .left)) in
     (rw e refl, rw e (c .save .ensures))
 
 pub walbryts-bring-over-spec : {M : Type 1} → statement M
