@@ -32,16 +32,17 @@ extern "C" {
 #define WALBRYTS_VARIABLES 80  /* variables of a sheet, at most */
 #define WALBRYTS_STACK 8388608 /* bytes of stack that reading a text needs at most */
 
-#define WALBRYTS_TEXT 65536 /* bytes of the buffer for a listing; no listing is longer */
-#define WALBRYTS_STATE 641  /* bytes of a saved state */
-#define WALBRYTS_INPUTS 16  /* inputs in a row */
+#define WALBRYTS_TEXT 65536  /* bytes of the buffer for a listing; no listing is longer */
+#define WALBRYTS_STATE 649   /* bytes of a saved state */
+#define WALBRYTS_STATE_1 641 /* bytes of one that an older release saved, in form 1 */
+#define WALBRYTS_INPUTS 16   /* inputs in a row */
 #define WALBRYTS_REGISTERS 32
 #define WALBRYTS_WIRES 32
 #define WALBRYTS_THREADS 8
 #define WALBRYTS_NODE_WORDS 16384 /* words of the node table: 4,096 nodes of four */
 #define WALBRYTS_ROW_WORDS 1056   /* words of the row table: 32 rows of 33 */
 
-/* ---- where a saved state has what. Multi-byte numbers are low byte first. Byte 0 names the form and is 1. */
+/* ---- where a saved state has what. Multi-byte numbers are low byte first. Byte 0 names the form and is 2. */
 
 /* Value v: a byte, 1 for x or 0 for a known number, then four bytes of number. */
 #define WALBRYTS_VALUE_AT(v) (1 + 5 * (size_t)(v))
@@ -51,9 +52,10 @@ extern "C" {
 #define WALBRYTS_PLACE_AT(t) (593 + (size_t)(t))
 /* Wire w is due: a byte, 0 or 1. */
 #define WALBRYTS_DUE_AT(w) (601 + (size_t)(w))
-/* The instants and the choices accepted: four bytes each. */
+/* The instants and the choices accepted: eight bytes each. (In form 1, whose byte 0 is 1, four bytes each, at 633 and
+ * 637; all before them is the same.) */
 #define WALBRYTS_TIME_AT 633
-#define WALBRYTS_COUNT_AT 637
+#define WALBRYTS_COUNT_AT 641
 
 /* ---- numbers and words */
 
@@ -100,8 +102,13 @@ uint8_t walbryts_list(const uint8_t *sheet, size_t sheet_len, uint8_t *text, siz
  * All but the first two prepare the sheet on the stack: 180 KB at most. (Measured: 150 KB for a usual sheet, 171 KB for
  * one that nests as deep as it may.) */
 
-/* Are the bytes a saved state: WALBRYTS_STATE of them, of this form, every flag and mark 0 or 1? */
+/* Are the bytes a saved state: WALBRYTS_STATE of them in this form, or WALBRYTS_STATE_1 in form 1, every flag and mark
+ * 0 or 1? */
 bool walbryts_is_state(const uint8_t *bytes, size_t bytes_len);
+
+/* Brings a saved state over: of old_len bytes in form 1, or in this one, into state[WALBRYTS_STATE], with the same two
+ * counters and all else as it was. Gives 0, or 31 where the old bytes are no saved state; then `state` stays. */
+uint8_t walbryts_bring_over(const uint8_t *old, size_t old_len, uint8_t *state);
 
 /* The start state: all is x, places and counters 0, every wire due. The bytes in `state` may be any. Gives 0, or 1 to
  * 11. */

@@ -29,6 +29,10 @@ static uint32_t number_at(const uint8_t *state, size_t at) {
     return state[at] | (uint32_t)state[at + 1] << 8 | (uint32_t)state[at + 2] << 16 | (uint32_t)state[at + 3] << 24;
 }
 
+static uint64_t counter_at(const uint8_t *state, size_t at) {
+    return number_at(state, at) | (uint64_t)number_at(state, at + 4) << 32;
+}
+
 static void print_value(uint32_t number, bool unknown) {
     if (unknown) {
         printf("x");
@@ -39,8 +43,8 @@ static void print_value(uint32_t number, bool unknown) {
 
 static void print_state(const uint8_t *state) {
     size_t at = WALBRYTS_VALUE_AT(REGISTER);
-    printf("time %" PRIu32 " count %" PRIu32 " place %u register ", number_at(state, WALBRYTS_TIME_AT),
-           number_at(state, WALBRYTS_COUNT_AT), state[WALBRYTS_PLACE_AT(0)]);
+    printf("time %" PRIu64 " count %" PRIu64 " place %u register ", counter_at(state, WALBRYTS_TIME_AT),
+           counter_at(state, WALBRYTS_COUNT_AT), state[WALBRYTS_PLACE_AT(0)]);
     print_value(number_at(state, at + 1), state[at] == 1);
     printf("\n");
 }

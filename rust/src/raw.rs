@@ -27,7 +27,10 @@ unsafe extern "C" {
         length: *mut usize,
     ) -> u8;
 
+    #[cfg(test)]
     pub fn walbryts_is_state(bytes: *const u8, bytes_len: usize) -> bool;
+
+    pub fn walbryts_bring_over(old: *const u8, old_len: usize, state: *mut u8) -> u8;
 
     pub fn walbryts_start(sheet: *const u8, sheet_len: usize, state: *mut u8) -> u8;
 
@@ -140,7 +143,7 @@ mod tests {
 
     const FLIP_FLOP: [u8; 16] = [2, 1, 0, 1, 1, 8, 8, 0x0C, 0x10, 1, 1, 0, 0x23, 2, 2, 1];
     const SHORT: [u8; 9] = [2, 1, 0, 1, 1, 8, 8, 0x0C, 0x10];
-    const STATE: usize = 641;
+    const STATE: usize = 649;
 
     fn started() -> [u8; STATE] {
         let mut state = [0; STATE];
@@ -185,7 +188,7 @@ mod tests {
 
     #[test]
     fn no_saved_state_is_31_after_the_sheet() {
-        for (at, byte) in [(0, 0), (0, 255), (1, 2), (401, 2), (601, 7)] {
+        for (at, byte) in [(0, 0), (0, 1), (0, 255), (1, 2), (401, 2), (601, 7)] {
             let mut bytes = started();
             bytes[at] = byte;
             // Safety: as above.
@@ -194,6 +197,32 @@ mod tests {
             refused(&SHORT, bytes, 2);
         }
         refused(&SHORT, started(), 2);
+    }
+
+    /// 641 bytes of form 1 are brought over; one byte less, or another form, leaves what is lent.
+    #[test]
+    fn a_refused_bringing_leaves_the_bytes() {
+        let state = started();
+        let mut old = [&state[..633], &[2, 1, 0, 0, 3, 0, 0, 0]].concat();
+        old[0] = 1;
+        let bring = |old: &[u8]| {
+            let mut lent = [0xA5; STATE];
+            // Safety: as above, and the lent bytes have the length of a saved state.
+            let number =
+                unsafe { walbryts_bring_over(old.as_ptr(), old.len(), lent.as_mut_ptr()) };
+            (number, lent)
+        };
+        let mut expected = state;
+        expected[633] = 2;
+        expected[634] = 1;
+        expected[641] = 3;
+        // Safety: as above.
+        assert!(unsafe { walbryts_is_state(old.as_ptr(), old.len()) });
+        assert_eq!(bring(&old), (0, expected));
+        assert_eq!(bring(&expected), (0, expected));
+        assert_eq!(bring(&old[..640]), (31, [0xA5; STATE]));
+        old[0] = 2;
+        assert_eq!(bring(&old), (31, [0xA5; STATE]));
     }
 
     #[test]

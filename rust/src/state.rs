@@ -5,7 +5,7 @@ use crate::raw;
 use crate::value::Value;
 
 /// The bytes of a saved state.
-pub const SAVED: usize = 641;
+pub const SAVED: usize = 649;
 
 /// What a state holds.
 const VALUES: usize = 80;
@@ -20,7 +20,7 @@ const SLOTS_AT: usize = VALUES_AT + 5 * VALUES;
 const PLACES_AT: usize = SLOTS_AT + 6 * SLOTS;
 const MARKS_AT: usize = PLACES_AT + PLACES;
 const TIME_AT: usize = MARKS_AT + MARKS;
-const COUNT_AT: usize = TIME_AT + 4;
+const COUNT_AT: usize = TIME_AT + 8;
 
 /// A state of the simulation. It is kept in its saved form, so that saving it costs nothing;
 /// whether it fits a sheet is judged by the calls, which refuse it with 31 otherwise.
@@ -41,25 +41,43 @@ pub struct State {
 }
 
 impl State {
-    /// The saved form: a byte 1, which names the form, then 80 values (1 for x or 0, and the
+    /// The saved form: a byte 2, which names the form, then 80 values (1 for x or 0, and the
     /// number, low byte first), 32 pending slots (1 for held or 0, and a value), 8 places, 32
-    /// marks of wires that are due, time and count (4 bytes each).
+    /// marks of wires that are due, time and count (8 bytes each).
     #[must_use]
     pub fn save(&self) -> &[u8; SAVED] {
         &self.bytes
     }
 
-    /// The state that was saved.
+    /// The state that was saved. One that an older release saved, in form 1 with time and count
+    /// of 4 bytes each, is brought over with the same two numbers and all else as it was:
+    ///
+    /// ```
+    /// # let bytes = [2, 1, 0, 1, 1, 8, 8, 0x0C, 0x10, 1, 1, 0, 0x23, 2, 2, 1];
+    /// use walbryts::{Sheet, State};
+    /// let start = Sheet::read(&bytes)?.start();
+    /// let mut old = start.save()[..633].to_vec();
+    /// old[0] = 1;
+    /// old.extend(258_u32.to_le_bytes());
+    /// old.extend(3_u32.to_le_bytes());
+    /// let state = State::load(&old).expect("a saved state of form 1");
+    /// assert_eq!((state.time(), state.count()), (258, 3));
+    /// assert_eq!(state.save()[..633], start.save()[..633]);
+    /// # Ok::<(), walbryts::Refusal>(())
+    /// ```
     ///
     /// # Errors
     ///
     /// Bytes of another length or form, or with a flag other than 0 and 1, are no saved state.
     pub fn load(saved: &[u8]) -> Result<State, NotSaved> {
+        let mut bytes = [0; SAVED];
         // The proved library judges the bytes.
-        // Safety: pointer and length are those of one slice.
-        match unsafe { raw::walbryts_is_state(saved.as_ptr(), saved.len()) } {
-            true => Ok(State { bytes: saved.try_into().map_err(|_| NotSaved)? }),
-            false => Err(NotSaved),
+        // Safety: pointer and length are those of one slice, and a saved state has so many bytes.
+        match unsafe {
+            raw::walbryts_bring_over(saved.as_ptr(), saved.len(), bytes.as_mut_ptr())
+        } {
+            0 => Ok(State { bytes }),
+            _ => Err(NotSaved),
         }
     }
 
@@ -124,18 +142,22 @@ impl State {
 
     /// How many instants were accepted.
     #[must_use]
-    pub fn time(&self) -> u32 {
-        self.number_at(TIME_AT)
+    pub fn time(&self) -> u64 {
+        self.counter_at(TIME_AT)
     }
 
     /// How many choices were accepted.
     #[must_use]
-    pub fn count(&self) -> u32 {
-        self.number_at(COUNT_AT)
+    pub fn count(&self) -> u64 {
+        self.counter_at(COUNT_AT)
     }
 
     fn value_at(&self, at: usize) -> Value {
         Value::of(self.number_at(at + 1), self.bytes[at] == 1)
+    }
+
+    fn counter_at(&self, at: usize) -> u64 {
+        u64::from_le_bytes(self.bytes[at..at + 8].try_into().expect("eight bytes"))
     }
 
     fn number_at(&self, at: usize) -> u32 {

@@ -99,7 +99,7 @@ fn risen() -> State {
 /// A state with all ones for its time or its count.
 fn full(state: &State, at: usize) -> State {
     let mut bytes = *state.save();
-    bytes[at..at + 4].fill(0xFF);
+    bytes[at..at + 8].fill(0xFF);
     State::load(&bytes).unwrap()
 }
 
@@ -129,7 +129,7 @@ fn of_the_simulation() {
     assert_eq!(choosing(&quiet, 0), Reason::NotEnabled);
     assert_eq!(choosing(&quiet, COMMIT), Reason::NothingPending);
     assert_eq!(choosing(&risen(), COMMIT), Reason::CommitTooEarly);
-    assert_eq!(choosing(&full(&risen(), 637), 0), Reason::Full);
+    assert_eq!(choosing(&full(&risen(), 641), 0), Reason::Full);
     assert_eq!(choosing(&unfit, 0), Reason::Unfit);
     assert_eq!(entering(&quiet, [0]), Reason::Inputs);
     assert_eq!(entering(&quiet, [0; 300]), Reason::Inputs);
@@ -142,7 +142,7 @@ fn of_the_simulation() {
 #[test]
 fn of_plain_runs_and_rows() {
     let sheet = flip_flop();
-    let run = sheet.run_plain(&mut full(&risen(), 637), 9).unwrap();
+    let run = sheet.run_plain(&mut full(&risen(), 641), 9).unwrap();
     assert_eq!((run.accepted, run.verdict), (0, Verdict::Full));
     let mut unfit = sheet.start();
     unfit.set_value(2, Value::Known(256));
@@ -160,7 +160,7 @@ fn of_plain_runs_and_rows() {
     let run = sheet.run_cycles(&mut sheet.start(), &rows).unwrap();
     assert_eq!((run.phases, run.stopped.map(reason)), (2, Some(Reason::Inputs)));
     assert!(!run.running);
-    let mut late = full(&sheet.start(), 637);
+    let mut late = full(&sheet.start(), 641);
     let run = sheet.run_cycles(&mut late, &rows).unwrap();
     assert_eq!(
         (run.phases, run.stopped.map(reason), run.running),

@@ -23,7 +23,7 @@ fn a_saved_state_loads_and_goes_on() {
 #[test]
 fn the_start_as_it_is_saved() {
     let start = of_hex(WATCHDOG).start();
-    assert_eq!(start.save()[0], 1);
+    assert_eq!(start.save()[0], 2);
     assert!((0..80).all(|variable| start.value(variable) == Value::X));
     assert!((0..32).all(|register| start.pending(register).is_none()));
     assert!((0..8).all(|thread| start.place(thread) == 0));
@@ -41,7 +41,7 @@ fn other_bytes_are_no_state() {
     // The form, flags of a value, a slot and the value in it, a mark.
     for at in [0, 1, 396, 401, 402, 587, 588, 601, 632] {
         let mut other = saved;
-        other[at] = 2;
+        other[at] = 3;
         assert_eq!(State::load(&other), Err(NotSaved), "byte {at}");
     }
     // Numbers, places, time and count may be any.
@@ -49,6 +49,45 @@ fn other_bytes_are_no_state() {
         let mut other = saved;
         other[at] = 2;
         assert_eq!(State::load(&other).unwrap().save(), &other, "byte {at}");
+    }
+}
+
+/// A state in form 1, with counters of four bytes, is brought over; its form in other bytes is none.
+#[test]
+fn short_counters_are_brought_over() {
+    let mut state = of_hex(WATCHDOG).start();
+    of_hex(WATCHDOG).run_plain(&mut state, u16::MAX).unwrap();
+    let saved = *state.save();
+    let mut old = saved[..633].to_vec();
+    old[0] = 1;
+    old.extend([0xFF; 4]);
+    old.extend([7, 0, 0, 1]);
+    let brought = State::load(&old).unwrap();
+    assert_eq!((brought.time(), brought.count()), (u32::MAX.into(), 0x0100_0007));
+    assert_eq!(brought.save()[..633], saved[..633]);
+    assert_eq!(State::load(&old[..640]), Err(NotSaved));
+    let mut other = saved;
+    other[0] = 1;
+    assert_eq!(State::load(&other), Err(NotSaved));
+    old[0] = 2;
+    assert_eq!(State::load(&old), Err(NotSaved));
+}
+
+/// The counters go on past 32 bits, and stop at the end of 64.
+#[test]
+fn long_counters() {
+    let sheet = flip_flop();
+    let mut state = sheet.start();
+    let inputs = Inputs::from([0, 5]);
+    for (time, after) in
+        [(u64::from(u32::MAX), Ok(())), (u64::MAX - 1, Ok(())), (u64::MAX, Err(36))]
+    {
+        let mut bytes = *state.save();
+        bytes[633..641].copy_from_slice(&time.to_le_bytes());
+        state = State::load(&bytes).unwrap();
+        let found = sheet.instant(&mut state, &inputs).map_err(|refusal| refusal.number());
+        assert_eq!(found, after, "time {time}");
+        assert_eq!(state.time(), if after.is_ok() { time + 1 } else { time });
     }
 }
 

@@ -183,6 +183,10 @@ static void sheets(void) {
 
 /* ---- 31: bytes that are no saved state, and a state that doesn't fit */
 
+static void bring_over(const uint8_t *old, size_t old_len) {
+    hold("bring_over", walbryts_bring_over(old, old_len, lent.state), 31, true);
+}
+
 static void no_state(size_t at, uint8_t byte, bool saved) {
     lend();
     lent.state[at] = byte;
@@ -190,6 +194,12 @@ static void no_state(size_t at, uint8_t byte, bool saved) {
     if (walbryts_is_state(lent.state, WALBRYTS_STATE) != saved) {
         failed++;
         printf("FAILED is_state, with byte %zu changed\n", at);
+    }
+    if (!saved) {
+        uint8_t old[WALBRYTS_STATE];
+        memcpy(old, lent.state, sizeof old);
+        bring_over(old, WALBRYTS_STATE);
+        bring_over(old, WALBRYTS_STATE - 1);
     }
     choose(good, WALBRYTS_COMMIT, 31);
     choose(good, 200, 31);
@@ -201,7 +211,8 @@ static void no_state(size_t at, uint8_t byte, bool saved) {
 }
 
 static void states(void) {
-    no_state(0, 2, false);
+    no_state(0, 1, false);
+    no_state(0, 3, false);
     no_state(WALBRYTS_VALUE_AT(79), 2, false);
     no_state(WALBRYTS_PENDING_AT(0), 255, false);
     no_state(WALBRYTS_DUE_AT(31), 2, false);
@@ -210,6 +221,29 @@ static void states(void) {
     if (walbryts_is_state(lent.state, WALBRYTS_STATE - 1) || walbryts_is_state(lent.text, WALBRYTS_STATE)) {
         failed++;
         printf("FAILED is_state on other bytes\n");
+    }
+    bring_over(lent.text, 0);
+    bring_over(lent.text, WALBRYTS_STATE_1);
+    bring_over(lent.text, WALBRYTS_STATE);
+}
+
+/* A state of form 1 is brought over, into lent bytes that were any. */
+static void brought_over(void) {
+    uint8_t old[WALBRYTS_STATE_1], expected[WALBRYTS_STATE];
+    lend();
+    memcpy(expected, lent.state, sizeof expected);
+    memcpy(old, lent.state, WALBRYTS_TIME_AT);
+    old[0] = 1;
+    memset(old + WALBRYTS_TIME_AT, 0xFF, 4);
+    memset(old + WALBRYTS_TIME_AT + 4, 7, 4);
+    memset(expected + WALBRYTS_TIME_AT, 0, 16);
+    memset(expected + WALBRYTS_TIME_AT, 0xFF, 4);
+    memset(expected + WALBRYTS_COUNT_AT, 7, 4);
+    memset(lent.state, 0xA5, sizeof lent.state);
+    if (!walbryts_is_state(old, sizeof old) || walbryts_bring_over(old, sizeof old, lent.state) != 0 ||
+        memcmp(lent.state, expected, sizeof expected) != 0) {
+        failed++;
+        printf("FAILED bring_over of a state in form 1\n");
     }
 }
 
@@ -226,7 +260,7 @@ static void drive(uint32_t clock) {
 }
 
 static void full(size_t at) {
-    memset(lent.state + at, 0xFF, 4);
+    memset(lent.state + at, 0xFF, 8);
     keep();
 }
 
@@ -362,6 +396,7 @@ static void accepted(void) {
 int main(void) {
     sheets();
     states();
+    brought_over();
     choices();
     tables();
     texts();

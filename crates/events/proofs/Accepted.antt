@@ -12,7 +12,7 @@ use Rattle.sheet.specs.Expression.{Expr, tree}
 use Rattle.sheet.specs.Module.{Module, Sheet, readSheet, read}
 use Rattle.sheet.proofs.Numbers.{numbered-no, tree-numbered, sheet-numbered}
 use Rattle.state.specs.declared.State.{State}
-use Rattle.state.specs.State.{Shaped}
+use Rattle.state.specs.State.{Shaped, full}
 use Rattle.soundness.proofs.Soundness.{sound}
 use Rattle.events.specs.declared.Inputs.{Inputs}
 use Rattle.events.specs.declared.Chosen.{Chosen}
@@ -23,7 +23,6 @@ use Rattle.events.specs.Calls.{stateFits, judged, chooseIn, choose, inpu
 use Rattle.events.specs.Calls.{runIn, runList, runBy, plainChoice, runPlain}
 use Rattle.events.specs.Steps.{Step, Instant, Alike}
 use Rattle.events.specs.Runs.{Refuses, a-sheet, a-state, Accepts, ListRun, PlainRun, refused-call, a-run, a-plain-run, Demand2}
-use Rattle.events.proofs.Choices.{full}
 use Rattle.events.proofs.Runs.{over-runIn, chain-runIn, plainly-runBy, length-choicesBy, ended-plain, says}
 use Rattle.events.proofs.Steps.{step-chooseIn, alike-chooseIn, instant-instantIn, alike-instantIn}
 
@@ -83,7 +82,7 @@ accepted-choice s st c shaped h =
     (m, t .accepts, rw (t .same) (step-chooseIn m (sound s (t .accepts .reads)) st shaped c z))
 
 allowed-choice : (s : List ℕ) (m : Module Expr) (old new : State) (c : ℕ) → Accepts s old m → Shaped old → Step m old new c →
-    old .count ≢ full → (choose s old c .number ≡ 0) × Alike m (choose s old c .state) new
+    old .counters .count ≢ full → (choose s old c .number ≡ 0) × Alike m (choose s old c .state) new
 unfolding choose
 allowed-choice s m old new c k shaped step room =
     rw (judged-fits s m old (λ n. chooseIn n old c) k) (alike-chooseIn m (sound s (k .reads)) old new shaped c step room)
@@ -100,7 +99,7 @@ accepted-instant s st a shaped h =
     (m, t .accepts, rw (t .same) (instant-instantIn m (sound s (t .accepts .reads)) st shaped a z))
 
 allowed-instant : (s : List ℕ) (m : Module Expr) (old new : State) (a : Inputs) → Accepts s old m → Shaped old →
-    inputsFit m a ≡ true → Instant m old new (inputOf a) → old .time ≢ full →
+    inputsFit m a ≡ true → Instant m old new (inputOf a) → old .counters .time ≢ full →
     (instant s old a .number ≡ 0) × Alike m (instant s old a .state) new
 unfolding instant
 allowed-instant s m old new a k shaped fit step room =

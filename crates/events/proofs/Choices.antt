@@ -16,12 +16,12 @@ use Rattle.sheet.specs.Expression.{Expr}
 use Rattle.sheet.specs.Module.{Module}
 use Rattle.evaluation.specs.Evaluation.{eval}
 use Rattle.pseudocode.specs.Translation.{Instr, wait!, set!, later!, go, ifnot}
+use Rattle.state.specs.declared.Counters.{Counters}
 use Rattle.state.specs.declared.State.{State}
-use Rattle.state.specs.State.{Shaped, withCounters, valueOf, withValue, pendingOf, withPending, withoutPending, placeOf, withPlace, isDue, withDue}
+use Rattle.state.specs.State.{Shaped, full, countersOf, withCounters, valueOf, withValue, pendingOf, withPending, withoutPending, placeOf, withPlace, isDue, withDue}
 use Rattle.state.proofs.Accessors.{shaped-withCounters, shaped-withPlace, shaped-withValue, shaped-withPending, shaped-withDue}
 use Rattle.state.proofs.Accessors.{value-withCounters, pending-withCounters, place-withCounters, due-withCounters}
-use Rattle.state.proofs.Accessors.{time-withPlace, time-withValue, time-withPending, time-withoutPending, time-withDue}
-use Rattle.state.proofs.Accessors.{count-withPlace, count-withValue, count-withPending, count-withoutPending, count-withDue}
+use Rattle.state.proofs.Accessors.{counters-withPlace, counters-withValue, counters-withPending, counters-withoutPending, counters-withDue}
 use Rattle.soundness.specs.Soundness.{Sound, SoundInstr, sound-go}
 use Rattle.events.specs.declared.Chosen.{Chosen}
 use Rattle.events.specs.declared.Inputs.{Inputs}
@@ -47,9 +47,6 @@ answer-number n old new = by (eqb n 0) refl
 pub answer-refused : (n : ℕ) (old new : State) → n ≢ 0 → answer n old new ≡ record { number = n; state = old }
 unfolding answer
 answer-refused n old new h = rw (ne-eqb n 0 h)
-
-abbrev pub full : ℕ
-full = 4294967295
 
 pub spend-full : spend full ≡ 36
 unfolding spend
@@ -153,7 +150,7 @@ module _ (m : Module Expr) (st : State) where
           let e : length (m .threads) + (c - length (m .threads)) ≡ c = omega arith in
           rw e at (wire-ready {k = c - length (m .threads)} (omega arith) (sym (enabled-wire m st _) ∙ (rw e h)))
 
-  pub refusal-ready : Sound m → {c : ℕ} → Ready c → refusal m st c ≡ spend (st .count)
+  pub refusal-ready : Sound m → {c : ℕ} → Ready c → refusal m st c ≡ spend (st .counters .count)
   unfolding refusal items
   refusal-ready w (thread-ready {i = i} l h) =
       rw (lt-ltb i (length (m .threads) + length (m .wires)) (omega arith), enabled-thread m st i l, h)
@@ -177,7 +174,7 @@ module _ (m : Module Expr) (st : State) where
   ready-refusal c h = item (ltb c (items m)) refl h
     where
       commits : (s : Bool) → anyEnabled m st ≡ s → (t : Bool) → anyPending m st ≡ t →
-          pick s 34 (pick t (spend (st .count)) 35) ≡ 0 → Ready 255
+          pick s 34 (pick t (spend (st .counters .count)) 35) ≡ 0 → Ready 255
       commits true e t p q = absurd (omega arith)
       commits false e true p q =
           let r = some-pending m st p in
@@ -185,24 +182,24 @@ module _ (m : Module Expr) (st : State) where
       commits false e false p q = absurd (omega arith)
 
       other : (t : Bool) → eqb c 255 ≡ t →
-          pick t (pick (anyEnabled m st) 34 (pick (anyPending m st) (spend (st .count)) 35)) 22 ≡ 0 → Ready c
+          pick t (pick (anyEnabled m st) 34 (pick (anyPending m st) (spend (st .counters .count)) 35)) 22 ≡ 0 → Ready c
       other true e q = rw (eqb-true c 255 e) (commits (anyEnabled m st) refl (anyPending m st) refl q)
       other false e q = absurd (omega arith)
 
-      run : c < items m → (t : Bool) → enabled m st c ≡ t → pick t (spend (st .count)) 33 ≡ 0 → Ready c
+      run : c < items m → (t : Bool) → enabled m st c ≡ t → pick t (spend (st .counters .count)) 33 ≡ 0 → Ready c
       run l true e q = ready-item c l e
       run l false e q = absurd (omega arith)
 
       item : (t : Bool) → ltb c (items m) ≡ t →
-          pick t (pick (enabled m st c) (spend (st .count)) 33)
-          (pick (eqb c 255) (pick (anyEnabled m st) 34 (pick (anyPending m st) (spend (st .count)) 35)) 22)
+          pick t (pick (enabled m st c) (spend (st .counters .count)) 33)
+          (pick (eqb c 255) (pick (anyEnabled m st) 34 (pick (anyPending m st) (spend (st .counters .count)) 35)) 22)
           ≡ 0 →
           Ready c
       item true e q = run (ltb-true c (items m) e) (enabled m st c) refl q
       item false e q = other (eqb c 255) refl q
 
-  pub room-refusal : Sound m → (c : ℕ) → refusal m st c ≡ 0 → st .count ≢ full
-  room-refusal w c h = zero-spend (st .count) (sym (refusal-ready w (ready-refusal c h)) ∙ h)
+  pub room-refusal : Sound m → (c : ℕ) → refusal m st c ≡ 0 → st .counters .count ≢ full
+  room-refusal w c h = zero-spend (st .counters .count) (sym (refusal-ready w (ready-refusal c h)) ∙ h)
 
 -- ---- the choice as a whole
 
@@ -236,43 +233,43 @@ module _ (st : State) where
 
   pub shaped-counted : Shaped st → Shaped (counted st)
   unfolding counted
-  shaped-counted s = shaped-withCounters st (st .time) (st .count + 1) s
+  shaped-counted s = shaped-withCounters st (countersOf (st .counters .time) (st .counters .count + 1)) s
 
   pub shaped-timed : Shaped st → Shaped (timed st)
   unfolding timed
-  shaped-timed s = shaped-withCounters st (st .time + 1) (st .count) s
+  shaped-timed s = shaped-withCounters st (countersOf (st .counters .time + 1) (st .counters .count)) s
 
   pub value-counted : (v : ℕ) → valueOf (counted st) v ≡ valueOf st v
   unfolding counted
-  value-counted v = value-withCounters st (st .time) (st .count + 1) v
+  value-counted v = value-withCounters st (countersOf (st .counters .time) (st .counters .count + 1)) v
 
   pub pending-counted : (r : ℕ) → pendingOf (counted st) r ≡ pendingOf st r
   unfolding counted
-  pending-counted r = pending-withCounters st (st .time) (st .count + 1) r
+  pending-counted r = pending-withCounters st (countersOf (st .counters .time) (st .counters .count + 1)) r
 
   pub place-counted : (i : ℕ) → placeOf (counted st) i ≡ placeOf st i
   unfolding counted
-  place-counted i = place-withCounters st (st .time) (st .count + 1) i
+  place-counted i = place-withCounters st (countersOf (st .counters .time) (st .counters .count + 1)) i
 
   pub due-counted : (k : ℕ) → isDue (counted st) k ≡ isDue st k
   unfolding counted
-  due-counted k = due-withCounters st (st .time) (st .count + 1) k
+  due-counted k = due-withCounters st (countersOf (st .counters .time) (st .counters .count + 1)) k
 
   pub value-timed : (v : ℕ) → valueOf (timed st) v ≡ valueOf st v
   unfolding timed
-  value-timed v = value-withCounters st (st .time + 1) (st .count) v
+  value-timed v = value-withCounters st (countersOf (st .counters .time + 1) (st .counters .count)) v
 
   pub pending-timed : (r : ℕ) → pendingOf (timed st) r ≡ pendingOf st r
   unfolding timed
-  pending-timed r = pending-withCounters st (st .time + 1) (st .count) r
+  pending-timed r = pending-withCounters st (countersOf (st .counters .time + 1) (st .counters .count)) r
 
   pub place-timed : (i : ℕ) → placeOf (timed st) i ≡ placeOf st i
   unfolding timed
-  place-timed i = place-withCounters st (st .time + 1) (st .count) i
+  place-timed i = place-withCounters st (countersOf (st .counters .time + 1) (st .counters .count)) i
 
   pub due-timed : (k : ℕ) → isDue (timed st) k ≡ isDue st k
   unfolding timed
-  due-timed k = due-withCounters st (st .time + 1) (st .count) k
+  due-timed k = due-withCounters st (countersOf (st .counters .time + 1) (st .counters .count)) k
 
 -- ---- what is performed, by the instruction at which a thread stands
 
@@ -389,15 +386,17 @@ module _ (m : Module Expr) {A : Type 0} (look : State → A)
       by false false = kept-commit (counted st)
 
 module _ (m : Module Expr) (st : State) where
-  pub time-performed : (c : ℕ) → performed m st c .time ≡ st .time
+  pub counters-performed : (c : ℕ) → performed m st c .counters ≡ countersOf (st .counters .time) (st .counters .count + 1)
   unfolding counted withCounters
-  time-performed c =
-      kept-performed m (λ u. u .time) time-withValue time-withPending time-withoutPending time-withPlace time-withDue st c
+  counters-performed c =
+      kept-performed m (λ u. u .counters) counters-withValue counters-withPending counters-withoutPending counters-withPlace
+      counters-withDue st c
 
-  pub count-performed : (c : ℕ) → performed m st c .count ≡ st .count + 1
-  unfolding counted withCounters
-  count-performed c =
-      kept-performed m (λ u. u .count) count-withValue count-withPending count-withoutPending count-withPlace count-withDue st c
+  pub time-performed : (c : ℕ) → performed m st c .counters .time ≡ st .counters .time
+  time-performed c = ap (λ (k : Counters). k .time) (counters-performed c)
+
+  pub count-performed : (c : ℕ) → performed m st c .counters .count ≡ st .counters .count + 1
+  count-performed c = ap (λ (k : Counters). k .count) (counters-performed c)
 
 -- ---- an instant: its number, and its counters
 
@@ -416,17 +415,17 @@ module _ (m : Module Expr) (st : State) (a : Inputs) where
   unfolding instantIn
   instantIn-refused h = answer-refused (instantRefusal m st a) st (feed m (inputOf a) (timed st)) h
 
-  pub refusal-quiet : inputsFit m a ≡ true → quiet m st ≡ true → instantRefusal m st a ≡ spend (st .time)
+  pub refusal-quiet : inputsFit m a ≡ true → quiet m st ≡ true → instantRefusal m st a ≡ spend (st .counters .time)
   unfolding instantRefusal
   refusal-quiet f q = rw (f, q)
 
-  pub accepted-instant : instantRefusal m st a ≡ 0 → (inputsFit m a ≡ true) × (quiet m st ≡ true) × (st .time ≢ full)
+  pub accepted-instant : instantRefusal m st a ≡ 0 → (inputsFit m a ≡ true) × (quiet m st ≡ true) × (st .counters .time ≢ full)
   unfolding instantRefusal
   accepted-instant h = by (inputsFit m a) refl (quiet m st) refl h
     where
-      by : (f : Bool) → inputsFit m a ≡ f → (q : Bool) → quiet m st ≡ q → pick f (pick q (spend (st .time)) 32) 25 ≡ 0 →
-          (inputsFit m a ≡ true) × (quiet m st ≡ true) × (st .time ≢ full)
-      by true e true p z = (e, p, zero-spend (st .time) z)
+      by : (f : Bool) → inputsFit m a ≡ f → (q : Bool) → quiet m st ≡ q → pick f (pick q (spend (st .counters .time)) 32) 25 ≡ 0 →
+          (inputsFit m a ≡ true) × (quiet m st ≡ true) × (st .counters .time ≢ full)
+      by true e true p z = (e, p, zero-spend (st .counters .time) z)
       by true e false p z = absurd (omega arith)
       by false e q p z = absurd (omega arith)
 
@@ -440,13 +439,15 @@ module _ (m : Module Expr) (st : State) (a : ℕ → Value) where
       kept-react m (valueOf (timed st)) look places marks (storeInputs a (m .scope .inputs) (timed st))
       ∙ kept-storeInputs a look values (m .scope .inputs) (timed st)
 
-  pub time-feed : feed m a (timed st) .time ≡ st .time + 1
+  pub counters-feed : feed m a (timed st) .counters ≡ countersOf (st .counters .time + 1) (st .counters .count)
   unfolding timed withCounters
-  time-feed = kept-feed (λ u. u .time) time-withValue time-withPlace (λ u k. time-withDue u k true)
+  counters-feed = kept-feed (λ u. u .counters) counters-withValue counters-withPlace (λ u k. counters-withDue u k true)
 
-  pub count-feed : feed m a (timed st) .count ≡ st .count
-  unfolding timed withCounters
-  count-feed = kept-feed (λ u. u .count) count-withValue count-withPlace (λ u k. count-withDue u k true)
+  pub time-feed : feed m a (timed st) .counters .time ≡ st .counters .time + 1
+  time-feed = ap (λ (k : Counters). k .time) counters-feed
+
+  pub count-feed : feed m a (timed st) .counters .count ≡ st .counters .count
+  count-feed = ap (λ (k : Counters). k .count) counters-feed
 
 -- ---- the lengths stay
 

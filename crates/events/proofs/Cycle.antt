@@ -25,10 +25,10 @@ use Rattle.pseudocode.specs.Translation.{Instr, go, translate, threadCode}
 use Rattle.state.specs.declared.State.{State}
 use Rattle.state.specs.State.{Shaped, valueOf, withValue, pendingOf, withoutPending, placeOf, withPlace, isDue, withDue}
 pub use Rattle.state.proofs.Rows.{allBelow-each as all-below, each-allBelow as below-all}
-use Rattle.state.proofs.Accessors.{value-withValue-same, value-withValue-other, pending-withValue, place-withValue, due-withValue, time-withValue, count-withValue, shaped-withValue}
-use Rattle.state.proofs.Accessors.{pending-withoutPending-same, pending-withoutPending-other, value-withoutPending, place-withoutPending, due-withoutPending, time-withoutPending, count-withoutPending, shaped-withoutPending}
-use Rattle.state.proofs.Accessors.{place-withPlace-same, place-withPlace-other, value-withPlace, pending-withPlace, due-withPlace, time-withPlace, count-withPlace, shaped-withPlace}
-use Rattle.state.proofs.Accessors.{due-withDue-same, due-withDue-other, value-withDue, pending-withDue, place-withDue, time-withDue, count-withDue, shaped-withDue}
+use Rattle.state.proofs.Accessors.{value-withValue-same, value-withValue-other, pending-withValue, place-withValue, due-withValue, counters-withValue, shaped-withValue}
+use Rattle.state.proofs.Accessors.{pending-withoutPending-same, pending-withoutPending-other, value-withoutPending, place-withoutPending, due-withoutPending, counters-withoutPending, shaped-withoutPending}
+use Rattle.state.proofs.Accessors.{place-withPlace-same, place-withPlace-other, value-withPlace, pending-withPlace, due-withPlace, counters-withPlace, shaped-withPlace}
+use Rattle.state.proofs.Accessors.{due-withDue-same, due-withDue-other, value-withDue, pending-withDue, place-withDue, counters-withDue, shaped-withDue}
 use Rattle.soundness.specs.Soundness.{Sound}
 use Rattle.events.specs.Cycle.{variables, codeOf, instrAt, current, wireExpr, anyBelow, allBelow, changed, termsFire, waitFires, fireBelow, touched, markBelow, react, storeOne, storePending, storeInputs}
 use Rattle.events.specs.Steps.{latest}
@@ -249,11 +249,8 @@ module _ (m : Module Expr) (f g : ℕ → Value) where
     pub due-fireBelow : (k : ℕ) → isDue (fireBelow m f g n st) k ≡ isDue st k
     due-fireBelow k = kept-fireBelow (λ u. isDue u k) (λ u i p. due-withPlace u i p k) n st
 
-    pub time-fireBelow : fireBelow m f g n st .time ≡ st .time
-    time-fireBelow = kept-fireBelow (λ u. u .time) (λ u i p. time-withPlace u i p) n st
-
-    pub count-fireBelow : fireBelow m f g n st .count ≡ st .count
-    count-fireBelow = kept-fireBelow (λ u. u .count) (λ u i p. count-withPlace u i p) n st
+    pub counters-fireBelow : fireBelow m f g n st .counters ≡ st .counters
+    counters-fireBelow = kept-fireBelow (λ u. u .counters) (λ u i p. counters-withPlace u i p) n st
 
   -- ---- fireBelow: places
 
@@ -327,11 +324,8 @@ module _ (m : Module Expr) (f g : ℕ → Value) where
     pub place-markBelow : (i : ℕ) → placeOf (markBelow m f g n st) i ≡ placeOf st i
     place-markBelow i = kept-markBelow (λ u. placeOf u i) (λ u k. place-withDue u k true i) n st
 
-    pub time-markBelow : markBelow m f g n st .time ≡ st .time
-    time-markBelow = kept-markBelow (λ u. u .time) (λ u k. time-withDue u k true) n st
-
-    pub count-markBelow : markBelow m f g n st .count ≡ st .count
-    count-markBelow = kept-markBelow (λ u. u .count) (λ u k. count-withDue u k true) n st
+    pub counters-markBelow : markBelow m f g n st .counters ≡ st .counters
+    counters-markBelow = kept-markBelow (λ u. u .counters) (λ u k. counters-withDue u k true) n st
 
   -- ---- markBelow: marks
 
@@ -393,11 +387,8 @@ module _ (m : Module Expr) (f : ℕ → Value) where
     pub pending-react : (r : ℕ) → pendingOf (react m f st) r ≡ pendingOf st r
     pending-react r = kept-react (λ u. pendingOf u r) (λ u i p. pending-withPlace u i p r) (λ u k. pending-withDue u k true r) st
 
-    pub time-react : react m f st .time ≡ st .time
-    time-react = kept-react (λ u. u .time) (λ u i p. time-withPlace u i p) (λ u k. time-withDue u k true) st
-
-    pub count-react : react m f st .count ≡ st .count
-    count-react = kept-react (λ u. u .count) (λ u i p. count-withPlace u i p) (λ u k. count-withDue u k true) st
+    pub counters-react : react m f st .counters ≡ st .counters
+    counters-react = kept-react (λ u. u .counters) (λ u i p. counters-withPlace u i p) (λ u k. counters-withDue u k true) st
 
     -- A thread at a wait that fires goes on, every other stays.
     pub place-react :
@@ -476,13 +467,9 @@ module _ (m : Module Expr) where
     due-storePending k =
         kept-storePending (λ u. isDue u k) (λ u v a. due-withValue u v a k) (λ u r. due-withoutPending u r k) n st
 
-    pub time-storePending : storePending m n st .time ≡ st .time
-    time-storePending =
-        kept-storePending (λ u. u .time) (λ u v a. time-withValue u v a) (λ u r. time-withoutPending u r) n st
-
-    pub count-storePending : storePending m n st .count ≡ st .count
-    count-storePending =
-        kept-storePending (λ u. u .count) (λ u v a. count-withValue u v a) (λ u r. count-withoutPending u r) n st
+    pub counters-storePending : storePending m n st .counters ≡ st .counters
+    counters-storePending =
+        kept-storePending (λ u. u .counters) (λ u v a. counters-withValue u v a) (λ u r. counters-withoutPending u r) n st
 
 -- ---- one register's store
 
@@ -599,11 +586,8 @@ module _ (a : ℕ → Value) where
     pub due-storeInputs : (k : ℕ) → isDue (storeInputs a n st) k ≡ isDue st k
     due-storeInputs k = kept-storeInputs (λ u. isDue u k) (λ u v b. due-withValue u v b k) n st
 
-    pub time-storeInputs : storeInputs a n st .time ≡ st .time
-    time-storeInputs = kept-storeInputs (λ u. u .time) (λ u v b. time-withValue u v b) n st
-
-    pub count-storeInputs : storeInputs a n st .count ≡ st .count
-    count-storeInputs = kept-storeInputs (λ u. u .count) (λ u v b. count-withValue u v b) n st
+    pub counters-storeInputs : storeInputs a n st .counters ≡ st .counters
+    counters-storeInputs = kept-storeInputs (λ u. u .counters) (λ u v b. counters-withValue u v b) n st
 
   pub value-storeInputs-above : (n : ℕ) (st : State) (v : ℕ) → n ≤ v → valueOf (storeInputs a n st) v ≡ valueOf st v
   unfolding storeInputs

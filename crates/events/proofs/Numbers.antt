@@ -10,6 +10,7 @@ use Rattle.values.specs.Values.{pick}
 use Rattle.sheet.specs.Expression.{Expr}
 use Rattle.sheet.specs.Module.{Module, read}
 use Rattle.state.specs.declared.State.{State}
+use Rattle.state.specs.State.{full}
 use Rattle.events.specs.declared.Inputs.{Inputs}
 use Rattle.events.specs.declared.Chosen.{Chosen}
 use Rattle.events.specs.Cycle.{items, enabled, anyEnabled, anyPending, quiet}
@@ -17,7 +18,7 @@ use Rattle.events.specs.Calls.{judged, spend, refusal, chooseIn, choose,
 use Rattle.events.specs.Runs.{Refuses, a-sheet, a-state, Accepts}
 use Rattle.events.specs.Numbers.{ChoiceNumber, no-item, not-enabled, item-full, item-taken, one-enabled, none-pending, commit-full, commit-taken}
 use Rattle.events.specs.Numbers.{InstantNumber, ill-fitting, not-quiet, time-full, instant-taken, Exactly}
-use Rattle.events.proofs.Choices.{full, number-chooseIn, number-instantIn}
+use Rattle.events.proofs.Choices.{number-chooseIn, number-instantIn}
 use Rattle.events.proofs.Accepted.{judged-fits}
 
 -- 36 where the counter is full, else 0.
@@ -36,29 +37,29 @@ module _ (m : Module Expr) (st : State) where
   unfolding refusal
   choice-number c = by (ltb c (items m)) refl
     where
-      item : c < items m → (t : Bool) → enabled m st c ≡ t → ChoiceNumber m st c (pick t (spend (st .count)) 33)
-      item l true e = spent (ChoiceNumber m st c) (st .count) (item-full l e) (item-taken l e)
+      item : c < items m → (t : Bool) → enabled m st c ≡ t → ChoiceNumber m st c (pick t (spend (st .counters .count)) 33)
+      item l true e = spent (ChoiceNumber m st c) (st .counters .count) (item-full l e) (item-taken l e)
       item l false e = not-enabled l e
 
       pending : items m ≤ c → c ≡ 255 → anyEnabled m st ≡ false → (t : Bool) → anyPending m st ≡ t →
-          ChoiceNumber m st c (pick t (spend (st .count)) 35)
-      pending l e n true p = spent (ChoiceNumber m st c) (st .count) (commit-full l e n p) (commit-taken l e n p)
+          ChoiceNumber m st c (pick t (spend (st .counters .count)) 35)
+      pending l e n true p = spent (ChoiceNumber m st c) (st .counters .count) (commit-full l e n p) (commit-taken l e n p)
       pending l e n false p = none-pending l e n p
 
       committing : items m ≤ c → c ≡ 255 → (t : Bool) → anyEnabled m st ≡ t →
-          ChoiceNumber m st c (pick t 34 (pick (anyPending m st) (spend (st .count)) 35))
+          ChoiceNumber m st c (pick t 34 (pick (anyPending m st) (spend (st .counters .count)) 35))
       committing l e true n = one-enabled l e n
       committing l e false n = pending l e n (anyPending m st) refl
 
       other : items m ≤ c → (t : Bool) → eqb c 255 ≡ t →
-          ChoiceNumber m st c (pick t (pick (anyEnabled m st) 34 (pick (anyPending m st) (spend (st .count)) 35)) 22)
+          ChoiceNumber m st c (pick t (pick (anyEnabled m st) 34 (pick (anyPending m st) (spend (st .counters .count)) 35)) 22)
       other l true e = committing l (eqb-true c 255 e) (anyEnabled m st) refl
       other l false e = no-item l (eqb-false c 255 e)
 
       by : (t : Bool) → ltb c (items m) ≡ t →
           ChoiceNumber m st c
-          (pick t (pick (enabled m st c) (spend (st .count)) 33)
-          (pick (eqb c 255) (pick (anyEnabled m st) 34 (pick (anyPending m st) (spend (st .count)) 35)) 22))
+          (pick t (pick (enabled m st c) (spend (st .counters .count)) 33)
+          (pick (eqb c 255) (pick (anyEnabled m st) 34 (pick (anyPending m st) (spend (st .counters .count)) 35)) 22))
       by true e = item (ltb-true c (items m) e) (enabled m st c) refl
       by false e = other (ltb-false c (items m) e) (eqb c 255) refl
 
@@ -66,11 +67,11 @@ module _ (m : Module Expr) (st : State) where
   unfolding instantRefusal
   instant-number a = by (inputsFit m a) refl
     where
-      resting : inputsFit m a ≡ true → (t : Bool) → quiet m st ≡ t → InstantNumber m st a (pick t (spend (st .time)) 32)
-      resting f true q = spent (InstantNumber m st a) (st .time) (time-full f q) (instant-taken f q)
+      resting : inputsFit m a ≡ true → (t : Bool) → quiet m st ≡ t → InstantNumber m st a (pick t (spend (st .counters .time)) 32)
+      resting f true q = spent (InstantNumber m st a) (st .counters .time) (time-full f q) (instant-taken f q)
       resting f false q = not-quiet f q
 
-      by : (t : Bool) → inputsFit m a ≡ t → InstantNumber m st a (pick t (pick (quiet m st) (spend (st .time)) 32) 25)
+      by : (t : Bool) → inputsFit m a ≡ t → InstantNumber m st a (pick t (pick (quiet m st) (spend (st .counters .time)) 32) 25)
       by true f = resting f (quiet m st) refl
       by false f = ill-fitting f
 

@@ -11,6 +11,7 @@ use Rattle.sheet.specs.Reading.{Res, ok, no}
 use Rattle.sheet.specs.Expression.{Expr}
 use Rattle.sheet.specs.Module.{Module, read}
 use Rattle.state.specs.declared.State.{State}
+use Rattle.state.specs.State.{full}
 use Rattle.soundness.proofs.Soundness.{sound}
 use Rattle.events.specs.declared.Inputs.{Inputs}
 use Rattle.events.specs.declared.Chosen.{Chosen}
@@ -80,7 +81,7 @@ data OfChoice : ℕ → Type 0 where
 
 of-spend : (n : ℕ) → OfChoice (spend n)
 unfolding spend
-of-spend n = by (eqb n 4294967295)
+of-spend n = by (eqb n full)
   where
     by : (t : Bool) → OfChoice (pick t 36 0)
     by true = of-36
@@ -93,9 +94,9 @@ of-pick false a b x y = y
 of-refusal : (m : Module Expr) (st : State) (c : ℕ) → OfChoice (refusal m st c)
 unfolding refusal
 of-refusal m st c =
-    of-pick (ltb c (items m)) _ _ (of-pick (enabled m st c) _ _ (of-spend (st .count)) of-33)
+    of-pick (ltb c (items m)) _ _ (of-pick (enabled m st c) _ _ (of-spend (st .counters .count)) of-33)
     (of-pick (eqb c 255) _ _
-    (of-pick (anyEnabled m st) _ _ of-34 (of-pick (anyPending m st) _ _ (of-spend (st .count)) of-35))
+    (of-pick (anyEnabled m st) _ _ of-34 (of-pick (anyPending m st) _ _ (of-spend (st .counters .count)) of-35))
     of-22)
 
 apart : {n : ℕ} → OfChoice n → RunRefused n → ⊥

@@ -24,7 +24,7 @@ use Rattle.values.specs.Values.{pick}
 use Rattle.sheet.specs.Expression.{Expr}
 use Rattle.sheet.specs.Module.{Module}
 use Rattle.state.specs.declared.State.{State}
-use Rattle.state.specs.State.{Shaped}
+use Rattle.state.specs.State.{Shaped, full}
 use Rattle.soundness.specs.Soundness.{Sound}
 use Rattle.events.specs.declared.Chosen.{Chosen}
 use Rattle.events.specs.declared.Ran.{Ran}
@@ -36,7 +36,7 @@ use Rattle.events.specs.Calls.{spend, refusal, chooseIn, onward, runIn, 
 pub use Rattle.events.specs.Runs.{Chain, done, after, Over, all-ran, refused, Ended, at-rest, spent, stopped}
 use Rattle.events.specs.Runs.{Plainest, the-lowest, the-commit, Plainly, rests, goes, Says}
 use Rattle.events.proofs.Cycle.{absurd-bool, or-left, or-right, none-below}
-use Rattle.events.proofs.Choices.{full, spend-full, spend-zero, none-enabled, some-pending, Ready, commit-ready, ready-item, refusal-ready, number-chooseIn, state-refused, shaped-chooseIn}
+use Rattle.events.proofs.Choices.{spend-full, spend-zero, none-enabled, some-pending, Ready, commit-ready, ready-item, refusal-ready, number-chooseIn, state-refused, shaped-chooseIn}
 use Rattle.events.proofs.Steps.{step-chooseIn}
 use Rattle.events.proofs.Fits.{Fits, fits-chooseIn}
 
@@ -268,36 +268,36 @@ module _ (m : Module Expr) (next : State → ℕ) where
 -- ---- the counters: one more for each accepted choice
 
 module _ (m : Module Expr) where
-  pub count-chain : {old new : State} {cs : List ℕ} → Chain m old cs new → new .count ≡ old .count + length cs
+  pub count-chain : {old new : State} {cs : List ℕ} → Chain m old cs new → new .counters .count ≡ old .counters .count + length cs
   count-chain done = omega arith
   count-chain (after s h) = let x = count-chain h in omega (arith, s .count)
 
-  pub time-chain : {old new : State} {cs : List ℕ} → Chain m old cs new → new .time ≡ old .time
+  pub time-chain : {old new : State} {cs : List ℕ} → Chain m old cs new → new .counters .time ≡ old .counters .time
   time-chain done = refl
   time-chain (after s h) = time-chain h ∙ s .time
 
   module _ (w : Sound m) (st : State) (s : Shaped st) where
-    pub count-runIn : (cs : List ℕ) → runIn m cs st .state .count ≡ st .count + runIn m cs st .accepted
+    pub count-runIn : (cs : List ℕ) → runIn m cs st .state .counters .count ≡ st .counters .count + runIn m cs st .accepted
     count-runIn cs = by (over-runIn m cs st)
       where
         n : ℕ
         n = runIn m cs st .accepted
 
-        within : n ≤ length cs → runIn m cs st .state .count ≡ st .count + n
+        within : n ≤ length cs → runIn m cs st .state .counters .count ≡ st .counters .count + n
         within l = rw (length-take-le n cs l) at (count-chain (chain-runIn m w cs st s))
 
-        by : Over m cs (runIn m cs st) → runIn m cs st .state .count ≡ st .count + n
+        by : Over m cs (runIn m cs st) → runIn m cs st .state .counters .count ≡ st .counters .count + n
         by (all-ran z a) = within (omega arith)
         by (refused l z e) = within (omega arith)
 
-    pub time-runIn : (cs : List ℕ) → runIn m cs st .state .time ≡ st .time
+    pub time-runIn : (cs : List ℕ) → runIn m cs st .state .counters .time ≡ st .counters .time
     time-runIn cs = time-chain (chain-runIn m w cs st s)
 
     pub count-runBy :
-        (next : State → ℕ) (n : ℕ) → runBy m next n st .state .count ≡ st .count + runBy m next n st .accepted
+        (next : State → ℕ) (n : ℕ) → runBy m next n st .state .counters .count ≡ st .counters .count + runBy m next n st .accepted
     count-runBy next n = rw (length-choicesBy m next n st) at (count-chain (chain-runBy m next w n st s))
 
-    pub time-runBy : (next : State → ℕ) (n : ℕ) → runBy m next n st .state .time ≡ st .time
+    pub time-runBy : (next : State → ℕ) (n : ℕ) → runBy m next n st .state .counters .time ≡ st .counters .time
     time-runBy next n = time-chain (chain-runBy m next w n st s)
 
 -- ---- the plain choice: "takes the lowest enabled item, else the commit"
@@ -350,7 +350,7 @@ module _ (m : Module Expr) (st : State) where
           let p = some-pending m st q in
           rw (plain-commit e) (commit-ready (none-enabled m st e) (p .0) (p .1) (p .2))
 
-  pub plain-refusal : Sound m → quiet m st ≡ false → chooseIn m st (plainChoice m st) .number ≡ spend (st .count)
+  pub plain-refusal : Sound m → quiet m st ≡ false → chooseIn m st (plainChoice m st) .number ≡ spend (st .counters .count)
   plain-refusal w h = number-chooseIn m st (plainChoice m st) ∙ refusal-ready m st w (plain-ready h)
 
 -- ---- the plain run's choices, each the plainest in its state
@@ -418,18 +418,18 @@ module _ (m : Module Expr) (w : Sound m) where
       rest : Rested
       rest = runBy m (plainChoice m) n (r .state)
 
-      room : quiet m st ≡ false → Dec (st .count ≡ full) → Ended m n rest → Ended m (suc n) (resting st r rest)
+      room : quiet m st ≡ false → Dec (st .counters .count ≡ full) → Ended m n rest → Ended m (suc n) (resting st r rest)
       room q (yes e) ih =
           let z : r .number ≡ 36 = plain-refusal m st w q ∙ ap spend e ∙ spend-full in
           rw (resting-refused st r rest (λ x. omega arith)) (stopped (ap Stopped z) q (omega arith) e)
       room q (no d) ih =
-          let z : r .number ≡ 0 = plain-refusal m st w q ∙ spend-zero (st .count) d in
+          let z : r .number ≡ 0 = plain-refusal m st w q ∙ spend-zero (st .counters .count) d in
           rw (resting-accepted st r rest z) (ended-suc n rest ih)
 
       by : (q : Bool) → quiet m st ≡ q → Ended m n rest →
           Ended m (suc n) (pick q (record { accepted = 0; verdict = Quiet; state = st }) (resting st r rest))
       by true q ih = at-rest refl q (omega arith)
-      by false q ih = room q (ℕ-discrete (st .count) full) ih
+      by false q ih = room q (ℕ-discrete (st .counters .count) full) ih
 
 -- ---- the verdicts, both ways
 

@@ -23,7 +23,7 @@ use Rattle.sheet.specs.Module.{Module}
 use Rattle.evaluation.specs.Evaluation.{eval, reads}
 use Rattle.pseudocode.specs.Translation.{Instr, wait!, set!, later!, go, ifnot}
 use Rattle.state.specs.declared.State.{State}
-use Rattle.state.specs.State.{Shaped, valueOf, withValue, pendingOf, withPending, placeOf, withPlace, isDue, withDue}
+use Rattle.state.specs.State.{Shaped, full, valueOf, withValue, pendingOf, withPending, placeOf, withPlace, isDue, withDue}
 use Rattle.state.proofs.Accessors.{value-withValue-same, value-withValue-other, pending-withValue, place-withValue, due-withValue, shaped-withValue}
 use Rattle.state.proofs.Accessors.{pending-withPending-same, pending-withPending-other, value-withPending, place-withPending, due-withPending, shaped-withPending}
 use Rattle.state.proofs.Accessors.{place-withPlace-same, place-withPlace-other, value-withPlace, pending-withPlace, due-withPlace}
@@ -36,7 +36,7 @@ use Rattle.events.specs.Steps.{latest, OtherValues, OtherPending, SamePe
 use Rattle.events.proofs.Cycle.{absurd-bool, Variable, a-register, no-register, register?, wireExpr-past, current-place, touched-true, touched-false, value-react, pending-react, place-react, due-react, shaped-react}
 use Rattle.events.proofs.Cycle.{place-storePending, due-storePending, shaped-storePending, value-storePending, value-storePending-other, pending-storePending, pending-storePending-above}
 use Rattle.events.proofs.Cycle.{pending-storeInputs, place-storeInputs, due-storeInputs, shaped-storeInputs, value-storeInputs, value-storeInputs-above}
-use Rattle.events.proofs.Choices.{full, spend-zero, spend-full, Ready, thread-ready, wire-ready, commit-ready, refusal-ready, ready-refusal, shaped-counted, shaped-timed}
+use Rattle.events.proofs.Choices.{spend-zero, spend-full, Ready, thread-ready, wire-ready, commit-ready, refusal-ready, ready-refusal, shaped-counted, shaped-timed}
 use Rattle.events.proofs.Choices.{value-counted, pending-counted, place-counted, due-counted, value-timed, pending-timed, place-timed, due-timed}
 use Rattle.events.proofs.Choices.{performed-set, performed-later, performed-go, performed-ifnot, performed-wire, performed-commit, feed-timed, time-performed, count-performed}
 use Rattle.events.proofs.Choices.{number-chooseIn, chooseIn-accepted, sound-current, number-instantIn, instantIn-accepted, refusal-quiet, accepted-instant, time-feed, count-feed}
@@ -493,7 +493,7 @@ module _ (m : Module Expr) (old a b : State) (values : (v : ℕ) → valueOf b v
 
 -- ---- two outcomes of one choice agree
 
-module _ (m : Module Expr) (old a b : State) (time : b .time ≡ a .time) (count : b .count ≡ a .count) where
+module _ (m : Module Expr) (old a b : State) (time : b .counters .time ≡ a .counters .time) (count : b .counters .count ≡ a .counters .count) where
   -- A variable t with the same value in both, the others as they were.
   values-agree :
       (t : ℕ) → valueOf b t ≡ valueOf a t → OtherValues m old a (λ v. v ≡ t) → OtherValues m old b (λ v. v ≡ t) →
@@ -630,12 +630,12 @@ ready-acts m old new (settles l h v o r s) = wire-ready l h
 ready-acts m old new (commits h q l p v o e r x) = commit-ready h q l p
 
 module _ (m : Module Expr) (w : Sound m) (old new : State) where
-  pub refusal-step : (c : ℕ) → Step m old new c → Allowed (refusal m old c) (old .count)
-  refusal-step c h = allowed-spend (refusal m old c) (old .count) (refusal-ready m old w (ready-acts m old new (h .acts)))
+  pub refusal-step : (c : ℕ) → Step m old new c → Allowed (refusal m old c) (old .counters .count)
+  refusal-step c h = allowed-spend (refusal m old c) (old .counters .count) (refusal-ready m old w (ready-acts m old new (h .acts)))
 
   module _ (s : Shaped old) where
     alike-acts :
-        {c : ℕ} → new .time ≡ performed m old c .time → new .count ≡ performed m old c .count → Acts m old new c →
+        {c : ℕ} → new .counters .time ≡ performed m old c .counters .time → new .counters .count ≡ performed m old c .counters .count → Acts m old new c →
         Alike m (performed m old c) new
     alike-acts t n (assigns {i = i} {t = x} {e = e} l h v o p r q) =
         assigned-agree m old (performed m old i) new t n i x e (assigned-performed m w old s i l x e h)
@@ -664,17 +664,17 @@ module _ (m : Module Expr) (w : Sound m) (old new : State) where
         alike-acts (h .time ∙ sym (time-performed m old c)) (h .count ∙ sym (count-performed m old c)) (h .acts)
 
     pub alike-chooseIn :
-        (c : ℕ) → Step m old new c → old .count ≢ full →
+        (c : ℕ) → Step m old new c → old .counters .count ≢ full →
         (chooseIn m old c .number ≡ 0) × Alike m (chooseIn m old c .state) new
     alike-chooseIn c h d =
-        let z : refusal m old c ≡ 0 = refusal-ready m old w (ready-acts m old new (h .acts)) ∙ spend-zero (old .count) d in
+        let z : refusal m old c ≡ 0 = refusal-ready m old w (ready-acts m old new (h .acts)) ∙ spend-zero (old .counters .count) d in
         (number-chooseIn m old c ∙ z, rw (chooseIn-accepted m old c z) (alike-performed c h))
 
   -- ---- (d): an instant is the one that its inputs make
 
   pub refusal-instant :
-      (a : Inputs) → inputsFit m a ≡ true → Instant m old new (inputOf a) → Allowed (instantRefusal m old a) (old .time)
-  refusal-instant a f h = allowed-spend (instantRefusal m old a) (old .time) (refusal-quiet m old a f (h .rest))
+      (a : Inputs) → inputsFit m a ≡ true → Instant m old new (inputOf a) → Allowed (instantRefusal m old a) (old .counters .time)
+  refusal-instant a f h = allowed-spend (instantRefusal m old a) (old .counters .time) (refusal-quiet m old a f (h .rest))
 
   pub alike-feed : Shaped old → (a : ℕ → Value) → Instant m old new a → Alike m (feed m a (timed old)) new
   alike-feed s a h =
@@ -682,8 +682,8 @@ module _ (m : Module Expr) (w : Sound m) (old new : State) where
       (instant-feed m w old s a (h .rest)) h
 
   pub alike-instantIn :
-      Shaped old → (a : Inputs) → inputsFit m a ≡ true → Instant m old new (inputOf a) → old .time ≢ full →
+      Shaped old → (a : Inputs) → inputsFit m a ≡ true → Instant m old new (inputOf a) → old .counters .time ≢ full →
       (instantIn m old a .number ≡ 0) × Alike m (instantIn m old a .state) new
   alike-instantIn s a f h d =
-      let z : instantRefusal m old a ≡ 0 = refusal-quiet m old a f (h .rest) ∙ spend-zero (old .time) d in
+      let z : instantRefusal m old a ≡ 0 = refusal-quiet m old a f (h .rest) ∙ spend-zero (old .counters .time) d in
       (number-instantIn m old a ∙ z, rw (instantIn-accepted m old a z) (alike-feed s (inputOf a) h))

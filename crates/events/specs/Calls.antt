@@ -12,7 +12,7 @@ use Rattle.sheet.specs.Reading.{Res, ok, no}
 use Rattle.sheet.specs.Expression.{Expr}
 use Rattle.sheet.specs.Module.{Module, read}
 use Rattle.state.specs.declared.State.{State}
-use Rattle.state.specs.State.{withCounters, valueOf, pendingOf, placeOf, isDue}
+use Rattle.state.specs.State.{full, countersOf, withCounters, valueOf, pendingOf, placeOf, isDue}
 use Rattle.events.specs.declared.Inputs.{Inputs}
 use Rattle.events.specs.declared.Chosen.{Chosen}
 use Rattle.events.specs.declared.Ran.{Ran}
@@ -38,8 +38,7 @@ started wires =
       held = replicate 32 false;
       places = replicate 8 0;
       due = dueBelow wires;
-      time = 0;
-      count = 0;
+      counters = countersOf 0 0;
     }
 
 -- A refused start hands back the state of no wires: all values x, everything else 0.
@@ -85,17 +84,17 @@ judged (no n p) st refused accepted = refused n
 unfoldable pub answer : ℕ → State → State → Chosen
 answer n old new = pick (eqb n 0) (record { number = 0; state = new }) (record { number = n; state = old })
 
--- ---- counting: "Time and the count of accepted choices are 32 bits each."
+-- ---- counting: "Time and the count of accepted choices become 64 bits wide."
 
--- 36: "time (for an instant) or count (for a choice) at 4,294,967,295"
+-- 36: "time (for an instant) or count (for a choice)" at 18,446,744,073,709,551,615
 unfoldable pub spend : ℕ → ℕ
-spend n = pick (eqb n 4294967295) 36 0
+spend n = pick (eqb n full) 36 0
 
 unfoldable pub counted : State → State
-counted st = withCounters st (st .time) (st .count + 1)
+counted st = withCounters st (countersOf (st .counters .time) (st .counters .count + 1))
 
 unfoldable pub timed : State → State
-timed st = withCounters st (st .time + 1) (st .count)
+timed st = withCounters st (countersOf (st .counters .time + 1) (st .counters .count))
 
 -- ---- a choice: ".. 22, 33 to 35, 36"
 
@@ -103,8 +102,8 @@ timed st = withCounters st (st .time + 1) (st .count)
 -- commit while one is. 35 commit with none pending."
 unfoldable pub refusal : Module Expr → State → ℕ → ℕ
 refusal m st c =
-    pick (ltb c (items m)) (pick (enabled m st c) (spend (st .count)) 33)
-    (pick (eqb c 255) (pick (anyEnabled m st) 34 (pick (anyPending m st) (spend (st .count)) 35))
+    pick (ltb c (items m)) (pick (enabled m st c) (spend (st .counters .count)) 33)
+    (pick (eqb c 255) (pick (anyEnabled m st) 34 (pick (anyPending m st) (spend (st .counters .count)) 35))
     22)
 
 -- The state that an accepted choice leaves.
@@ -191,7 +190,7 @@ inputsFit m a =
 
 -- The number of an instant, 0 where it is accepted. "An instant needs quiet": 32.
 unfoldable pub instantRefusal : Module Expr → State → Inputs → ℕ
-instantRefusal m st a = pick (inputsFit m a) (pick (quiet m st) (spend (st .time)) 32) 25
+instantRefusal m st a = pick (inputsFit m a) (pick (quiet m st) (spend (st .counters .time)) 32) 25
 
 -- "An instant needs quiet, sets all inputs (x allowed) as one change, adds 1 to time."
 unfoldable pub instantIn : Module Expr → State → Inputs → Chosen

@@ -9,6 +9,7 @@ use mathlib.Core.List.{List}
 use Rattle.sheet.specs.Expression.{Expr}
 use Rattle.sheet.specs.Module.{Module}
 use Rattle.state.specs.declared.State.{State}
+use Rattle.state.specs.State.{full}
 use Rattle.events.specs.declared.Inputs.{Inputs}
 use Rattle.events.specs.Cycle.{items, enabled, anyEnabled, anyPending, quiet}
 use Rattle.events.specs.Calls.{choose, inputsFit, instant}
@@ -20,14 +21,14 @@ module _ (m : Module Expr) (st : State) where
     no-item : items m ≤ c → c ≢ 255 → ChoiceNumber c 22
     -- "33 item not enabled", then 36
     not-enabled : c < items m → enabled m st c ≡ false → ChoiceNumber c 33
-    item-full : c < items m → enabled m st c ≡ true → st .count ≡ 4294967295 → ChoiceNumber c 36
-    item-taken : c < items m → enabled m st c ≡ true → st .count ≢ 4294967295 → ChoiceNumber c 0
+    item-full : c < items m → enabled m st c ≡ true → st .counters .count ≡ full → ChoiceNumber c 36
+    item-taken : c < items m → enabled m st c ≡ true → st .counters .count ≢ full → ChoiceNumber c 0
     -- "34 commit while one is. 35 commit with none pending", then 36
     one-enabled : items m ≤ c → c ≡ 255 → anyEnabled m st ≡ true → ChoiceNumber c 34
     none-pending : items m ≤ c → c ≡ 255 → anyEnabled m st ≡ false → anyPending m st ≡ false → ChoiceNumber c 35
-    commit-full : items m ≤ c → c ≡ 255 → anyEnabled m st ≡ false → anyPending m st ≡ true → st .count ≡ 4294967295 →
+    commit-full : items m ≤ c → c ≡ 255 → anyEnabled m st ≡ false → anyPending m st ≡ true → st .counters .count ≡ full →
         ChoiceNumber c 36
-    commit-taken : items m ≤ c → c ≡ 255 → anyEnabled m st ≡ false → anyPending m st ≡ true → st .count ≢ 4294967295 →
+    commit-taken : items m ≤ c → c ≡ 255 → anyEnabled m st ≡ false → anyPending m st ≡ true → st .counters .count ≢ full →
         ChoiceNumber c 0
 
   pub data InstantNumber (a : Inputs) : ℕ → Type 0 where
@@ -35,8 +36,8 @@ module _ (m : Module Expr) (st : State) where
     ill-fitting : inputsFit m a ≡ false → InstantNumber a 25
     -- "32 instant when not quiet"
     not-quiet : inputsFit m a ≡ true → quiet m st ≡ false → InstantNumber a 32
-    time-full : inputsFit m a ≡ true → quiet m st ≡ true → st .time ≡ 4294967295 → InstantNumber a 36
-    instant-taken : inputsFit m a ≡ true → quiet m st ≡ true → st .time ≢ 4294967295 → InstantNumber a 0
+    time-full : inputsFit m a ≡ true → quiet m st ≡ true → st .counters .time ≡ full → InstantNumber a 36
+    instant-taken : inputsFit m a ≡ true → quiet m st ≡ true → st .counters .time ≢ full → InstantNumber a 0
 
 pub record Exactly : Type 0 where
   pub refused-choice : (s : List ℕ) (st : State) (c n : ℕ) → Refuses s st n → choose s st c .number ≡ n

@@ -11,7 +11,7 @@ use Rattle.sheet.specs.Reading.{ok, no}
 use Rattle.sheet.specs.Expression.{Expr}
 use Rattle.sheet.specs.Module.{Module, read}
 use Rattle.state.specs.declared.State.{State}
-use Rattle.state.specs.State.{Shaped}
+use Rattle.state.specs.State.{Shaped, full}
 use Rattle.events.specs.declared.Inputs.{Inputs}
 use Rattle.events.specs.declared.Chosen.{Chosen}
 use Rattle.events.specs.declared.Ran.{Ran}
@@ -61,7 +61,7 @@ pub data Over (m : Module Expr) (cs : List ℕ) (r : Ran) : Type 0 where
 pub data Ended (m : Module Expr) (n : ℕ) (r : Rested) : Type 0 where
   at-rest : r .verdict ≡ Quiet → quiet m (r .state) ≡ true → r .accepted ≤ n → Ended m n r
   spent : r .verdict ≡ Spent → quiet m (r .state) ≡ false → r .accepted ≡ n → Ended m n r
-  stopped : r .verdict ≡ Stopped 36 → quiet m (r .state) ≡ false → r .accepted < n → r .state .count ≡ 4294967295 → Ended m n r
+  stopped : r .verdict ≡ Stopped 36 → quiet m (r .state) ≡ false → r .accepted < n → r .state .counters .count ≡ full → Ended m n r
 
 -- The same, both ways: "It says quiet exactly when the state reached is quiet, spent exactly when N choices ran and it isn't, and
 -- otherwise gives 36, met before the Nth."
@@ -90,12 +90,12 @@ pub record Demand2 : Type 0 where
   pub accepted-choice : (s : List ℕ) (st : State) (c : ℕ) → Shaped st → choose s st c .number ≡ 0 →
       (m : Module Expr) × Accepts s st m × Step m st (choose s st c .state) c
   pub allowed-choice : (s : List ℕ) (m : Module Expr) (old new : State) (c : ℕ) → Accepts s old m → Shaped old → Step m old new c →
-      old .count ≢ 4294967295 → (choose s old c .number ≡ 0) × Alike m (choose s old c .state) new
+      old .counters .count ≢ full → (choose s old c .number ≡ 0) × Alike m (choose s old c .state) new
   pub accepted-instant : (s : List ℕ) (st : State) (a : Inputs) → Shaped st → instant s st a .number ≡ 0 →
       (m : Module Expr) × Accepts s st m × Instant m st (instant s st a .state) (inputOf a)
   -- The inputs have to be as many and as wide as the sheet's (25).
   pub allowed-instant : (s : List ℕ) (m : Module Expr) (old new : State) (a : Inputs) → Accepts s old m → Shaped old →
-      inputsFit m a ≡ true → Instant m old new (inputOf a) → old .time ≢ 4294967295 →
+      inputsFit m a ≡ true → Instant m old new (inputOf a) → old .counters .time ≢ full →
       (instant s old a .number ≡ 0) × Alike m (instant s old a .state) new
   pub list-run : (s : List ℕ) (st : State) (cs : List ℕ) → Shaped st → ListRun s st cs (runList s st cs)
   pub plain-run : (s : List ℕ) (st : State) (n : ℕ) → Shaped st → PlainRun s st n (runPlain s st n)

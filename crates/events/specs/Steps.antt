@@ -103,8 +103,8 @@ module _ (m : Module Expr) (old new : State) where
   -- A choice's step: what it does, and one more in the count of accepted choices.
   pub record Step (c : ℕ) : Type 0 where
     pub acts : Acts c
-    pub time : new .time ≡ old .time
-    pub count : new .count ≡ old .count + 1
+    pub time : new .counters .time ≡ old .counters .time
+    pub count : new .counters .count ≡ old .counters .count + 1
 
   -- "An instant needs quiet, sets all inputs (x allowed) as one change, adds 1 to time."
   pub record Instant (a : ℕ → Value) : Type 0 where
@@ -113,8 +113,8 @@ module _ (m : Module Expr) (old new : State) where
     pub others : OtherValues m old new (λ v. v < m .scope .inputs)
     pub reacted : Reacted m old new none-left-out (isDue old)
     pub pending : SamePending m old new
-    pub time : new .time ≡ old .time + 1
-    pub count : new .count ≡ old .count
+    pub time : new .counters .time ≡ old .counters .time + 1
+    pub count : new .counters .count ≡ old .counters .count
 
   -- Two states that no accessor tells apart.
   pub record Alike : Type 0 where
@@ -122,5 +122,5 @@ module _ (m : Module Expr) (old new : State) where
     pub pending : SamePending m old new
     pub places : (i : ℕ) → placeOf new i ≡ placeOf old i
     pub marks : (k : ℕ) → isDue new k ≡ isDue old k
-    pub time : new .time ≡ old .time
-    pub count : new .count ≡ old .count
+    pub time : new .counters .time ≡ old .counters .time
+    pub count : new .counters .count ≡ old .counters .count

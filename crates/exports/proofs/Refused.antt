@@ -34,9 +34,9 @@ use Rattle.cycles.specs.Many.{ended, atOnce, cyclesOf, cyclesIn, cyclesOr, cycl
 use Rattle.verilog_source.proofs.Compiled as Text
 use Rattle.verilog_labels.proofs.Claims as Labels
 use Rattle.exports.specs.Clocked.{Arrays, afterCycle, afterCycles}
-use Rattle.exports.specs.Saved.{startedIn, numberOn, bytesOn, toldOn, ran, rested, verdictOn, cycledAs}
+use Rattle.exports.specs.Saved.{bringing, broughtInto, startedIn, numberOn, bytesOn, toldOn, ran, rested, verdictOn, cycledAs}
 use Rattle.exports.specs.Refused.{TextKeeps, NamesKeep}
-use Rattle.exports.specs.Refused.{ListKeeps, StartKeeps, Keeps, ChooseKeeps, InstantKeeps, ExtractKeeps, CycleKeeps, CyclesKeep, DispatchKeeps}
+use Rattle.exports.specs.Refused.{ListKeeps, BringKeeps, StartKeeps, Keeps, ChooseKeeps, InstantKeeps, ExtractKeeps, CycleKeeps, CyclesKeep, DispatchKeeps}
 use Rattle.exports.specs.Refused.{runRefused, RunKeeps, PlainRunKeeps, cyclesRefused, RunCyclesKeeps, refusedIn, manyRefused}
 
 -- ---- Verilog text
@@ -57,6 +57,16 @@ list-keeps s text h = by (read s) h
     by (ok m) o = absurd (o refl)
     by (no n p) o = refl
 
+-- ---- a saved state brought over
+
+pub bring-keeps : BringKeeps
+unfolding bringing broughtInto
+bring-keeps old b h = by (loaded old) h
+  where
+    by : (o : Option State) → bringing o ≢ 0 → broughtInto b o ≡ b
+    by none w = refl
+    by (some st) w = absurd (w refl)
+
 -- ---- start, choice, instant
 
 pub start-keeps : StartKeeps
@@ -66,11 +76,11 @@ start-keeps s b h = rw (ne-eqb (start s .number) 0 h)
 module _ (call : List ℕ → State → Chosen) (same : (s : List ℕ) (st : State) → call s st .number ≢ 0 → call s st .state ≡ st) where
   keeps : Keeps call
   unfolding numberOn bytesOn
-  keeps s b bytes h = by (loaded b) refl h
+  keeps s b bytes size h = by (loaded b) refl h
     where
       by : (o : Option State) → loaded b ≡ o → numberOn s o (call s) ≢ 0 → bytesOn b o (call s) ≡ b
       by none e w = refl
-      by (some st) e w = ap saved (same s st w) ∙ saved-loaded b st e bytes
+      by (some st) e w = ap saved (same s st w) ∙ saved-loaded b st bytes size e
 
 pub choose-keeps : ChooseKeeps
 choose-keeps c = keeps (λ s st. choose s st c) (λ s st. unaltered .refused-choice s st c)
@@ -103,7 +113,7 @@ idlePlain st n = record { accepted = 0; verdict = Refused n; state = st }
 
 pub run-keeps : RunKeeps
 unfolding runRefused numberOn toldOn bytesOn ran runList
-run-keeps s b cs bytes h = by (loaded b) refl h
+run-keeps s b cs bytes size h = by (loaded b) refl h
   where
     by : (o : Option State) → loaded b ≡ o → runRefused s o ≢ 0 →
         (numberOn s o (λ st. ran (runList s st cs)) ≡ runRefused s o)
@@ -114,12 +124,12 @@ run-keeps s b cs bytes h = by (loaded b) refl h
         let q = judged-refused st (idle st) (λ m. 0) (λ m. runIn m cs st) (λ m o. absurd (o refl)) (read s) w in (
           ap (λ (x : Ran). x .number) q,
           ap (λ (x : Ran). x .accepted) q,
-          ap (λ (x : Ran). saved (x .state)) q ∙ saved-loaded b st e bytes,
+          ap (λ (x : Ran). saved (x .state)) q ∙ saved-loaded b st bytes size e,
         )
 
 pub plain-run-keeps : PlainRunKeeps
 unfolding runRefused verdictOn toldOn bytesOn rested runPlain
-plain-run-keeps s b limit bytes h = by (loaded b) refl h
+plain-run-keeps s b limit bytes size h = by (loaded b) refl h
   where
     by : (o : Option State) → loaded b ≡ o → runRefused s o ≢ 0 →
         (verdictOn s o (λ st. runPlain s st limit) ≡ Refused (runRefused s o))
@@ -131,7 +141,7 @@ plain-run-keeps s b limit bytes h = by (loaded b) refl h
         let q = judged-refused st (idlePlain st) (λ m. 0) f (λ m o. absurd (o refl)) (read s) w in (
           ap (λ (x : Rested). x .verdict) q,
           ap (λ (x : Rested). x .accepted) q,
-          ap (λ (x : Rested). saved (x .state)) q ∙ saved-loaded b st e bytes,
+          ap (λ (x : Rested). saved (x .state)) q ∙ saved-loaded b st bytes size e,
         )
 
 -- 25, where rows aren't whole.
@@ -140,7 +150,7 @@ rowsNumber whole = pick whole 0 25
 
 pub run-cycles-keeps : RunCyclesKeeps
 unfolding cyclesRefused numberOn toldOn bytesOn cycledAs runCycles
-run-cycles-keeps s b ns xs bytes h = by (loaded b) refl h
+run-cycles-keeps s b ns xs bytes size h = by (loaded b) refl h
   where
     rows : (st : State) (c : Cycled) (t : Bool) → rowsNumber t ≢ 0 →
         pick t c (cycled 0 25 false st) ≡ cycled 0 (rowsNumber t) false st
@@ -159,7 +169,7 @@ run-cycles-keeps s b ns xs bytes h = by (loaded b) refl h
           ap (λ (x : Cycled). x .number) q,
           ap (λ (x : Cycled). x .phases) q,
           ap (λ (x : Cycled). x .running) q,
-          ap (λ (x : Cycled). saved (x .state)) q ∙ saved-loaded b st e bytes,
+          ap (λ (x : Cycled). saved (x .state)) q ∙ saved-loaded b st bytes size e,
         )
 
 -- ---- extraction

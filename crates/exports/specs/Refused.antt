@@ -6,6 +6,7 @@ use mathlib.Core.Bool.{Bool, false}
 use mathlib.Core.List.{List}
 use mathlib.Core.Option.{Option, none, some}
 use Prim.Native.Nat.{ℕ}
+use lib.ListN.{length}
 use Rattle.values.specs.Values.{pick}
 use Rattle.dispatch.specs.Claims.{PlanesKept}
 use Rattle.sheet.specs.Reading.{Res, ok, no}
@@ -27,7 +28,7 @@ use Rattle.cycles.specs.Many.{cyclesRun}
 use Rattle.verilog_source.specs.Claims as Text
 use Rattle.verilog_labels.specs.Claims as Labels
 use Rattle.exports.specs.Clocked.{Arrays, afterCycle, afterCycles}
-use Rattle.exports.specs.Saved.{startedIn, unfit, numberOn, bytesOn, toldOn, ran, rested, verdictOn, cycledAs}
+use Rattle.exports.specs.Saved.{bringing, broughtInto, startedIn, unfit, numberOn, bytesOn, toldOn, ran, rested, verdictOn, cycledAs}
 
 -- ---- Verilog text: the bytes for its sheet, the tables for its names
 
@@ -42,15 +43,20 @@ NamesKeep = Labels.LeftAlone
 abbrev pub ListKeeps : Type 0
 ListKeeps = (s text : List ℕ) → listed (read s) .number ≢ 0 → laidIn text (read s) ≡ text
 
+-- ---- a saved state brought over
+
+abbrev pub BringKeeps : Type 0
+BringKeeps = (old b : List ℕ) → bringing (loaded old) ≢ 0 → broughtInto b (loaded old) ≡ b
+
 -- ---- start, choice, instant: the saved state
 
 abbrev pub StartKeeps : Type 0
 StartKeeps = (s b : List ℕ) → start s .number ≢ 0 → startedIn b (start s) ≡ b
 
--- A call on a sheet and a saved state: what C and Rust lend are bytes.
+-- A call on a sheet and a saved state: what C and Rust lend are 649 bytes.
 abbrev pub Keeps : (List ℕ → State → Chosen) → Type 0
 Keeps call =
-    (s b : List ℕ) → Bytes b → numberOn s (loaded b) (call s) ≢ 0 → bytesOn b (loaded b) (call s) ≡ b
+    (s b : List ℕ) → Bytes b → length b ≡ 649 → numberOn s (loaded b) (call s) ≢ 0 → bytesOn b (loaded b) (call s) ≡ b
 
 abbrev pub ChooseKeeps : Type 0
 ChooseKeeps = (c : ℕ) → Keeps (λ s st. choose s st c)
@@ -68,14 +74,14 @@ runRefused s (some st) = judged (read s) st (λ n. n) (λ m. 0)
 -- It is the run's number then, nothing was accepted, and the state stays.
 abbrev pub RunKeeps : Type 0
 RunKeeps =
-    (s b cs : List ℕ) → Bytes b → runRefused s (loaded b) ≢ 0 →
+    (s b cs : List ℕ) → Bytes b → length b ≡ 649 → runRefused s (loaded b) ≢ 0 →
     (numberOn s (loaded b) (λ st. ran (runList s st cs)) ≡ runRefused s (loaded b))
     × (toldOn 0 (loaded b) (λ st. runList s st cs .accepted) ≡ 0)
     × (bytesOn b (loaded b) (λ st. ran (runList s st cs)) ≡ b)
 
 abbrev pub PlainRunKeeps : Type 0
 PlainRunKeeps =
-    (s b : List ℕ) (limit : ℕ) → Bytes b → runRefused s (loaded b) ≢ 0 →
+    (s b : List ℕ) (limit : ℕ) → Bytes b → length b ≡ 649 → runRefused s (loaded b) ≢ 0 →
     (verdictOn s (loaded b) (λ st. runPlain s st limit) ≡ Refused (runRefused s (loaded b)))
     × (toldOn 0 (loaded b) (λ st. runPlain s st limit .accepted) ≡ 0)
     × (bytesOn b (loaded b) (λ st. rested (runPlain s st limit)) ≡ b)
@@ -87,7 +93,7 @@ cyclesRefused s (some st) ns xs = judged (read s) st (λ n. n) (λ m. pick (whol
 
 abbrev pub RunCyclesKeeps : Type 0
 RunCyclesKeeps =
-    (s b ns : List ℕ) (xs : List Bool) → Bytes b → cyclesRefused s (loaded b) ns xs ≢ 0 →
+    (s b ns : List ℕ) (xs : List Bool) → Bytes b → length b ≡ 649 → cyclesRefused s (loaded b) ns xs ≢ 0 →
     (numberOn s (loaded b) (λ st. cycledAs (runCycles s st ns xs)) ≡ cyclesRefused s (loaded b) ns xs)
     × (toldOn 0 (loaded b) (λ st. runCycles s st ns xs .phases) ≡ 0)
     × (toldOn false (loaded b) (λ st. runCycles s st ns xs .running) ≡ false)

@@ -18,6 +18,16 @@ use Rattle.events.specs.declared.Rested.{Rested}
 use Rattle.events.specs.Verdict.{numberOfVerdict}
 use Rattle.batch.specs.declared.Cycled.{Cycled}
 
+-- ---- a saved state brought over: 31 for bytes that are none, and the lent bytes stay
+
+unfoldable pub bringing : Option State → ℕ
+bringing none = 31
+bringing (some st) = 0
+
+unfoldable pub broughtInto : List ℕ → Option State → List ℕ
+broughtInto b none = b
+broughtInto b (some st) = saved st
+
 -- ---- the start: a refused one leaves the bytes, which may be any
 
 unfoldable pub startedIn : List ℕ → Chosen → List ℕ

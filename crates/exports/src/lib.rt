@@ -19,7 +19,7 @@ ghost use Rattle.nextstate.specs.CycleRun.{cycleRun};
 ghost use Rattle.cycles.specs.Many.{cyclesRun};
 ghost use Rattle.exports.specs.Exports.{numberOf, placeOf};
 ghost use Rattle.exports.specs.Clocked.{registersIn, inputsIn, arrays, afterCycle, afterCycles};
-ghost use Rattle.exports.specs.Saved.{startedIn, unfit, numberOn, bytesOn, toldOn, ran, rested, verdictOn, cycledAs};
+ghost use Rattle.exports.specs.Saved.{bringing, broughtInto, startedIn, unfit, numberOn, bytesOn, toldOn, ran, rested, verdictOn, cycledAs};
 
 // The number of the sheet's refusal, 0 where it is read; `place` takes the byte at which it was met, 0 where it is read.
 #[no_mangle]
@@ -46,7 +46,7 @@ pub extern "C" fn walbryts_list(sheet: &[u8], text: &mut [u8; 65536], length: &m
 
 // ---- the simulator, on a saved state. Each call gives its number; bytes that are no saved state are refused with 31.
 
-// Are the bytes a saved state?
+// Are the bytes a saved state, of either form?
 #[no_mangle]
 pub extern "C" fn walbryts_is_state(bytes: &[u8]) -> bool
     ensures { λ r. ⌜ r ≡ isSaved (now (bytes .entry)) ⌝ }
@@ -55,9 +55,24 @@ pub extern "C" fn walbryts_is_state(bytes: &[u8]) -> bool
     l.found
 }
 
+// A saved state of either form, in the form that is written: the call brings states with short counters over.
+#[no_mangle]
+pub extern "C" fn walbryts_bring_over(old: &[u8], state: &mut [u8; 649]) -> u8
+    ensures { λ r. ⌜ r ≡ bringing (loaded (now (old .entry))) ⌝ }
+    ensures { λ r. ⌜ now (state .exit) ≡ broughtInto (now (state .entry)) (loaded (now (old .entry))) ⌝ }
+{
+    let l = state::load(old);
+    if !l.found {
+        return 31;
+    }
+    let st = l.state;
+    state::save(st, state);
+    0
+}
+
 // The state becomes the start state.
 #[no_mangle]
-pub extern "C" fn walbryts_start(sheet: &[u8], state: &mut [u8; 641]) -> u8
+pub extern "C" fn walbryts_start(sheet: &[u8], state: &mut [u8; 649]) -> u8
     ensures { λ r. ⌜ r ≡ start (now (sheet .entry)) .number ⌝ }
     ensures { λ r. ⌜ now (state .exit) ≡ startedIn (now (state .entry)) (start (now (sheet .entry))) ⌝ }
 {
@@ -83,7 +98,7 @@ fn unfit(sheet: &[u8]) -> u8
 
 // A choice.
 #[no_mangle]
-pub extern "C" fn walbryts_choose(sheet: &[u8], state: &mut [u8; 641], choice: u8) -> u8
+pub extern "C" fn walbryts_choose(sheet: &[u8], state: &mut [u8; 649], choice: u8) -> u8
     ensures { λ r. ⌜
         r ≡ numberOn (now (sheet .entry)) (loaded (now (state .entry))) (λ st. choose (now (sheet .entry)) st choice)
         ⌝ }
@@ -107,7 +122,7 @@ pub extern "C" fn walbryts_choose(sheet: &[u8], state: &mut [u8; 641], choice: u
 #[no_mangle]
 pub extern "C" fn walbryts_run(
     sheet: &[u8],
-    state: &mut [u8; 641],
+    state: &mut [u8; 649],
     choices: &[u8],
     accepted: &mut usize,
 ) -> u8
@@ -167,7 +182,7 @@ fn word_of_verdict(v: Verdict) -> u8
 #[no_mangle]
 pub extern "C" fn walbryts_run_plain(
     sheet: &[u8],
-    state: &mut [u8; 641],
+    state: &mut [u8; 649],
     limit: u16,
     accepted: &mut u16,
     word: &mut u8,
@@ -211,7 +226,7 @@ pub extern "C" fn walbryts_run_plain(
 #[no_mangle]
 pub extern "C" fn walbryts_instant(
     sheet: &[u8],
-    state: &mut [u8; 641],
+    state: &mut [u8; 649],
     count: u8,
     value: &[u32; 16],
     unknown: &[bool; 16],
@@ -248,7 +263,7 @@ pub extern "C" fn walbryts_instant(
 #[no_mangle]
 pub extern "C" fn walbryts_run_cycles(
     sheet: &[u8],
-    state: &mut [u8; 641],
+    state: &mut [u8; 649],
     value: &[u32],
     unknown: &[bool],
     phases: &mut usize,

@@ -22,7 +22,7 @@ use Rattle.evaluation.specs.Evaluation.{eval}
 use Rattle.pseudocode.specs.Translation.{wait!, go, threadCode}
 use Rattle.pseudocode.proofs.Translation.{threadCode-size}
 use Rattle.state.specs.declared.State.{State}
-use Rattle.state.specs.State.{Shaped, valueOf, pendingOf, placeOf}
+use Rattle.state.specs.State.{Shaped, full, valueOf, pendingOf, placeOf}
 use Rattle.soundness.specs.Soundness.{Sound}
 use Rattle.soundness.proofs.Soundness.{sound}
 use Rattle.events.specs.declared.Ran.{Ran}
@@ -98,13 +98,13 @@ module _ (m : Module Expr) (w : Sound m) (i : ℕ) (l : i < length (m .threads))
 
   record Chose (st : State) : Type 0 where
     number : chooseIn m st i .number ≡ 0
-    count : chooseIn m st i .state .count ≡ st .count + 1
+    count : chooseIn m st i .state .counters .count ≡ st .counters .count + 1
     acts : Acted m st (chooseIn m st i .state) i
 
-  chose : (st : State) → Shaped st → isWait (current m st i) ≡ false → st .count + 1 ≤ 4294967295 → Chose st
+  chose : (st : State) → Shaped st → isWait (current m st i) ≡ false → st .counters .count + 1 ≤ full → Chose st
   chose st s h room =
       let z : chooseIn m st i .number ≡ 0 =
-      number-chooseIn m st i ∙ refusal-ready m st w (thread-ready l h) ∙ spend-zero (st .count) (λ e. omega arith) in
+      number-chooseIn m st i ∙ refusal-ready m st w (thread-ready l h) ∙ spend-zero (st .counters .count) (λ e. omega arith) in
       let x = step-chooseIn m w st s i z in
       record { number = z; count = x .count; acts = acted m w st (chooseIn m st i .state) l (x .acts) }
 

@@ -17,7 +17,7 @@ use Rattle.sheet.specs.Statement.{Stmt, empty, assign, later, sequence, ifThen,
 use Rattle.sheet.specs.Module.{Module, read}
 use Rattle.pseudocode.specs.Translation.{Instr, wait!, set!, later!, go, ifnot}
 use Rattle.state.specs.declared.State.{State}
-use Rattle.state.specs.State.{Shaped, valueOf, pendingOf, placeOf}
+use Rattle.state.specs.State.{Shaped, full, valueOf, pendingOf, placeOf}
 use Rattle.events.specs.declared.Ran.{Ran}
 use Rattle.events.specs.Cycle.{codeOf, instrAt, current, isWait}
 use Rattle.events.specs.Calls.{stateFits, chooseIn, choose, runList}
@@ -69,7 +69,7 @@ module _ (m : Module Expr) where
 -- ---- "while the allowance lasts": there is room for k choices more
 
 abbrev pub Lasts : ℕ → State → Type 0
-Lasts k st = st .count + k ≤ 4294967295
+Lasts k st = st .counters .count + k ≤ full
 
 module _ (s : List ℕ) (m : Module Expr) (i : ℕ) where
   -- "A thread is a forever of its statement."

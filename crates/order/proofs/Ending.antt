@@ -80,13 +80,13 @@ module _ (s : List ℕ) (m : Module Expr) (e : read s ≡ ok m) (w : Sound m) (u
   standing : Standing m (start s .state)
   standing = subst (Standing m) (sym from-start) standing-start
 
-  no-time : start s .state .time ≡ 0
+  no-time : start s .state .counters .time ≡ 0
   unfolding started
-  no-time = ap (λ (st : State). st .time) from-start
+  no-time = ap (λ (st : State). st .counters .time) from-start
 
-  no-count : start s .state .count ≡ 0
+  no-count : start s .state .counters .count ≡ 0
   unfolding started
-  no-count = ap (λ (st : State). st .count) from-start
+  no-count = ap (λ (st : State). st .counters .count) from-start
 
   -- The plain choice is a byte: an item, of which there are 40 at most, or the commit.
   plain-byte : (st : State) → plainChoice m st < 256
@@ -121,7 +121,7 @@ module _ (s : List ℕ) (m : Module Expr) (e : read s ≡ ok m) (w : Sound m) (u
         progress = λ q room. (
           plainChoice m st,
           plain-byte st,
-          ap (λ r. r .number) (choose-in s m e w st stands (plainChoice m st)) ∙ plain-refusal m st w q ∙ spend-zero (st .count) room,
+          ap (λ r. r .number) (choose-in s m e w st stands (plainChoice m st)) ∙ plain-refusal m st w q ∙ spend-zero (st .counters .count) room,
         );
         values = λ q. phase-quiet m w u b st n q p .0;
         places = λ q. phase-quiet m w u b st n q p .1;

@@ -30,15 +30,15 @@ use Rattle.order.proofs.Outcomes.{Did, chose, was-fed, Standing, did, s
 
 module _ (s : List ℕ) (m : Module Expr) (e : read s ≡ ok m) (w : Sound m) where
   pub record Tallied (ks : List Call) (st : State) : Type 0 where
-    pub time : final s ks st .time ≡ st .time + length (instants s ks st)
-    pub count : final s ks st .count ≡ st .count + choices s ks st
+    pub time : final s ks st .counters .time ≡ st .counters .time + length (instants s ks st)
+    pub count : final s ks st .counters .count ≡ st .counters .count + choices s ks st
 
-  one-time : (st : State) (o : Outcome) (l : List Inputs) → Did m st o → o .state .time + length l ≡ st .time + length (before s (o .fed) l)
+  one-time : (st : State) (o : Outcome) (l : List Inputs) → Did m st o → o .state .counters .time + length l ≡ st .counters .time + length (before s (o .fed) l)
   unfolding before
   one-time st o l (chose cs c a f) = let t = time-chain m c in rw f (omega arith)
   one-time st o l (was-fed a h i z f) = let t = i .time in rw f (omega arith)
 
-  one-count : (st : State) (o : Outcome) → Did m st o → o .state .count ≡ st .count + o .accepted
+  one-count : (st : State) (o : Outcome) → Did m st o → o .state .counters .count ≡ st .counters .count + o .accepted
   one-count st o (chose cs c a f) = let t = count-chain m c in omega arith
   one-count st o (was-fed a h i z f) = let t = i .count in omega arith
 

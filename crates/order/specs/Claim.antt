@@ -10,7 +10,7 @@ use Rattle.sheet.specs.Reading.{ok}
 use Rattle.sheet.specs.Expression.{Expr}
 use Rattle.sheet.specs.Module.{Module, read}
 use Rattle.state.specs.declared.State.{State}
-use Rattle.state.specs.State.{valueOf, placeOf}
+use Rattle.state.specs.State.{full, valueOf, placeOf}
 use Rattle.events.specs.declared.Inputs.{Inputs}
 use Rattle.events.specs.Cycle.{variables, wireVariable, quiet}
 use Rattle.events.specs.Calls.{start, choose, inputOf, inputsFit}
@@ -34,14 +34,14 @@ module _ (s : List ℕ) (m : Module Expr) (T : Tables) where
 
   pub record AtTheEnd (calls : List Call) : Type 0 where
     -- "time and count equal the instants and choices (those in runs too) accepted"
-    pub time : end calls .time ≡ length (fed calls)
-    pub count : end calls .count ≡ choices s calls (start s .state)
+    pub time : end calls .counters .time ≡ length (fed calls)
+    pub count : end calls .counters .count ≡ choices s calls (start s .state)
     -- "the count has risen since the last accepted instant, or the start, by at most P + 2^W, P being all threads' instructions and
     -- W the wires"
     pub bound : since s calls (start s .state) 0 ≤ allInstructions m + 2 ^ length (m .wires)
     -- "a state that isn't quiet has a choice that is accepted unless the count is full". A choice is a byte.
     pub progress :
-        quiet m (end calls) ≡ false → end calls .count ≢ 4294967295 →
+        quiet m (end calls) ≡ false → end calls .counters .count ≢ full →
         (c : ℕ) × (c < 256) × (choose s (end calls) c .number ≡ 0)
     -- "a quiet one has the book's inputs, registers, places (demand 3's waits) and wires"
     pub values : quiet m (end calls) ≡ true → (v : ℕ) → v < variables m → valueOf (end calls) v ≡ book m T (fed calls) .values v

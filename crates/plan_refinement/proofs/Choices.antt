@@ -16,8 +16,9 @@ use Rattle.pseudocode.specs.Translation.{Instr}
 use Rattle.pseudocode.specs.declared.EdgeTerms.{EdgeTerms}
 use Rattle.masks.specs.Masks.{first, anyMark}
 use Rattle.masks.proofs.Masks.{any-none, any-some, first-lowest}
+use Rattle.state.specs.declared.Counters.{Counters}
 use Rattle.state.specs.declared.State.{State}
-use Rattle.state.specs.State.{withCounters, valueOf, pendingOf, placeOf, isDue}
+use Rattle.state.specs.State.{full, countersOf, withCounters, valueOf, pendingOf, placeOf, isDue}
 use Rattle.events.specs.Cycle.{current, anyBelow, isWait, threadEnabled, items, enabled, anyEnabled, isSome, anyPending}
 use Rattle.events.specs.Cycle.{quiet, runThread, runWire}
 use Rattle.events.specs.Cycle as cycle
@@ -220,9 +221,9 @@ acts-fetched (an-ifnot h) = refl
 
 -- ---- a state does not show its counters
 
-pub shows-withCounters : (m : Module Expr) (st : State) (t n : ℕ) (l : Live) → Shows m st l → Shows m (withCounters st t n) l
+pub shows-withCounters : (m : Module Expr) (st : State) (c : Counters) (l : Live) → Shows m st l → Shows m (withCounters st c) l
 unfolding withCounters valueOf
-shows-withCounters m st t n l z =
+shows-withCounters m st c l z =
     record {
       scene =
           record {
@@ -230,7 +231,7 @@ shows-withCounters m st t n l z =
             planes = z .scene .planes;
             places = z .scene .places;
             due = z .scene .due;
-            ready = z .scene .ready ∙ ready-places m st (withCounters st t n) refl;
+            ready = z .scene .ready ∙ ready-places m st (withCounters st c) refl;
           };
       slots = record { long = z .slots .long; planes = z .slots .planes; held = z .slots .held };
     }
@@ -243,22 +244,22 @@ unfolding answer
 refused st new l n h z = rw (ne-eqb n 0 h) (record { number = refl; left = z })
 
 unless-shows : {m : Module Expr} (st new : State) (room : ℕ) (l d : Live) → Room room st → Shows m st l → Shows m new d
-    → Takes m (answer (spend (st .count)) st new) (unless room l d)
+    → Takes m (answer (spend (st .counters .count)) st new) (unless room l d)
 unfolding answer spend unless
-unless-shows {m} st new room l d e z y = by (eqb room 0) refl (eqb (st .count) 4294967295) refl
+unless-shows {m} st new room l d e z y = by (eqb room 0) refl (eqb (st .counters .count) full) refl
   where
-    by : (t : Bool) → eqb room 0 ≡ t → (s : Bool) → eqb (st .count) 4294967295 ≡ s
+    by : (t : Bool) → eqb room 0 ≡ t → (s : Bool) → eqb (st .counters .count) full ≡ s
         → Takes m
         (pick (eqb (pick s 36 0) 0) (record { number = 0; state = new }) (record { number = pick s 36 0; state = st }))
         (pick t (taken 36 l) (taken 0 d))
     by true p true r = record { number = refl; left = z }
     by true p false r =
         let a = eqb-true room 0 p in
-        let b = eqb-false (st .count) 4294967295 r in
+        let b = eqb-false (st .counters .count) full r in
         absurd (b (omega arith))
     by false p true r =
         let a = eqb-false room 0 p in
-        let b = eqb-true (st .count) 4294967295 r in
+        let b = eqb-true (st .counters .count) full r in
         absurd (a (omega arith))
     by false p false r = record { number = refl; left = y }
 
@@ -269,10 +270,10 @@ module _ {m : Module Expr} {q : Plan} (w : PlanOf m q) (st : State) (k : Kept m 
   -- A choice is made on the state with one more in the count.
   shows-counted : Shows m (counted st) l
   unfolding counted
-  shows-counted = shows-withCounters m st (st .time) (st .count + 1) l z
+  shows-counted = shows-withCounters m st (countersOf (st .counters .time) (st .counters .count + 1)) l z
 
   thread-at : (i : ℕ) → i < length (m .threads) → (y : Instruction) → q .instruction i (placeOf st i) ≡ y
-      → Takes m (answer (pick (not (isWait (current m st i))) (spend (st .count)) 33) st (runThread m i (counted st)))
+      → Takes m (answer (pick (not (isWait (current m st i))) (spend (st .counters .count)) 33) st (runThread m i (counted st)))
       (takeInstruction q room i (placeOf st i) y l)
   unfolding takeInstruction current placeOf counted withCounters
   thread-at i h (Wait t) e =
@@ -284,28 +285,28 @@ module _ {m : Module Expr} {q : Plan} (w : PlanOf m q) (st : State) (k : Kept m 
       (act-shows w i (counted st) l h (kept-counted k) shows-counted a e))
 
   thread-takes : (i : ℕ) → i < length (m .threads)
-      → Takes m (answer (pick (threadEnabled m st i) (spend (st .count)) 33) st (runThread m i (counted st)))
+      → Takes m (answer (pick (threadEnabled m st i) (spend (st .counters .count)) 33) st (runThread m i (counted st)))
       (takeThread q room i l)
   unfolding takeThread threadEnabled placeOf
   thread-takes i h =
       rw (lt-ltb i 8 (omega (arith, w .sound .threads-most)))
       (subst
-      (λ (p : ℕ). Takes m (answer (pick (not (isWait (current m st i))) (spend (st .count)) 33) st (runThread m i (counted st)))
+      (λ (p : ℕ). Takes m (answer (pick (not (isWait (current m st i))) (spend (st .counters .count)) 33) st (runThread m i (counted st)))
       (takeInstruction q room i p (q .instruction i p) l))
       (ap (λ (ps : List ℕ). getD ps i 0) (sym (z .scene .places)))
       (thread-at i h (q .instruction i (placeOf st i)) refl))
 
   wire-takes : (j : ℕ) → j < length (m .wires)
-      → Takes m (answer (pick (isDue st j) (spend (st .count)) 33) st (runWire m j (counted st))) (takeWire q room j l)
+      → Takes m (answer (pick (isDue st j) (spend (st .counters .count)) 33) st (runWire m j (counted st))) (takeWire q room j l)
   unfolding takeWire isDue
   wire-takes j h =
       subst
-      (λ (t : Bool). Takes m (answer (pick (isDue st j) (spend (st .count)) 33) st (runWire m j (counted st)))
+      (λ (t : Bool). Takes m (answer (pick (isDue st j) (spend (st .counters .count)) 33) st (runWire m j (counted st)))
       (pick t (unless room l (withScene (settle q j (sceneOf l)) l)) (taken 33 l)))
       (ap (λ (ds : List Bool). getD ds j false) (sym (z .scene .due)))
       (by (isDue st j))
     where
-      by : (t : Bool) → Takes m (answer (pick t (spend (st .count)) 33) st (runWire m j (counted st)))
+      by : (t : Bool) → Takes m (answer (pick t (spend (st .counters .count)) 33) st (runWire m j (counted st)))
           (pick t (unless room l (withScene (settle q j (sceneOf l)) l)) (taken 33 l))
       by true =
           unless-shows st (runWire m j (counted st)) room l (withScene (settle q j (sceneOf l)) l) some z
@@ -313,7 +314,7 @@ module _ {m : Module Expr} {q : Plan} (w : PlanOf m q) (st : State) (k : Kept m 
       by false = refused st (runWire m j (counted st)) l 33 (λ u. omega arith) z
 
   abbrev commit-number : Bool → Bool → ℕ
-  commit-number a b = pick a 34 (pick b (spend (st .count)) 35)
+  commit-number a b = pick a 34 (pick b (spend (st .counters .count)) 35)
 
   abbrev commit-choice : Bool → Bool → Taken
   commit-choice a b = pick a (taken 34 l) (pick b (unless room l (commit q l)) (taken 35 l))
@@ -351,8 +352,8 @@ module _ {m : Module Expr} {q : Plan} (w : PlanOf m q) (st : State) (k : Kept m 
           (b : Bool) → ltb c (length (m .threads) + length (m .wires)) ≡ b → (d : Bool) →
           Takes m
           (answer
-          (pick b (pick (pick a (threadEnabled m st c) (isDue st (c - length (m .threads)))) (spend (st .count)) 33)
-          (pick d (pick (anyEnabled m st) 34 (pick (anyPending m st) (spend (st .count)) 35))
+          (pick b (pick (pick a (threadEnabled m st c) (isDue st (c - length (m .threads)))) (spend (st .counters .count)) 33)
+          (pick d (pick (anyEnabled m st) 34 (pick (anyPending m st) (spend (st .counters .count)) 35))
           22))
           st
           (pick a (runThread m c (counted st))
@@ -381,4 +382,4 @@ module _ {m : Module Expr} {q : Plan} (w : PlanOf m q) (st : State) (k : Kept m 
       → Shows m (cycle.feed m a (timed st)) (feed q a l)
   unfolding timed
   feed-timed-shows a fit =
-      feed-shows w (timed st) (kept-timed k) l (shows-withCounters m st (st .time + 1) (st .count) l z) a fit
+      feed-shows w (timed st) (kept-timed k) l (shows-withCounters m st (countersOf (st .counters .time + 1) (st .counters .count)) l z) a fit

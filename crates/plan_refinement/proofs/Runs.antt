@@ -34,9 +34,9 @@ use Rattle.plan_refinement.proofs.Choices.{busy-shows, plain-shows, tak
 -- ---- the count after an accepted choice
 
 count-accepted :
-    (m : Module Expr) (st : State) (c : ℕ) → chooseIn m st c .number ≡ 0 → chooseIn m st c .state .count ≡ st .count + 1
+    (m : Module Expr) (st : State) (c : ℕ) → chooseIn m st c .number ≡ 0 → chooseIn m st c .state .counters .count ≡ st .counters .count + 1
 count-accepted m st c h =
-    ap (λ r. r .state .count) (chooseIn-accepted m st c (sym (number-chooseIn m st c) ∙ h)) ∙ count-performed m st c
+    ap (λ r. r .state .counters .count) (chooseIn-accepted m st c (sym (number-chooseIn m st c) ∙ h)) ∙ count-performed m st c
 
 module _ {m : Module Expr} {q : Plan} (w : PlanOf m q) where
   -- The room that an accepted choice leaves.

@@ -13,6 +13,7 @@ use Rattle.evaluation.specs.Evaluation.{eval, reads}
 use Rattle.pseudocode.specs.Translation.{Instr, wait!, set!, later!, go, ifnot}
 use Rattle.pseudocode.specs.Instruction.{noTerm, termsOf}
 use Rattle.state.specs.declared.State.{State}
+use Rattle.state.specs.State.{full}
 use Rattle.soundness.specs.Soundness.{Sound}
 use Rattle.events.specs.Cycle.{codeOf, instrAt, isWait, wireExpr}
 use Rattle.events.specs.declared.Chosen.{Chosen}
@@ -71,9 +72,9 @@ pub record Rests (m : Module Expr) (r : Rested) (t : Run) : Type 0 where
   pub number : t .number ≡ numberOfVerdict (r .verdict)
   pub left : Shows m (r .state) (t .left)
 
--- The room that is left beside a count: "count (for a choice) at 4,294,967,295".
+-- The room that is left beside a count, up to a full one.
 abbrev pub Room : ℕ → State → Type 0
-Room room st = room + st .count ≡ 4294967295
+Room room st = room + st .counters .count ≡ full
 
 -- ---- PlanOf: the plan of a module
 

@@ -93,7 +93,7 @@ module _ (st : State) (s : Shaped st) (b : Bounded st) where
 
 module _ (st : State) (l : Live) (a : Planes (st .value) (st .unknown) 80 (l .cells))
     (b : Planes (st .pending) (st .unsure) 32 (l .pending)) where
-  pub packed-planes : l .places ≡ st .places → l .due ≡ st .due → l .held ≡ st .held → packed l (st .time) (st .count) ≡ st
+  pub packed-planes : l .places ≡ st .places → l .due ≡ st .due → l .held ≡ st .held → packed l (st .counters) ≡ st
   unfolding packed
   packed-planes p d h =
       λ i. record {
@@ -104,11 +104,10 @@ module _ (st : State) (l : Live) (a : Planes (st .value) (st .unknown) 80 (l .ce
         held = h i;
         places = p i;
         due = d i;
-        time = st .time;
-        count = st .count;
+        counters = st .counters;
       }
 
 pub packed-unpacked : (q : Plan) (st : State) (cs : List ℕ) → Shaped st → Bounded st → 80 ≤ length cs
-    → packed (unpackedIn cs q st) (st .time) (st .count) ≡ st
+    → packed (unpackedIn cs q st) (st .counters) ≡ st
 unfolding unpackedIn
 packed-unpacked q st cs s b h = packed-planes st (unpackedIn cs q st) (cells-of st s b cs h) (slots-of st s b) refl refl refl

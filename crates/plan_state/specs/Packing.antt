@@ -5,6 +5,7 @@ use mathlib.Core.Bool.{Bool, true, false}
 use mathlib.Core.List.{List}
 use lib.ListN.{getD, set, replicate}
 use Rattle.values.specs.Values.{pick}
+use Rattle.state.specs.declared.Counters.{Counters}
 use Rattle.state.specs.declared.State.{State}
 use Rattle.state.specs.Saved.{listOf}
 use Rattle.plan.specs.Plan.{Plan}
@@ -41,8 +42,8 @@ numbersIn cs n = listOf n (λ v. numberIn (getD cs v 0))
 abbrev pub flagsIn : List ℕ → ℕ → List Bool
 flagsIn cs n = listOf n (λ v. unknownIn (getD cs v 0))
 
-unfoldable pub packed : Live → ℕ → ℕ → State
-packed l time count =
+unfoldable pub packed : Live → Counters → State
+packed l c =
     record {
       value = numbersIn (l .cells) 80;
       unknown = flagsIn (l .cells) 80;
@@ -51,6 +52,5 @@ packed l time count =
       held = l .held;
       places = l .places;
       due = l .due;
-      time = time;
-      count = count;
+      counters = c;
     }

@@ -3,6 +3,7 @@
 use plan::Cells;
 use plan::PlanTable;
 use plan_changes::Marks;
+use state::Counters;
 use state::State;
 ghost use mathlib.Core.Path.{_≡_};
 ghost use lib.ListN.{replicate};
@@ -160,10 +161,9 @@ pub fn pack(
     pending: &[u64; 32],
     places: [u8; 8],
     marks: Marks,
-    time: u32,
-    count: u32,
+    counters: Counters,
 ) -> State
-    ensures { λ r. ⌜ r ≡ packed (live (now (cells .entry)) (now (pending .entry)) places marks) time count ⌝ }
+    ensures { λ r. ⌜ r ≡ packed (live (now (cells .entry)) (now (pending .entry)) places marks) counters ⌝ }
 {
     let value = numbers_in(cells);
     let unknown = flags_in(cells);
@@ -179,7 +179,6 @@ pub fn pack(
         held,
         places,
         due,
-        time,
-        count,
+        counters,
     }
 }

@@ -11,7 +11,7 @@ use Rattle.values.specs.Values.{pick, fits}
 use Rattle.sheet.specs.Expression.{Expr}
 use Rattle.sheet.specs.Module.{Module}
 use Rattle.state.specs.declared.State.{State}
-use Rattle.state.specs.State.{Shaped, Bounded}
+use Rattle.state.specs.State.{Shaped, Bounded, countersOf}
 use Rattle.soundness.specs.Soundness.{Sound}
 use Rattle.events.specs.declared.Inputs.{Inputs}
 use Rattle.events.specs.declared.Chosen.{Chosen}
@@ -45,27 +45,27 @@ use Rattle.prepared.proofs.Unpacked.{unpacked-shows, packed-shows}
 -- ---- the counters after a choice
 
 module _ (m : Module Expr) (st : State) (c : ℕ) where
-  accepted-time : chooseIn m st c .number ≡ 0 → chooseIn m st c .state .time ≡ st .time
+  accepted-time : chooseIn m st c .number ≡ 0 → chooseIn m st c .state .counters .time ≡ st .counters .time
   accepted-time z = rw (chooseIn-accepted m st c (sym (number-chooseIn m st c) ∙ z)) (time-performed m st c)
 
-  accepted-count : chooseIn m st c .number ≡ 0 → chooseIn m st c .state .count ≡ st .count + 1
+  accepted-count : chooseIn m st c .number ≡ 0 → chooseIn m st c .state .counters .count ≡ st .counters .count + 1
   accepted-count z = rw (chooseIn-accepted m st c (sym (number-chooseIn m st c) ∙ z)) (count-performed m st c)
 
-  chosen-time : chooseIn m st c .state .time ≡ st .time
+  chosen-time : chooseIn m st c .state .counters .time ≡ st .counters .time
   chosen-time = by (ℕ-discrete (chooseIn m st c .number) 0)
     where
-      by : Dec (chooseIn m st c .number ≡ 0) → chooseIn m st c .state .time ≡ st .time
+      by : Dec (chooseIn m st c .number ≡ 0) → chooseIn m st c .state .counters .time ≡ st .counters .time
       by (yes z) = accepted-time z
-      by (no h) = ap (λ (u : State). u .time) (state-refused m st c h)
+      by (no h) = ap (λ (u : State). u .counters .time) (state-refused m st c h)
 
-  chosen-count : chooseIn m st c .state .count ≡ counting (chooseIn m st c .number) (st .count)
+  chosen-count : chooseIn m st c .state .counters .count ≡ counting (chooseIn m st c .number) (st .counters .count)
   unfolding counting
   chosen-count = by (ℕ-discrete (chooseIn m st c .number) 0)
     where
       by : Dec (chooseIn m st c .number ≡ 0) →
-          chooseIn m st c .state .count ≡ pick (eqb (chooseIn m st c .number) 0) (st .count + 1) (st .count)
+          chooseIn m st c .state .counters .count ≡ pick (eqb (chooseIn m st c .number) 0) (st .counters .count + 1) (st .counters .count)
       by (yes z) = rw (eq-eqb (chooseIn m st c .number) 0 z) (accepted-count z)
-      by (no h) = rw (ne-eqb (chooseIn m st c .number) 0 h) (ap (λ (u : State). u .count) (state-refused m st c h))
+      by (no h) = rw (ne-eqb (chooseIn m st c .number) 0 h) (ap (λ (u : State). u .counters .count) (state-refused m st c h))
 
 module _ {m : Module Expr} {q : Plan} (w : PlanOf m q) where
   -- ---- a plain run's verdict, by the number that stopped it and the marks that are left
@@ -98,14 +98,14 @@ module _ {m : Module Expr} {q : Plan} (w : PlanOf m q) where
       where
         by : (t : Bool) → stateFits m st ≡ t →
             let u = takeChoice q (roomOf st) c (unpacked q st) in
-            pick {A = Chosen} t (record { number = u .number; state = packed (u .left) (st .time) (counting (u .number) (st .count)) })
+            pick {A = Chosen} t (record { number = u .number; state = packed (u .left) (countersOf (st .counters .time) (counting (u .number) (st .counters .count))) })
             (record { number = 31; state = st })
             ≡ pick t (chooseIn m st c) (record { number = 31; state = st })
         by false f = refl
         by true f =
             let t = take-shows w st (kept f) (roomOf st) room (unpacked q st) (shown f) c in
-            let p = packed-shows (t .left) (st .time) (counting (takeChoice q (roomOf st) c (unpacked q st) .number) (st .count))
-            (chosen-time m st c) (chosen-count m st c ∙ ap (λ (n : ℕ). counting n (st .count)) (sym (t .number))) in
+            let p = packed-shows (t .left) (st .counters .time) (counting (takeChoice q (roomOf st) c (unpacked q st) .number) (st .counters .count))
+            (chosen-time m st c) (chosen-count m st c ∙ ap (λ (n : ℕ). counting n (st .counters .count)) (sym (t .number))) in
             λ i. record { number = t .number i; state = p i }
 
     -- ---- a run over a list
@@ -118,14 +118,14 @@ module _ {m : Module Expr} {q : Plan} (w : PlanOf m q) where
         by : (t : Bool) → stateFits m st ≡ t →
             let u = runList q cs (roomOf st) (unpacked q st) in
             pick {A = Ran} t
-            (record { accepted = u .accepted; number = u .number; state = packed (u .left) (st .time) (st .count + u .accepted) })
+            (record { accepted = u .accepted; number = u .number; state = packed (u .left) (countersOf (st .counters .time) (st .counters .count + u .accepted)) })
             (record { accepted = 0; number = 31; state = st })
             ≡ pick t (runIn m cs st) (record { accepted = 0; number = 31; state = st })
         by false f = refl
         by true f =
             let t = runList-shows w cs st (roomOf st) (unpacked q st) h (fit f) room (shown f) in
-            let p = packed-shows (t .left) (st .time) (st .count + runList q cs (roomOf st) (unpacked q st) .accepted)
-            (time-runIn m (w .sound) st h cs) (count-runIn m (w .sound) st h cs ∙ ap (λ (n : ℕ). st .count + n) (sym (t .accepted))) in
+            let p = packed-shows (t .left) (st .counters .time) (st .counters .count + runList q cs (roomOf st) (unpacked q st) .accepted)
+            (time-runIn m (w .sound) st h cs) (count-runIn m (w .sound) st h cs ∙ ap (λ (n : ℕ). st .counters .count + n) (sym (t .accepted))) in
             λ i. record { accepted = t .accepted i; number = t .number i; state = p i }
 
     -- ---- the plain run
@@ -146,7 +146,7 @@ module _ {m : Module Expr} {q : Plan} (w : PlanOf m q) where
             (record {
               accepted = u .accepted;
               verdict = verdictOf (u .number) (u .left);
-              state = packed (u .left) (st .time) (st .count + u .accepted);
+              state = packed (u .left) (countersOf (st .counters .time) (st .counters .count + u .accepted));
             })
             (record { accepted = 0; verdict = Refused 31; state = st })
             ≡ pick t (runBy m (plainChoice m) n st) (record { accepted = 0; verdict = Refused 31; state = st })
@@ -157,8 +157,8 @@ module _ {m : Module Expr} {q : Plan} (w : PlanOf m q) where
             let t = runPlain-shows w n st (roomOf st) (unpacked q st) h (fit f) room (shown f) in
             let v = ap (λ (k : ℕ). verdictOf k (u .left)) (t .number)
             ∙ verdict-same n r (u .left) (kept-rested n f) (t .left) (ended-plain m (w .sound) n st) in
-            let p = packed-shows (t .left) (st .time) (st .count + u .accepted) (time-runBy m (w .sound) st h (plainChoice m) n)
-            (count-runBy m (w .sound) st h (plainChoice m) n ∙ ap (λ (k : ℕ). st .count + k) (sym (t .accepted))) in
+            let p = packed-shows (t .left) (st .counters .time) (st .counters .count + u .accepted) (time-runBy m (w .sound) st h (plainChoice m) n)
+            (count-runBy m (w .sound) st h (plainChoice m) n ∙ ap (λ (k : ℕ). st .counters .count + k) (sym (t .accepted))) in
             λ i. record { accepted = t .accepted i; verdict = v i; state = p i }
 
     -- ---- an instant
@@ -172,7 +172,7 @@ module _ {m : Module Expr} {q : Plan} (w : PlanOf m q) where
       unfolding instantNumber instantRefusal
       instant-number f = rw (inputs-same, busy-at f) (ap (λ n. pick (inputsFit m a) n 25) (by (quiet m st)))
         where
-          by : (t : Bool) → pick (not t) 32 (spend (st .time)) ≡ pick t (spend (st .time)) 32
+          by : (t : Bool) → pick (not t) 32 (spend (st .counters .time)) ≡ pick t (spend (st .counters .time)) 32
           by true = refl
           by false = refl
 
@@ -180,7 +180,7 @@ module _ {m : Module Expr} {q : Plan} (w : PlanOf m q) where
       unfolding fedAt
       fed-at f =
           packed-shows (feed-timed-shows w st (kept f) (roomOf st) room (unpacked q st) (shown f) (inputOf a) fitting)
-          (st .time + 1) (st .count) (time-feed m st (inputOf a)) (count-feed m st (inputOf a))
+          (st .counters .time + 1) (st .counters .count) (time-feed m st (inputOf a)) (count-feed m st (inputOf a))
 
       pub instant-at : instantAt q st a ≡ pick (stateFits m st) (instantIn m st a) (record { number = 31; state = st })
       unfolding instantAt instantIn

@@ -2,7 +2,7 @@
 use mathlib.Core.Path.{_≡_, refl, sym, ap, _∙_}
 use mathlib.Core.Bool.{Bool, true, false}
 use mathlib.Core.List.{List}
-use Prim.Native.Nat.{ℕ, _+_, _-_, _≤_}
+use Prim.Native.Nat.{ℕ, _+_, _-_, _≤_, _<_}
 use native.Mathlib.Decide.{ℕ-discrete}
 use native.Mathlib.Omega.{arith}
 use lib.Dec.{eqb}
@@ -10,6 +10,7 @@ use borrow.Author.Tests.{eq-eqb, ne-eqb}
 use Rattle.values.specs.Values.{pick}
 use Rattle.sheet.specs.declared.SheetRead.{SheetRead}
 use Rattle.state.specs.declared.State.{State}
+use Rattle.state.specs.State.{full, countersOf}
 use Rattle.events.specs.declared.Inputs.{Inputs}
 use Rattle.events.specs.declared.Verdict.{Verdict}
 use Rattle.events.specs.declared.Verdict.the-variants.{Quiet, Spent, Stopped, Refused}
@@ -52,15 +53,15 @@ laid q st k cs ds ns e h = ap (λ (xs : List ℕ). live ds xs (st .places) k) e 
 
 -- ---- room
 
-pub choice-left : (q : Plan) (room count c n : ℕ) (l d : Live) → room ≡ 4294967295 - count → taken n d ≡ takeChoice q room c l
-    → n ≡ 0 → count ≤ 4294967294
+pub choice-left : (q : Plan) (room count c n : ℕ) (l d : Live) → room ≡ full - count → taken n d ≡ takeChoice q room c l
+    → n ≡ 0 → count < full
 choice-left q room count c n l d r t z = by (ℕ-discrete room 0)
   where
-    by : Dec (room ≡ 0) → count ≤ 4294967294
+    by : Dec (room ≡ 0) → count < full
     by (yes e) = absurd (choice-room q room e c l (sym (ap (λ (x : Taken). x .number) t) ∙ z))
-    by (no e) = by-count (ℕ-discrete (4294967295 - count) 0)
+    by (no e) = by-count (ℕ-discrete (full - count) 0)
       where
-        by-count : Dec (4294967295 - count ≡ 0) → count ≤ 4294967294
+        by-count : Dec (full - count ≡ 0) → count < full
         by-count (yes f) = absurd (e (r ∙ f))
         by-count (no f) = omega arith
 
@@ -93,18 +94,18 @@ module _ (q : Plan) (st : State) where
 
   module _ (f : planFits q st ≡ true) (l : Live) (e : l ≡ unpacked q st) where
     pub choose-fit : (c n room count : ℕ) (d : Live) (u : State) → room ≡ roomOf st → taken n d ≡ takeChoice q room c l
-        → count ≡ counting n (st .count) → u ≡ packed d (st .time) count → record { number = n; state = u } ≡ chooseAt q st c
+        → count ≡ counting n (st .counters .count) → u ≡ packed d (countersOf (st .counters .time) count) → record { number = n; state = u } ≡ chooseAt q st c
     unfolding chooseAt
     choose-fit c n room count d u r t k p = rw (f, ← e, ← r, ← t, p, k) refl
 
     pub run-fit : (cs : List ℕ) (a n room count : ℕ) (d : Live) (u : State) → room ≡ roomOf st → run a n d ≡ runList q cs room l
-        → count ≡ st .count + a → u ≡ packed d (st .time) count
+        → count ≡ st .counters .count + a → u ≡ packed d (countersOf (st .counters .time) count)
         → record { accepted = a; number = n; state = u } ≡ runAt q st cs
     unfolding runAt
     run-fit cs a n room count d u r t k p = rw (f, ← e, ← r, ← t, p, k) refl
 
     pub plain-fit : (limit a n room count : ℕ) (v : Verdict) (d : Live) (u : State) → room ≡ roomOf st
-        → run a n d ≡ runPlain q limit room l → v ≡ verdictOf n d → count ≡ st .count + a → u ≡ packed d (st .time) count
+        → run a n d ≡ runPlain q limit room l → v ≡ verdictOf n d → count ≡ st .counters .count + a → u ≡ packed d (countersOf (st .counters .time) count)
         → record { accepted = a; verdict = v; state = u } ≡ plainAt q st limit
     unfolding plainAt
     plain-fit limit a n room count v d u r t w k p = rw (f, ← e, ← r, ← t, p, k, w) refl
@@ -119,14 +120,14 @@ module _ (q : Plan) (st : State) where
       unfolding instantAt instantNumber answer
       instant-busy h = rw (f, g, ← e, h) refl
 
-      pub instant-late : busy l ≡ false → st .time ≡ 4294967295 → record { number = 36; state = st } ≡ instantAt q st a
+      pub instant-late : busy l ≡ false → st .counters .time ≡ full → record { number = 36; state = st } ≡ instantAt q st a
       unfolding instantAt instantNumber answer spend
-      instant-late h t = rw (f, g, ← e, h, eq-eqb (st .time) 4294967295 t) refl
+      instant-late h t = rw (f, g, ← e, h, eq-eqb (st .counters .time) full t) refl
 
-      pub instant-done : busy l ≡ false → (st .time ≡ 4294967295 → ⊥) → (time : ℕ) (d : Live) (u : State) → time ≡ st .time + 1
-          → d ≡ feed q (inputOf a) l → u ≡ packed d time (st .count) → record { number = 0; state = u } ≡ instantAt q st a
+      pub instant-done : busy l ≡ false → (st .counters .time ≡ full → ⊥) → (time : ℕ) (d : Live) (u : State) → time ≡ st .counters .time + 1
+          → d ≡ feed q (inputOf a) l → u ≡ packed d (countersOf time (st .counters .count)) → record { number = 0; state = u } ≡ instantAt q st a
       unfolding instantAt instantNumber answer spend fedAt
-      instant-done h t time d u k x p = rw (f, g, ← e, h, ne-eqb (st .time) 4294967295 t, ← x, p, k) refl
+      instant-done h t time d u k x p = rw (f, g, ← e, h, ne-eqb (st .counters .time) full t, ← x, p, k) refl
 
 -- ---- how a plain run ended
 

@@ -9,6 +9,7 @@ use Rattle.sheet.specs.Expression.{located}
 use Rattle.sheet.specs.Module.{readSheet}
 use Rattle.sheet.specs.Answers.{sheetAnswer}
 use Rattle.state.specs.declared.State.{State}
+use Rattle.state.specs.State.{full, countersOf}
 use Rattle.events.specs.declared.Inputs.{Inputs}
 use Rattle.events.specs.declared.Chosen.{Chosen}
 use Rattle.events.specs.declared.Ran.{Ran}
@@ -42,7 +43,7 @@ startAt q = started (q .wires)
 
 -- The choices that may still be accepted.
 abbrev pub roomOf : State → ℕ
-roomOf st = 4294967295 - st .count
+roomOf st = full - st .counters .count
 
 -- The count once a choice was answered.
 unfoldable pub counting : ℕ → ℕ → ℕ
@@ -57,14 +58,14 @@ module _ (q : Plan) (st : State) where
   chooseAt c =
       let t = takeChoice q (roomOf st) c (unpacked q st) in
       pick (planFits q st)
-      (record { number = t .number; state = packed (t .left) (st .time) (counting (t .number) (st .count)) })
+      (record { number = t .number; state = packed (t .left) (countersOf (st .counters .time) (counting (t .number) (st .counters .count))) })
       (record { number = 31; state = st })
 
   unfoldable pub runAt : List ℕ → Ran
   runAt cs =
       let t = runList q cs (roomOf st) (unpacked q st) in
       pick (planFits q st)
-      (record { accepted = t .accepted; number = t .number; state = packed (t .left) (st .time) (st .count + t .accepted) })
+      (record { accepted = t .accepted; number = t .number; state = packed (t .left) (countersOf (st .counters .time) (st .counters .count + t .accepted)) })
       (record { accepted = 0; number = 31; state = st })
 
   unfoldable pub plainAt : ℕ → Rested
@@ -74,17 +75,17 @@ module _ (q : Plan) (st : State) where
       (record {
         accepted = t .accepted;
         verdict = verdictOf (t .number) (t .left);
-        state = packed (t .left) (st .time) (st .count + t .accepted);
+        state = packed (t .left) (countersOf (st .counters .time) (st .counters .count + t .accepted));
       })
       (record { accepted = 0; verdict = Refused 31; state = st })
 
   -- The number of an instant on a state that fits, 0 where it is accepted.
   unfoldable pub instantNumber : Inputs → ℕ
-  instantNumber a = pick (planInputsFit q a) (pick (busy (unpacked q st)) 32 (spend (st .time))) 25
+  instantNumber a = pick (planInputsFit q a) (pick (busy (unpacked q st)) 32 (spend (st .counters .time))) 25
 
   -- The inputs put, as one change, and the time one further.
   unfoldable pub fedAt : Inputs → State
-  fedAt a = packed (feed q (inputOf a) (unpacked q st)) (st .time + 1) (st .count)
+  fedAt a = packed (feed q (inputOf a) (unpacked q st)) (countersOf (st .counters .time + 1) (st .counters .count))
 
   unfoldable pub instantAt : Inputs → Chosen
   instantAt a = pick (planFits q st) (answer (instantNumber a) st (fedAt a)) (record { number = 31; state = st })

@@ -7,10 +7,13 @@ use events::Rested;
 use events::Verdict;
 use plan::PlanTable;
 use plan_changes::Marks;
+use state::Counters;
+use state::FULL;
 use state::State;
 ghost use mathlib.Core.Path.{_≡_};
 ghost use mathlib.Core.List.{List};
-ghost use Prim.Native.Nat.{ℕ, _≤_};
+ghost use Prim.Native.Nat.{ℕ, _<_};
+ghost use Rattle.state.specs.State.{full};
 ghost use Rattle.events.specs.Calls.{dueBelow};
 ghost use Rattle.plan.specs.Plan.{planOf};
 ghost use Rattle.plan_engine.specs.Live.{live};
@@ -66,8 +69,7 @@ pub fn start(plan: &PlanTable) -> State
         held: [false; 32],
         places: [0u8; 8],
         due: due_below(plan::wires(plan)),
-        time: 0,
-        count: 0,
+        counters: Counters { time: 0, count: 0 },
     }
 }
 
@@ -77,13 +79,13 @@ pub fn start(plan: &PlanTable) -> State
 fn room_of(st: State) -> u64
     ensures { λ r. ⌜ r ≡ roomOf st ⌝ }
 {
-    let count = st.count;
-    4294967295 - count as u64
+    let count = st.counters.count;
+    FULL - count
 }
 
 // The count once a choice was answered by `number`.
-fn counting(number: u8, count: u32) -> u32
-    requires { ⌜ (number ≡ 0 → count ≤ 4294967294) ⌝ }
+fn counting(number: u8, count: u64) -> u64
+    requires { ⌜ (number ≡ 0 → count < full) ⌝ }
     ensures { λ r. ⌜ r ≡ counting number count ⌝ }
 {
     if number == 0 { count + 1 } else { count }
@@ -114,8 +116,12 @@ pub fn choose(plan: &PlanTable, st: State, c: u8) -> Chosen
         room,
     );
     let left = t.marks;
-    let count = counting(t.number, st.count);
-    let state = plan_state::pack(&cells, &pending, places, left, st.time, count);
+    let count = counting(t.number, st.counters.count);
+    let counters = Counters {
+        time: st.counters.time,
+        count,
+    };
+    let state = plan_state::pack(&cells, &pending, places, left, counters);
     Chosen {
         number: t.number,
         state,
@@ -148,8 +154,12 @@ pub fn run(plan: &PlanTable, st: State, choices: &[u8]) -> Ran
         room,
     );
     let left = t.marks;
-    let count = st.count + t.accepted as u32;
-    let state = plan_state::pack(&cells, &pending, places, left, st.time, count);
+    let count = st.counters.count + t.accepted as u64;
+    let counters = Counters {
+        time: st.counters.time,
+        count,
+    };
+    let state = plan_state::pack(&cells, &pending, places, left, counters);
     Ran {
         accepted: t.accepted,
         number: t.number,
@@ -197,8 +207,12 @@ pub fn run_plain(plan: &PlanTable, st: State, limit: u16) -> Rested
     );
     let left = t.marks;
     let verdict = verdict_of(t.number, left);
-    let count = st.count + t.accepted as u32;
-    let state = plan_state::pack(&cells, &pending, places, left, st.time, count);
+    let count = st.counters.count + t.accepted as u64;
+    let counters = Counters {
+        time: st.counters.time,
+        count,
+    };
+    let state = plan_state::pack(&cells, &pending, places, left, counters);
     Rested {
         accepted: t.accepted,
         verdict,
@@ -228,7 +242,7 @@ pub fn instant(plan: &PlanTable, st: State, a: Inputs) -> Chosen
     if plan_engine::busy(marks) {
         return refused(32, st);
     }
-    if st.time == 4294967295 {
+    if st.counters.time == FULL {
         return refused(36, st);
     }
     let mut pending = plan_state::slots_of(&st.pending, &st.unsure);
@@ -242,6 +256,11 @@ pub fn instant(plan: &PlanTable, st: State, a: Inputs) -> Chosen
         &a.value,
         &a.unknown,
     );
-    let state = plan_state::pack(&cells, &pending, places, left, st.time + 1, st.count);
+    let time = st.counters.time + 1;
+    let counters = Counters {
+        time,
+        count: st.counters.count,
+    };
+    let state = plan_state::pack(&cells, &pending, places, left, counters);
     Chosen { number: 0, state }
 }

@@ -13,6 +13,7 @@ use Rattle.sheet.specs.Reading.{ok}
 use Rattle.sheet.specs.Expression.{Expr}
 use Rattle.sheet.specs.Module.{Module, read}
 use Rattle.state.specs.declared.State.{State}
+use Rattle.state.specs.State.{full}
 use Rattle.events.specs.declared.Inputs.{Inputs}
 use Rattle.events.specs.declared.Rested.{Rested}
 use Rattle.events.specs.Cycle.{quiet}
@@ -78,26 +79,26 @@ module _ (s : List ℕ) {m : Module Expr} {q : Plan} (w : PlanOf m q) (inputs-fi
     -- ---- the calls
 
     module _ (st : State) (o : Moment) (z : Stood m st o) where
-      room : Room (4294967295 - o .count) st
+      room : Room (full - o .count) st
       room = omega (arith, z .count, z .most)
 
       module _ (c : ℕ) where
         abbrev t : Taken
-        t = takeChoice q (4294967295 - o .count) c (o .left)
+        t = takeChoice q (full - o .count) c (o .left)
 
         takes : Takes m (chooseIn m st c) t
-        takes = take-shows w st (fits-kept (z .shaped) (z .fit)) (4294967295 - o .count) room (o .left) (z .shows) c
+        takes = take-shows w st (fits-kept (z .shaped) (z .fit)) (full - o .count) room (o .left) (z .shows) c
 
-        counters : (chooseIn m st c .state .time ≡ o .time)
-            × (chooseIn m st c .state .count ≡ counting (chooseIn m st c .number) (o .count))
-            × (counting (chooseIn m st c .number) (o .count) ≤ 4294967295)
+        counters : (chooseIn m st c .state .counters .time ≡ o .time)
+            × (chooseIn m st c .state .counters .count ≡ counting (chooseIn m st c .number) (o .count))
+            × (counting (chooseIn m st c .number) (o .count) ≤ full)
         unfolding counting
         counters = by (ℕ-discrete (refusal m st c) 0)
           where
             by : Dec (refusal m st c ≡ 0)
-                → (chooseIn m st c .state .time ≡ o .time)
-                × (chooseIn m st c .state .count ≡ counting (chooseIn m st c .number) (o .count))
-                × (counting (chooseIn m st c .number) (o .count) ≤ 4294967295)
+                → (chooseIn m st c .state .counters .time ≡ o .time)
+                × (chooseIn m st c .state .counters .count ≡ counting (chooseIn m st c .number) (o .count))
+                × (counting (chooseIn m st c .number) (o .count) ≤ full)
             by (yes x) =
                 let d = room-refusal m st (w .sound) c x in
                 rw (chooseIn-accepted m st c x) (
@@ -120,13 +121,13 @@ module _ (s : List ℕ) {m : Module Expr} {q : Plan} (w : PlanOf m q) (inputs-fi
             })
 
       abbrev r : Run
-      r = runPlain q 65535 (4294967295 - o .count) (o .left)
+      r = runPlain q 65535 (full - o .count) (o .left)
 
       abbrev ran : Rested
       ran = runBy m (plainChoice m) 65535 st
 
       rests : Rests m ran r
-      rests = runPlain-shows w 65535 st (4294967295 - o .count) (o .left) (z .shaped) (z .fit) room (z .shows)
+      rests = runPlain-shows w 65535 st (full - o .count) (o .left) (z .shaped) (z .fit) room (z .shows)
 
       run-stood : Stood m (ran .state) (moment (r .left) (o .time) (o .count + r .accepted))
       run-stood =
@@ -138,7 +139,7 @@ module _ (s : List ℕ) {m : Module Expr} {q : Plan} (w : PlanOf m q) (inputs-fi
             count =
                 count-runBy m (w .sound) st (z .shaped) (plainChoice m) 65535
                 ∙ (λ i. z .count i + sym (rests .accepted) i);
-            most = omega (arith, plain-room q 65535 (4294967295 - o .count) (o .left), z .most);
+            most = omega (arith, plain-room q 65535 (full - o .count) (o .left), z .most);
           }
 
       run-rested : isQuiet (ran .verdict) ≡ not (busy (r .left))

@@ -14,6 +14,7 @@ use Rattle.sheet.specs.Reading.{ok}
 use Rattle.sheet.specs.Expression.{Expr}
 use Rattle.sheet.specs.Module.{Module, read}
 use Rattle.state.specs.declared.State.{State}
+use Rattle.state.specs.State.{full, countersOf}
 use Rattle.state.specs.State.{Shaped}
 use Rattle.events.specs.declared.Inputs.{Inputs}
 use Rattle.events.specs.declared.Rested.{Rested}
@@ -45,12 +46,12 @@ pub record Stood (m : Module Expr) (st : State) (o : Moment) : Type 0 where
   pub shaped : Shaped st
   pub fit : Fits m st
   pub shows : Shows m st (o .left)
-  pub time : st .time ≡ o .time
-  pub count : st .count ≡ o .count
-  pub most : o .count ≤ 4294967295
+  pub time : st .counters .time ≡ o .time
+  pub count : st .counters .count ≡ o .count
+  pub most : o .count ≤ full
 
 -- It is packed again.
-pub packed-stood : {m : Module Expr} {st : State} {o : Moment} → Stood m st o → packed (o .left) (o .time) (o .count) ≡ st
+pub packed-stood : {m : Module Expr} {st : State} {o : Moment} → Stood m st o → packed (o .left) (countersOf (o .time) (o .count)) ≡ st
 packed-stood {o = o} z = packed-shows (z .shows) (o .time) (o .count) (z .time) (z .count)
 
 -- What the run after an instant leaves.
@@ -89,7 +90,7 @@ module _ (s : List ℕ) {m : Module Expr} {q : Plan} (w : PlanOf m q) (inputs-fi
           rw (inputs-fit a, busy-shows w st kept (o .left) (z .shows), ← (z .time))
           (ap (λ n. pick (inputsFit m a) n 25) (by (quiet m st)))
         where
-          by : (t : Bool) → pick (not t) 32 (spend (st .time)) ≡ pick t (spend (st .time)) 32
+          by : (t : Bool) → pick (not t) 32 (spend (st .counters .time)) ≡ pick t (spend (st .counters .time)) 32
           by true = refl
           by false = refl
 
@@ -109,18 +110,18 @@ module _ (s : List ℕ) {m : Module Expr} {q : Plan} (w : PlanOf m q) (inputs-fi
             let h = accepted-instant m st a x in
             fits-feed m (w .sound) st (z .shaped) (z .fit) a (h .0) (h .1)
 
-        room-before : Room (4294967295 - o .count) st
+        room-before : Room (full - o .count) st
         room-before = omega (arith, z .count, z .most)
 
-        room : Room (4294967295 - o .count) (fed st a)
+        room : Room (full - o .count) (fed st a)
         room = omega (arith, count-feed m st (inputOf a), z .count, z .most)
 
         pub fed-shows : Shows m (fed st a) (feed q (inputOf a) (o .left))
         fed-shows =
-            feed-timed-shows w st kept (4294967295 - o .count) room-before (o .left) (z .shows) (inputOf a) small
+            feed-timed-shows w st kept (full - o .count) room-before (o .left) (z .shows) (inputOf a) small
 
         rests : Rests m (rested st a) (runAfter q a o)
-        rests = runPlain-shows w 65535 (fed st a) (4294967295 - o .count) (feed q (inputOf a) (o .left)) fed-shaped fed-fits room fed-shows
+        rests = runPlain-shows w 65535 (fed st a) (full - o .count) (feed q (inputOf a) (o .left)) fed-shaped fed-fits room fed-shows
 
         pub after-stood : Stood m (rested st a .state) (after q a o)
         after-stood =
@@ -135,7 +136,7 @@ module _ (s : List ℕ) {m : Module Expr} {q : Plan} (w : PlanOf m q) (inputs-fi
               count =
                   count-runBy m (w .sound) (fed st a) fed-shaped (plainChoice m) 65535
                   ∙ (λ i. (count-feed m st (inputOf a) ∙ z .count) i + sym (rests .accepted) i);
-              most = omega (arith, plain-room q 65535 (4294967295 - o .count) (feed q (inputOf a) (o .left)), z .most);
+              most = omega (arith, plain-room q 65535 (full - o .count) (feed q (inputOf a) (o .left)), z .most);
             }
 
         pub phase-accepted : phaseAt q a o

@@ -10,6 +10,7 @@ use lib.ListN.{length}
 use borrow.Author.Tests.{ne-eqb, eq-eqb, le-leb, lt-leb}
 use Rattle.values.specs.Values.{pick}
 use Rattle.state.specs.declared.State.{State}
+use Rattle.state.specs.State.{full, countersOf}
 use Rattle.events.specs.declared.Inputs.{Inputs}
 use Rattle.events.specs.Calls.{inputOf}
 use Rattle.events.specs.Rows.{wholeRows}
@@ -36,7 +37,7 @@ module _ (q : Plan) (g : Going Moment) where
   -- ---- a draw
 
   pub draw-is : (seed items k room : ℕ) → seed ≡ nextSeed (g .seed) → items ≡ q .threads + q .wires → k ≡ drawnChoice seed items
-      → room ≡ 4294967295 - g .after .count
+      → room ≡ full - g .after .count
       → (n : ℕ) (d : Live) → taken n d ≡ takeChoice q room k (g .after .left) → (count : ℕ) → count ≡ counting n (g .after .count)
       → going 0 (eqb n 35) seed (moment d (g .after .time) count) ≡ draw (onPlan q) g
   unfolding draw
@@ -66,7 +67,7 @@ module _ (q : Plan) (g : Going Moment) where
 
   -- ---- to rest
 
-  pub plainly-is : (room : ℕ) → room ≡ 4294967295 - g .after .count → (a n : ℕ) (d : Live)
+  pub plainly-is : (room : ℕ) → room ≡ full - g .after .count → (a n : ℕ) (d : Live)
       → run a n d ≡ runPlain q plainMost room (g .after .left) → (t : Bool) → t ≡ busy d
       → going 0 (not t) (g .seed) (moment d (g .after .time) (g .after .count + a)) ≡ plainly (onPlan q) g
   unfolding plainly
@@ -140,7 +141,7 @@ module _ (q : Plan) (t : Bool) (inputs : ℕ → Inputs) (n p : ℕ) (g : Going 
 
 -- ---- the calls
 
-pub arrived-is : (p : ℕ) (g : Going Moment) (st : State) → st ≡ packed (g .after .left) (g .after .time) (g .after .count)
+pub arrived-is : (p : ℕ) (g : Going Moment) (st : State) → st ≡ packed (g .after .left) (countersOf (g .after .time) (g .after .count))
     → told p (g .number) (g .rested) (g .seed) st ≡ arrived stateAt (driven p g)
 unfolding arrived
 arrived-is p g st e = rw e refl

@@ -9,6 +9,7 @@ use lib.ListN.{length}
 use borrow.Author.Tests.{ne-eqb, eq-eqb}
 use Rattle.values.specs.Values.{pick}
 use Rattle.state.specs.declared.State.{State}
+use Rattle.state.specs.State.{full, countersOf}
 use Rattle.events.specs.declared.Inputs.{Inputs}
 use Rattle.events.specs.Calls.{spend, inputOf}
 use Rattle.events.specs.Rows.{wholeRows}
@@ -38,16 +39,16 @@ module _ (q : Plan) (a : Inputs) (o : Moment) where
     unfolding refusalAt
     refused-busy b = rw (f, b) refl
 
-    pub refused-full : busy (o .left) ≡ false → o .time ≡ 4294967295 → 36 ≡ refusalAt q a o
+    pub refused-full : busy (o .left) ≡ false → o .time ≡ full → 36 ≡ refusalAt q a o
     unfolding refusalAt spend
-    refused-full b e = rw (f, b, eq-eqb (o .time) 4294967295 e) refl
+    refused-full b e = rw (f, b, eq-eqb (o .time) full e) refl
 
-    pub refused-none : busy (o .left) ≡ false → (o .time ≡ 4294967295 → ⊥) → 0 ≡ refusalAt q a o
+    pub refused-none : busy (o .left) ≡ false → (o .time ≡ full → ⊥) → 0 ≡ refusalAt q a o
     unfolding refusalAt spend
-    refused-none b d = rw (f, b, ne-eqb (o .time) 4294967295 d) refl
+    refused-none b d = rw (f, b, ne-eqb (o .time) full d) refl
 
   -- An instant that is accepted finds room for one more in time.
-  pub time-room : refusalAt q a o ≡ 0 → o .time ≡ 4294967295 → ⊥
+  pub time-room : refusalAt q a o ≡ 0 → o .time ≡ full → ⊥
   unfolding refusalAt
   time-room h = zero-spend (o .time) (by (planInputsFit q a) (busy (o .left)) h)
     where
@@ -69,7 +70,7 @@ module _ (q : Plan) (a : Inputs) (o : Moment) (n : ℕ) (e : n ≡ refusalAt q a
   unfolding phaseAt
   phase-off d = rw (← e, ne-eqb n 0 d) refl
 
-  pub phase-on : n ≡ 0 → (l : Live) → l ≡ feed q (inputOf a) (o .left) → (room : ℕ) → room ≡ 4294967295 - o .count
+  pub phase-on : n ≡ 0 → (l : Live) → l ≡ feed q (inputOf a) (o .left) → (room : ℕ) → room ≡ full - o .count
       → (r : Run) → r ≡ runPlain q 65535 room l
       → phase (r .number) (not (eqb (r .number) 0)) (record { left = r .left; time = o .time + 1; count = o .count + r .accepted })
       ≡ phaseAt q a o
@@ -105,13 +106,13 @@ module _ (q : Plan) (inputs : ℕ → Inputs) (n p : ℕ) (o : Moment) where
 -- ---- the call
 
 pub laid-out : (q : Plan) (st : State) (k : Marks) (cs ns : List ℕ) → ns ≡ slotsOf st
-    → live cs (slotsOf st) (st .places) k ≡ unpacked q st → moment (live cs ns (st .places) k) (st .time) (st .count) ≡ laidOut q st
+    → live cs (slotsOf st) (st .places) k ≡ unpacked q st → moment (live cs ns (st .places) k) (st .counters .time) (st .counters .count) ≡ laidOut q st
 unfolding laidOut
 laid-out q st k cs ns e h =
-    ap (λ (l : Live). moment l (st .time) (st .count)) (ap (λ (xs : List ℕ). live cs xs (st .places) k) e ∙ h)
+    ap (λ (l : Live). moment l (st .counters .time) (st .counters .count)) (ap (λ (xs : List ℕ). live cs xs (st .places) k) e ∙ h)
 
 pub ended-course : (o : Moment) (c : Course) (p n : ℕ) (running : Bool) (st : State) → course p n running o ≡ c
-    → st ≡ packed (o .left) (o .time) (o .count) → cycled p n running st ≡ ended c
+    → st ≡ packed (o .left) (countersOf (o .time) (o .count)) → cycled p n running st ≡ ended c
 unfolding ended
 ended-course o c p n running st h e = rw (← h, e) refl
 

@@ -11,6 +11,7 @@ use lib.Seq.{sets}
 use borrow.Author.Tests.{eqb-true}
 use Rattle.state.specs.Saved.{listOf}
 use Rattle.state.specs.declared.State.{State}
+use Rattle.state.specs.State.{countersOf}
 use Rattle.state.proofs.Rows.{and-both, sets-append, length-listOf, getD-listOf, listOf-is, listOf-whole}
 use Rattle.events.specs.Rows.{wholeRows}
 use Rattle.plan_engine.specs.Live.{Live}
@@ -47,7 +48,7 @@ unfolding listOf
 listOf-on f l at k = sym (rw add-one (sets-append l at (listOf k f) (f k ∷ []) ∙ rw (length-listOf f k) refl))
 
 -- The row of a state that is packed, as it lies in cells and places.
-pub row-packed : (l : Live) (time count : ℕ) → rowOf (packed l time count) ≡ rowIn (l .cells) (l .places)
+pub row-packed : (l : Live) (time count : ℕ) → rowOf (packed l (countersOf time count)) ≡ rowIn (l .cells) (l .places)
 unfolding rowOf packed
 row-packed l time count =
     ap (λ (ws : List ℕ). ws ++ placesIn (l .places))
@@ -68,6 +69,6 @@ row-parts p w cs ps us vs e f =
     ∙ sym (sets-append w (88 * p) (wordsIn cs) (placesIn ps))
 
 pub row-written : (p : ℕ) (w : List ℕ) (l : Live) (time count : ℕ) (us : List ℕ) → us ≡ sets w (88 * p) (rowIn (l .cells) (l .places))
-    → us ≡ written p (packed l time count) w
+    → us ≡ written p (packed l (countersOf time count)) w
 unfolding written
 row-written p w l time count us e = e ∙ ap (sets w (88 * p)) (sym (row-packed l time count))

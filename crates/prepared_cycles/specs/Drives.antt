@@ -10,6 +10,7 @@ use Rattle.values.specs.Values.{pick}
 use Rattle.sheet.specs.Expression.{Expr}
 use Rattle.sheet.specs.Module.{Module, read}
 use Rattle.state.specs.declared.State.{State}
+use Rattle.state.specs.State.{full}
 use Rattle.events.specs.declared.Inputs.{Inputs}
 use Rattle.events.specs.declared.Verdict.{Verdict}
 use Rattle.events.specs.declared.Verdict.the-variants.{Quiet, Spent, Stopped, Refused}
@@ -207,11 +208,11 @@ onPlan q =
           (pick (eqb (refusalAt q a o) 0) (moment (feed q (calls.inputOf a) (o .left)) (o .time + 1) (o .count)) o);
       choose =
           λ o c.
-          let t = takeChoice q (4294967295 - o .count) c (o .left) in
+          let t = takeChoice q (full - o .count) c (o .left) in
           answer (t .number) (moment (t .left) (o .time) (counting (t .number) (o .count)));
       plain =
           λ o.
-          let r = runPlain q plainMost (4294967295 - o .count) (o .left) in
+          let r = runPlain q plainMost (full - o .count) (o .left) in
           resting (not (busy (r .left))) (moment (r .left) (o .time) (o .count + r .accepted));
       state = stateAt;
     }

@@ -8,6 +8,7 @@ use lib.Dec.{eqb}
 use lib.ListN.{length}
 use Rattle.values.specs.Values.{pick}
 use Rattle.state.specs.declared.State.{State}
+use Rattle.state.specs.State.{full, countersOf}
 use Rattle.events.specs.declared.Inputs.{Inputs}
 use Rattle.events.specs.Calls.{spend, inputOf}
 use Rattle.events.specs.Rows.{wholeRows}
@@ -37,7 +38,7 @@ momentOf cs ns ps s = moment (live cs ns ps (s .marks)) (s .time) (s .count)
 
 -- A state laid out.
 unfoldable pub laidOut : Plan → State → Moment
-laidOut q st = moment (unpacked q st) (st .time) (st .count)
+laidOut q st = moment (unpacked q st) (st .counters .time) (st .counters .count)
 
 -- ---- a phase
 
@@ -57,7 +58,7 @@ module _ (q : Plan) where
 
   -- The plain run after an instant.
   abbrev pub runAfter : Inputs → Moment → Run
-  runAfter a o = runPlain q 65535 (4294967295 - o .count) (feed q (inputOf a) (o .left))
+  runAfter a o = runPlain q 65535 (full - o .count) (feed q (inputOf a) (o .left))
 
   unfoldable pub phaseAt : Inputs → Moment → Phase
   phaseAt a o =
@@ -89,7 +90,7 @@ module _ (q : Plan) (inputs : ℕ → Inputs) where
 
 -- Where they end: the state packed again.
 unfoldable pub ended : Course → Cycled
-ended c = cycled (c .phases) (c .number) (c .running) (packed (c .after .left) (c .after .time) (c .after .count))
+ended c = cycled (c .phases) (c .number) (c .running) (packed (c .after .left) (countersOf (c .after .time) (c .after .count)))
 
 -- "31, 25", and then instant by instant.
 unfoldable pub cyclesAt : Plan → State → List ℕ → List Bool → Cycled

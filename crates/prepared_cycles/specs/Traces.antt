@@ -10,6 +10,7 @@ use lib.Seq.{sets}
 use Rattle.values.specs.Values.{pick}
 use Rattle.sheet.specs.Module.{read}
 use Rattle.state.specs.declared.State.{State}
+use Rattle.state.specs.State.{countersOf}
 use Rattle.state.specs.Saved.{listOf}
 use Rattle.events.specs.declared.Inputs.{Inputs}
 use Rattle.events.specs.Verdict.{numberOfVerdict}
@@ -81,7 +82,7 @@ abbrev pub rowIn : List ℕ → List ℕ → List ℕ
 rowIn cs ps = wordsIn cs ++ placesIn ps
 
 abbrev pub stateAt : Moment → State
-stateAt o = packed (o .left) (o .time) (o .count)
+stateAt o = packed (o .left) (countersOf (o .time) (o .count))
 
 module _ (q : Plan) (inputs : ℕ → Inputs) where
   unfoldable pub traceFromAt : ℕ → ℕ → Moment → List ℕ → List ℕ

@@ -6,8 +6,10 @@ use crate::phases::refusal;
 use events::Inputs;
 use plan::Cells;
 use plan::PlanTable;
+use state::FULL;
 ghost use mathlib.Core.Path.{_≡_};
-ghost use Prim.Native.Nat.{_+_, _≤_};
+ghost use Prim.Native.Nat.{_+_, _<_};
+ghost use Rattle.state.specs.State.{full};
 ghost use Rattle.plan.specs.Plan.{planOf};
 ghost use Rattle.prepared.specs.Prepared.{counting};
 ghost use Rattle.prepared_cycles.specs.Drives.{nextSeed, drawnChoice, drawnMost, goingOf, onPlan};
@@ -45,8 +47,8 @@ fn items(plan: &PlanTable) -> u64
 }
 
 // The count once a choice was answered by `number`.
-fn counted(number: u8, count: u32) -> u32
-    requires { ⌜ (number ≡ 0 → count ≤ 4294967294) ⌝ }
+fn counted(number: u8, count: u64) -> u64
+    requires { ⌜ (number ≡ 0 → count < full) ⌝ }
     ensures { λ r. ⌜ r ≡ counting number count ⌝ }
 {
     if number == 0 { count + 1 } else { count }
@@ -71,7 +73,7 @@ fn draw(
     let marks = s.marks;
     let seed = next_seed(g.seed);
     let c = drawn_choice(seed, items(plan));
-    let room = 4294967295 - s.count as u64;
+    let room = FULL - s.count;
     let t = plan_engine::take_choice(plan, cells, pending, places, marks, c as usize, room);
     let left = t.marks;
     let count = counted(t.number, s.count);
@@ -129,10 +131,10 @@ fn plainly(
 {
     let s = g.standing;
     let marks = s.marks;
-    let room = 4294967295 - s.count as u64;
+    let room = FULL - s.count;
     let run = plan_engine::run_plain(plan, cells, pending, places, marks, PLAIN_MOST, room);
     let left = run.marks;
-    let count = s.count + run.accepted as u32;
+    let count = s.count + run.accepted as u64;
     let rested = !plan_engine::busy(left);
     Went {
         number: 0,

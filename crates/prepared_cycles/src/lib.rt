@@ -9,6 +9,7 @@ mod traces;
 use plan::Cells;
 use plan::PlanTable;
 use plan_changes::Marks;
+use state::Counters;
 use state::State;
 ghost use mathlib.Core.Path.{_≡_};
 ghost use mathlib.Core.Bool.{true, false};
@@ -33,8 +34,8 @@ pub struct Cycled {
 // What goes along with the cells: the marks, the time and the count.
 pub struct Standing {
     pub marks: Marks,
-    pub time: u32,
-    pub count: u32,
+    pub time: u64,
+    pub count: u64,
 }
 
 // What a phase leaves: the number that stopped it, 0 where none did, whether a run was, and what goes along with the cells.
@@ -90,7 +91,11 @@ fn ended(
         ⌝ }
 {
     let marks = standing.marks;
-    let state = plan_state::pack(cells, pending, places, marks, standing.time, standing.count);
+    let counters = Counters {
+        time: standing.time,
+        count: standing.count,
+    };
+    let state = plan_state::pack(cells, pending, places, marks, counters);
     Cycled {
         phases,
         number,
@@ -115,8 +120,8 @@ fn run_phases(plan: &PlanTable, st: State, value: &[u32], unknown: &[bool]) -> C
     let mut places = st.places;
     let mut standing = Standing {
         marks,
-        time: st.time,
-        count: st.count,
+        time: st.counters.time,
+        count: st.counters.count,
     };
     let n = 2 * (value.len() / 16);
     let mut p: usize = 0;
@@ -176,8 +181,8 @@ fn trace_phases(
     let mut stood = st.places;
     let mut standing = Standing {
         marks,
-        time: st.time,
-        count: st.count,
+        time: st.counters.time,
+        count: st.counters.count,
     };
     let n = 2 * (value.len() / 16);
     let mut p: usize = 0;
@@ -246,7 +251,11 @@ fn arrived(cells: &Cells, pending: &[u64; 32], places: [u8; 8], g: Went, phases:
 {
     let standing = g.standing;
     let marks = standing.marks;
-    let state = plan_state::pack(cells, pending, places, marks, standing.time, standing.count);
+    let counters = Counters {
+        time: standing.time,
+        count: standing.count,
+    };
+    let state = plan_state::pack(cells, pending, places, marks, counters);
     Driven {
         phases,
         number: g.number,
@@ -273,8 +282,8 @@ fn run_to_rest(plan: &PlanTable, st: State, drawn: bool, seed: u64) -> Driven
         seed,
         standing: Standing {
             marks,
-            time: st.time,
-            count: st.count,
+            time: st.counters.time,
+            count: st.counters.count,
         },
     };
     let g = drives::to_rest(plan, &mut cells, &mut pending, &mut places, drawn, begun);
@@ -326,8 +335,8 @@ fn drive_phases(
         seed,
         standing: Standing {
             marks,
-            time: st.time,
-            count: st.count,
+            time: st.counters.time,
+            count: st.counters.count,
         },
     };
     let n = 2 * (value.len() / 16);

@@ -6,6 +6,7 @@ use events::Inputs;
 use plan::Cells;
 use plan::PlanTable;
 use plan_changes::Marks;
+use state::FULL;
 ghost use mathlib.Core.Path.{_≡_};
 ghost use mathlib.Core.List.{List};
 ghost use Prim.Native.Nat.{ℕ};
@@ -14,7 +15,7 @@ ghost use Rattle.plan_engine.specs.Live.{live};
 ghost use Rattle.prepared_cycles.specs.Phases.{moment, momentOf, phase, refusalAt, phaseAt};
 
 // The number of an instant, 0 where it is accepted.
-pub fn refusal(plan: &PlanTable, marks: Marks, time: u32, a: Inputs) -> u8
+pub fn refusal(plan: &PlanTable, marks: Marks, time: u64, a: Inputs) -> u8
     ensures { λ r. ⌜
         ((cs ns ps : List ℕ) (count : ℕ) →
         r ≡ refusalAt (planOf (now (plan .entry))) a (moment (live cs ns ps marks) time count))
@@ -26,7 +27,7 @@ pub fn refusal(plan: &PlanTable, marks: Marks, time: u32, a: Inputs) -> u8
     if plan_engine::busy(marks) {
         return 32;
     }
-    if time == 4294967295 { 36 } else { 0 }
+    if time == FULL { 36 } else { 0 }
 }
 
 // An instant, and the plain run after it.
@@ -55,11 +56,11 @@ pub fn phase(
         };
     }
     let fed = plan_engine::feed(plan, cells, pending, places, marks, &a.value, &a.unknown);
-    let room = 4294967295 - standing.count as u64;
+    let room = FULL - standing.count;
     let run = plan_engine::run_plain(plan, cells, pending, places, fed, 65535, room);
     let left = run.marks;
     let time = standing.time + 1;
-    let count = standing.count + run.accepted as u32;
+    let count = standing.count + run.accepted as u64;
     Phased {
         number: run.number,
         running: run.number != 0,

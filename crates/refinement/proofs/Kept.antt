@@ -11,8 +11,9 @@ use Rattle.values.specs.Planes.{valueAt}
 use Rattle.sheet.specs.Expression.{Expr}
 use Rattle.sheet.specs.Module.{Module}
 use Rattle.pseudocode.specs.Translation.{Instr}
+use Rattle.state.specs.declared.Counters.{Counters}
 use Rattle.state.specs.declared.State.{State}
-use Rattle.state.specs.State.{Shaped, withCounters, withValue, pendingOf, withoutPending, placeOf, isDue, withDue}
+use Rattle.state.specs.State.{Shaped, countersOf, withCounters, withValue, pendingOf, withoutPending, placeOf, isDue, withDue}
 use Rattle.state.proofs.Accessors.{shaped-withValue, place-withValue, due-withValue, pending-withValue}
 use Rattle.state.proofs.Accessors.{shaped-withoutPending, place-withoutPending, due-withoutPending}
 use Rattle.state.proofs.Accessors.{pending-withoutPending-other}
@@ -77,13 +78,13 @@ module _ {m : Module Expr} (w : Sound m) (i : ℕ) (h : i < length (m .threads))
 -- ---- each part set anew
 
 module _ {m : Module Expr} {st : State} (k : Kept m st) where
-  pub kept-withCounters : (t n : ℕ) → Kept m (withCounters st t n)
-  kept-withCounters t n =
+  pub kept-withCounters : (c : Counters) → Kept m (withCounters st c)
+  kept-withCounters c =
       record {
-        shaped = shaped-withCounters st t n (k .shaped);
-        places = λ i h. rw (place-withCounters st t n i) (k .places i h);
-        marks = λ j h. due-withCounters st t n j ∙ k .marks j h;
-        pending = λ r h. pending-withCounters st t n r ∙ k .pending r h;
+        shaped = shaped-withCounters st c (k .shaped);
+        places = λ i h. rw (place-withCounters st c i) (k .places i h);
+        marks = λ j h. due-withCounters st c j ∙ k .marks j h;
+        pending = λ r h. pending-withCounters st c r ∙ k .pending r h;
       }
 
   pub kept-withValue : (v : ℕ) (a : Value) → Kept m (withValue st v a)
@@ -115,8 +116,8 @@ module _ {m : Module Expr} {st : State} (k : Kept m st) where
 
   pub kept-counted : Kept m (counted st)
   unfolding counted
-  kept-counted = kept-withCounters (st .time) (st .count + 1)
+  kept-counted = kept-withCounters (countersOf (st .counters .time) (st .counters .count + 1))
 
   pub kept-timed : Kept m (timed st)
   unfolding timed
-  kept-timed = kept-withCounters (st .time + 1) (st .count)
+  kept-timed = kept-withCounters (countersOf (st .counters .time + 1) (st .counters .count))

@@ -9,6 +9,7 @@ use libc::STDIN_FILENO;
 use libc::STDOUT_FILENO;
 use nextstate::Clocked;
 use nextstate::Registers;
+use state::Counters;
 use state::State;
 ghost use Prim.Native.Nat.{_<_};
 ghost use Rattle.io.specs.Counts.{Counts};
@@ -189,8 +190,30 @@ fn say_picked(picked: u8) {
 }
 
 // A saved state in hexadecimal, without its form byte.
-fn say_state(bytes: &[u8; 641]) {
+fn say_state(bytes: &[u8; 649]) {
     say_hex(bytes, 1);
+}
+
+// The first bytes but one in hexadecimal.
+fn say_front(bytes: &[u8], n: usize) {
+    if n <= bytes.len() {
+        say_hex(&bytes[..n], 1);
+    }
+}
+
+// A saved state up to the low half of its time.
+fn say_short(bytes: &[u8; 649]) {
+    say_front(bytes, 637);
+}
+
+// The low half of a counter in hexadecimal.
+fn say_low(n: u64) {
+    let mut text = [0u8; 1024];
+    let a = put_hex((n % 256) as u8, &mut text, 0);
+    let b = put_hex((n / 256 % 256) as u8, &mut text, a);
+    let c = put_hex((n / 65536 % 256) as u8, &mut text, b);
+    let d = put_hex((n / 16777216 % 256) as u8, &mut text, c);
+    say_text(&text, d);
 }
 
 // The last line of a script that can't be read on.
@@ -338,12 +361,17 @@ fn do_list(sheet: &[u8]) -> bool {
     true
 }
 
-// `D`: the state.
-fn do_save(st: State) -> bool {
-    let mut bytes = [0u8; 641];
+// `D`: the state; in a script of form 1 with short counters, where these hold them.
+fn do_save(st: State, form: u8) -> bool {
+    let mut bytes = [0u8; 649];
     state::save(st, &mut bytes);
     say(b"state ");
-    say_state(&bytes);
+    if form == 1 && st.counters.time < 4294967296 && st.counters.count < 4294967296 {
+        say_short(&bytes);
+        say_low(st.counters.count);
+    } else {
+        say_state(&bytes);
+    }
     say(b"\n");
     true
 }
@@ -616,6 +644,25 @@ fn do_instant(sheet: &[u8], st: State) -> Next {
 
 // `L`: the state becomes this one, unjudged.
 fn do_load(st: State) -> Next {
+    let mut bytes = [0u8; 649];
+    bytes[0] = 2;
+    if !take(&mut bytes[1..]) {
+        return bad(st);
+    }
+    let l = state::load(&bytes);
+    if !l.found {
+        return bad(st);
+    }
+    say(b"load\n");
+    let loaded = l.state;
+    Next {
+        on: true,
+        state: loaded,
+    }
+}
+
+// `L` in a script of form 1.
+fn do_load_short(st: State) -> Next {
     let mut bytes = [0u8; 641];
     bytes[0] = 1;
     if !take(&mut bytes[1..]) {
@@ -633,14 +680,49 @@ fn do_load(st: State) -> Next {
     }
 }
 
+// `M`: a saved state of either form is brought over.
+fn do_bring(st: State) -> Next {
+    let mut count = [0u8; 2];
+    let mut bytes = [0u8; 65536];
+    if !take(&mut count) {
+        return bad(st);
+    }
+    let n = word(count[0], count[1]);
+    let got = take_some(&mut bytes, n);
+    if got < n {
+        return bad(st);
+    }
+    let l = state::load(&bytes[..got]);
+    if !l.found {
+        say_line(b"bring ", 31);
+        return Next {
+            on: true,
+            state: st,
+        };
+    }
+    say_line(b"bring ", 0);
+    let brought = l.state;
+    Next {
+        on: true,
+        state: brought,
+    }
+}
+
 // ---- the script
 
 // A record that leaves the state alone.
-fn told_of(letter: u8, sheet: &[u8], st: State, nodes: &mut [u16], rows: &mut [u16]) -> bool {
+fn told_of(
+    letter: u8,
+    sheet: &[u8],
+    st: State,
+    nodes: &mut [u16],
+    rows: &mut [u16],
+    form: u8,
+) -> bool {
     match letter {
         b'N' => do_read(sheet),
         b'Q' => do_list(sheet),
-        b'D' => do_save(st),
+        b'D' => do_save(st, form),
         b'X' => do_extract(sheet, nodes, rows),
         b'T' => do_tables(nodes, rows),
         b'W' => do_word(nodes, rows),
@@ -652,7 +734,7 @@ fn told_of(letter: u8, sheet: &[u8], st: State, nodes: &mut [u16], rows: &mut [u
 }
 
 // One record. The end of the script stands where a letter could.
-fn record(sheet: &[u8], st: State, nodes: &mut [u16], rows: &mut [u16]) -> Next {
+fn record(sheet: &[u8], st: State, nodes: &mut [u16], rows: &mut [u16], form: u8) -> Next {
     let mut letter = [0u8; 1];
     if !take(&mut letter) {
         return Next {
@@ -666,9 +748,14 @@ fn record(sheet: &[u8], st: State, nodes: &mut [u16], rows: &mut [u16]) -> Next 
         b'R' => do_run(sheet, st),
         b'P' => do_plain(sheet, st),
         b'I' => do_instant(sheet, st),
-        b'L' => do_load(st),
+        b'L' => if form == 1 {
+            do_load_short(st)
+        } else {
+            do_load(st)
+        },
+        b'M' => if form == 1 { bad(st) } else { do_bring(st) },
         _ => Next {
-            on: told_of(letter[0], sheet, st, nodes, rows),
+            on: told_of(letter[0], sheet, st, nodes, rows, form),
             state: st,
         },
     }
@@ -684,14 +771,13 @@ fn zero() -> State {
         held: [false; 32],
         places: [0u8; 8],
         due: [false; 32],
-        time: 0,
-        count: 0,
+        counters: Counters { time: 0, count: 0 },
     }
 }
 
 // All records, on tables whose words are all 43690 at first. A proved loop has to end, and nothing says that a script does: so it
 // counts its turns down, from a number that no run uses up.
-fn records(sheet: &[u8]) {
+fn records(sheet: &[u8], form: u8) {
     let mut nodes = [43690u16; 16385];
     let mut rows = [43690u16; 1057];
     let mut next = Next {
@@ -701,24 +787,25 @@ fn records(sheet: &[u8]) {
     let mut turns = u64::MAX;
     while turns > 0 && next.on {
         let st = next.state;
-        next = record(sheet, st, &mut nodes, &mut rows);
+        next = record(sheet, st, &mut nodes, &mut rows, form);
         turns -= 1;
     }
 }
 
-// The head: the form, 1 for this one, the sheet's length and the sheet.
+// The head: the form, 2, or 1 with short counters, the sheet's length and the sheet.
 fn main() {
     let mut head = [0u8; 3];
     let mut sheet = [0u8; 65536];
-    if !take(&mut head) || head[0] != 1 {
+    if !take(&mut head) || head[0] < 1 || head[0] > 2 {
         say(b"bad script\n");
         return;
     }
+    let form = head[0];
     let n = word(head[1], head[2]);
     let got = take_some(&mut sheet, n);
     if got < n {
         say(b"bad script\n");
         return;
     }
-    records(&sheet[..got]);
+    records(&sheet[..got], form);
 }

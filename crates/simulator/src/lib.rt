@@ -6,6 +6,7 @@ use events::Inputs;
 use events::Ran;
 use events::Rested;
 use events::Verdict;
+use state::Counters;
 use state::State;
 ghost use mathlib.Core.Path.{_≡_};
 ghost use Rattle.events.specs.Calls.{dueBelow, started, start, choose, runList, runPlain, instant};
@@ -37,8 +38,7 @@ fn started(wires: u8) -> State
         held: [false; 32],
         places: [0u8; 8],
         due: due_below(wires),
-        time: 0,
-        count: 0,
+        counters: Counters { time: 0, count: 0 },
     }
 }
 

@@ -17,6 +17,7 @@ use lib.Seq.{getD-set-same, getD-set-other}
 use Rattle.values.specs.declared.Value.{Value}
 use Rattle.values.specs.Planes.{numberOf, isUnknown}
 use Rattle.values.proofs.Planes.{valueAt-set-same, valueAt-set-other}
+use Rattle.state.specs.declared.Counters.{Counters}
 use Rattle.state.specs.declared.State.{State}
 use Rattle.state.specs.State.{Shaped, Bounded, withPlanes, withSlots, withPlaces, withMarks, withCounters}
 use Rattle.state.specs.State.{valueOf, withValue, pendingOf, withPending, withoutPending}
@@ -60,8 +61,8 @@ bounded-good st g =
 pub state-same :
     (s t : State) → s .value ≡ t .value → s .unknown ≡ t .unknown → s .pending ≡ t .pending →
     s .unsure ≡ t .unsure → s .held ≡ t .held → s .places ≡ t .places → s .due ≡ t .due →
-    s .time ≡ t .time → s .count ≡ t .count → s ≡ t
-state-same s t a b c d e f g h k =
+    s .counters ≡ t .counters → s ≡ t
+state-same s t a b c d e f g h =
     λ i.
     record {
       value = a i;
@@ -71,8 +72,7 @@ state-same s t a b c d e f g h k =
       held = e i;
       places = f i;
       due = g i;
-      time = h i;
-      count = k i;
+      counters = h i;
     }
 
 -- ---- what is set is read: the same slot, and another
@@ -143,13 +143,9 @@ module _ (st : State) (ns : List ℕ) (xs : List Bool) where
   unfolding isDue withPlanes
   due-withPlanes l = refl
 
-  pub time-withPlanes : withPlanes st ns xs .time ≡ st .time
+  pub counters-withPlanes : withPlanes st ns xs .counters ≡ st .counters
   unfolding withPlanes
-  time-withPlanes = refl
-
-  pub count-withPlanes : withPlanes st ns xs .count ≡ st .count
-  unfolding withPlanes
-  count-withPlanes = refl
+  counters-withPlanes = refl
 
 module _ (st : State) (v : ℕ) (a : Value) where
   pub pending-withValue : (q : ℕ) → pendingOf (withValue st v a) q ≡ pendingOf st q
@@ -164,13 +160,9 @@ module _ (st : State) (v : ℕ) (a : Value) where
   unfolding isDue withValue withPlanes
   due-withValue l = refl
 
-  pub time-withValue : withValue st v a .time ≡ st .time
+  pub counters-withValue : withValue st v a .counters ≡ st .counters
   unfolding withValue withPlanes
-  time-withValue = refl
-
-  pub count-withValue : withValue st v a .count ≡ st .count
-  unfolding withValue withPlanes
-  count-withValue = refl
+  counters-withValue = refl
 
 module _ (st : State) (ns : List ℕ) (xs hs : List Bool) where
   pub value-withSlots : (u : ℕ) → valueOf (withSlots st ns xs hs) u ≡ valueOf st u
@@ -185,13 +177,9 @@ module _ (st : State) (ns : List ℕ) (xs hs : List Bool) where
   unfolding isDue withSlots
   due-withSlots l = refl
 
-  pub time-withSlots : withSlots st ns xs hs .time ≡ st .time
+  pub counters-withSlots : withSlots st ns xs hs .counters ≡ st .counters
   unfolding withSlots
-  time-withSlots = refl
-
-  pub count-withSlots : withSlots st ns xs hs .count ≡ st .count
-  unfolding withSlots
-  count-withSlots = refl
+  counters-withSlots = refl
 
 module _ (st : State) (r : ℕ) (a : Value) where
   pub value-withPending : (u : ℕ) → valueOf (withPending st r a) u ≡ valueOf st u
@@ -206,13 +194,9 @@ module _ (st : State) (r : ℕ) (a : Value) where
   unfolding isDue withPending withSlots
   due-withPending l = refl
 
-  pub time-withPending : withPending st r a .time ≡ st .time
+  pub counters-withPending : withPending st r a .counters ≡ st .counters
   unfolding withPending withSlots
-  time-withPending = refl
-
-  pub count-withPending : withPending st r a .count ≡ st .count
-  unfolding withPending withSlots
-  count-withPending = refl
+  counters-withPending = refl
 
 module _ (st : State) (r : ℕ) where
   pub value-withoutPending : (u : ℕ) → valueOf (withoutPending st r) u ≡ valueOf st u
@@ -227,13 +211,9 @@ module _ (st : State) (r : ℕ) where
   unfolding isDue withoutPending withSlots
   due-withoutPending l = refl
 
-  pub time-withoutPending : withoutPending st r .time ≡ st .time
+  pub counters-withoutPending : withoutPending st r .counters ≡ st .counters
   unfolding withoutPending withSlots
-  time-withoutPending = refl
-
-  pub count-withoutPending : withoutPending st r .count ≡ st .count
-  unfolding withoutPending withSlots
-  count-withoutPending = refl
+  counters-withoutPending = refl
 
 module _ (st : State) (ps : List ℕ) where
   pub value-withPlaces : (u : ℕ) → valueOf (withPlaces st ps) u ≡ valueOf st u
@@ -248,13 +228,9 @@ module _ (st : State) (ps : List ℕ) where
   unfolding isDue withPlaces
   due-withPlaces l = refl
 
-  pub time-withPlaces : withPlaces st ps .time ≡ st .time
+  pub counters-withPlaces : withPlaces st ps .counters ≡ st .counters
   unfolding withPlaces
-  time-withPlaces = refl
-
-  pub count-withPlaces : withPlaces st ps .count ≡ st .count
-  unfolding withPlaces
-  count-withPlaces = refl
+  counters-withPlaces = refl
 
 module _ (st : State) (i p : ℕ) where
   pub value-withPlace : (u : ℕ) → valueOf (withPlace st i p) u ≡ valueOf st u
@@ -269,13 +245,9 @@ module _ (st : State) (i p : ℕ) where
   unfolding isDue withPlace withPlaces
   due-withPlace l = refl
 
-  pub time-withPlace : withPlace st i p .time ≡ st .time
+  pub counters-withPlace : withPlace st i p .counters ≡ st .counters
   unfolding withPlace withPlaces
-  time-withPlace = refl
-
-  pub count-withPlace : withPlace st i p .count ≡ st .count
-  unfolding withPlace withPlaces
-  count-withPlace = refl
+  counters-withPlace = refl
 
 module _ (st : State) (ds : List Bool) where
   pub value-withMarks : (u : ℕ) → valueOf (withMarks st ds) u ≡ valueOf st u
@@ -290,13 +262,9 @@ module _ (st : State) (ds : List Bool) where
   unfolding placeOf withMarks
   place-withMarks j = refl
 
-  pub time-withMarks : withMarks st ds .time ≡ st .time
+  pub counters-withMarks : withMarks st ds .counters ≡ st .counters
   unfolding withMarks
-  time-withMarks = refl
-
-  pub count-withMarks : withMarks st ds .count ≡ st .count
-  unfolding withMarks
-  count-withMarks = refl
+  counters-withMarks = refl
 
 module _ (st : State) (k : ℕ) (b : Bool) where
   pub value-withDue : (u : ℕ) → valueOf (withDue st k b) u ≡ valueOf st u
@@ -311,38 +279,30 @@ module _ (st : State) (k : ℕ) (b : Bool) where
   unfolding placeOf withDue withMarks
   place-withDue j = refl
 
-  pub time-withDue : withDue st k b .time ≡ st .time
+  pub counters-withDue : withDue st k b .counters ≡ st .counters
   unfolding withDue withMarks
-  time-withDue = refl
+  counters-withDue = refl
 
-  pub count-withDue : withDue st k b .count ≡ st .count
-  unfolding withDue withMarks
-  count-withDue = refl
-
-module _ (st : State) (t n : ℕ) where
-  pub value-withCounters : (u : ℕ) → valueOf (withCounters st t n) u ≡ valueOf st u
+module _ (st : State) (c : Counters) where
+  pub value-withCounters : (u : ℕ) → valueOf (withCounters st c) u ≡ valueOf st u
   unfolding valueOf withCounters
   value-withCounters u = refl
 
-  pub pending-withCounters : (q : ℕ) → pendingOf (withCounters st t n) q ≡ pendingOf st q
+  pub pending-withCounters : (q : ℕ) → pendingOf (withCounters st c) q ≡ pendingOf st q
   unfolding pendingOf withCounters
   pending-withCounters q = refl
 
-  pub place-withCounters : (j : ℕ) → placeOf (withCounters st t n) j ≡ placeOf st j
+  pub place-withCounters : (j : ℕ) → placeOf (withCounters st c) j ≡ placeOf st j
   unfolding placeOf withCounters
   place-withCounters j = refl
 
-  pub due-withCounters : (l : ℕ) → isDue (withCounters st t n) l ≡ isDue st l
+  pub due-withCounters : (l : ℕ) → isDue (withCounters st c) l ≡ isDue st l
   unfolding isDue withCounters
   due-withCounters l = refl
 
-  pub time-withCounters : withCounters st t n .time ≡ t
+  pub counters-withCounters : withCounters st c .counters ≡ c
   unfolding withCounters
-  time-withCounters = refl
-
-  pub count-withCounters : withCounters st t n .count ≡ n
-  unfolding withCounters
-  count-withCounters = refl
+  counters-withCounters = refl
 
 -- ---- each setter keeps the lengths
 
@@ -472,8 +432,8 @@ module _ (st : State) (k : ℕ) (b : Bool) where
         due = length-set (st .due) k b ∙ s .due;
       }
 
-module _ (st : State) (t n : ℕ) where
-  pub shaped-withCounters : Shaped st → Shaped (withCounters st t n)
+module _ (st : State) (c : Counters) where
+  pub shaped-withCounters : Shaped st → Shaped (withCounters st c)
   unfolding withCounters
   shaped-withCounters s =
       record {

@@ -1,37 +1,36 @@
 -- The parts of a state at their places in bytes: what both directions of the theorem on saved states are said in.
 -- Assumes nothing.
-use mathlib.Core.Path.{_≡_, sym, _∙_}
+use mathlib.Core.Path.{_≡_, refl, _∙_}
 use mathlib.Core.Bool.{true, false, _&&_}
 use mathlib.Core.List.{List, _∷_, _++_}
 use Prim.Native.Nat.{ℕ, _+_, _*_, _<_}
 use native.Mathlib.Omega.{arith}
 use lib.ListN.{length, getD, length-append}
-use lib.Seq.{sets}
 use borrow.Author.Tests.{eqb-true, eq-eqb}
 use Rattle.sheet.specs.Reading.{wordOf}
+use Rattle.state.specs.declared.Counters.{Counters}
 use Rattle.state.specs.declared.State.{State}
 use Rattle.state.specs.State.{Shaped, Bounded}
 use Rattle.state.specs.Saved.{flagByte, wordBytes, valueRow, slotRow, placeRow, markRow}
-use Rattle.state.specs.Saved.{valueBytes, slotBytes, placeBytes, markBytes, saved}
-use Rattle.state.specs.Saved.{Bytes, isFlag, flagAt, valueFlags, slotFlags, markFlags, isSaved, stateIn}
+use Rattle.state.specs.Saved.{valueBytes, slotBytes, placeBytes, markBytes, body}
+use Rattle.state.specs.Saved.{Bytes, isFlag, flagAt, valueFlags, slotFlags, markFlags, bodyFlags, isForm, stateIn}
 use Rattle.state.proofs.Accessors.{state-same}
-use Rattle.state.proofs.Rows.{sets-whole, getD-listOf, listOf-is, and-both, allBelow-each, each-allBelow}
+use Rattle.state.proofs.Rows.{getD-listOf, listOf-is, and-both, allBelow-each, each-allBelow}
 use Rattle.state.proofs.Rows.{Stands, stands-nil, stands-cons, stands-head, stands-tail, stands-append}
 use Rattle.state.proofs.Rows.{stands-left, stands-right, stands-row, rows-stand}
-use Rattle.state.proofs.Stores.{length-word, length-value, length-values, length-slot, length-slots}
+use Rattle.state.proofs.Stores.{length-value, length-values, length-slot, length-slots}
 use Rattle.state.proofs.Stores.{length-place, length-places, length-mark, length-marks}
 use Rattle.state.proofs.Bytes.{stands-word, word-stands, flagAt-byte, isFlag-byte, byte-flagAt}
 
-pub record Laid (b : List ℕ) (st : State) : Type 0 where
-  pub form : getD b 0 0 ≡ 1
+-- A state's parts after the number of a form; a form's tail stands from 633 on.
+pub record Laid (form : ℕ) (b : List ℕ) (st : State) : Type 0 where
+  pub first : getD b 0 0 ≡ form
   pub values : Stands b 1 (valueBytes (st .value) (st .unknown))
   pub slots : Stands b 401 (slotBytes (st .held) (st .pending) (st .unsure))
   pub places : Stands b 593 (placeBytes (st .places))
   pub marks : Stands b 601 (markBytes (st .due))
-  pub time : Stands b 633 (wordBytes (st .time))
-  pub count : Stands b 637 (wordBytes (st .count))
 
--- ---- the saved form, cut into its parts
+-- ---- a form, cut into its parts
 
 module _ (st : State) where
   abbrev vs : List ℕ
@@ -46,66 +45,53 @@ module _ (st : State) where
   abbrev ms : List ℕ
   ms = markBytes (st .due)
 
-  abbrev ts : List ℕ
-  ts = wordBytes (st .time)
-
-  abbrev cs : List ℕ
-  cs = wordBytes (st .count)
-
-  to-slots : length (1 ∷ vs) ≡ 401
+  to-slots : 1 + length vs ≡ 401
   to-slots = rw (length-values (st .value) (st .unknown))
 
-  to-places : length (1 ∷ vs ++ ss) ≡ 593
-  to-places = length-append (1 ∷ vs) ss ∙ rw (to-slots, length-slots (st .held) (st .pending) (st .unsure))
+  to-places : 1 + length (vs ++ ss) ≡ 593
+  to-places =
+      rw (length-append vs ss, length-values (st .value) (st .unknown), length-slots (st .held) (st .pending) (st .unsure))
 
-  to-marks : length (1 ∷ vs ++ ss ++ ps) ≡ 601
-  to-marks = length-append (1 ∷ vs ++ ss) ps ∙ rw (to-places, length-places (st .places))
+  to-marks : 1 + length (vs ++ ss ++ ps) ≡ 601
+  to-marks = rw (length-append (vs ++ ss) ps, length-places (st .places)) (omega (arith, to-places))
 
-  to-time : length (1 ∷ vs ++ ss ++ ps ++ ms) ≡ 633
-  to-time = length-append (1 ∷ vs ++ ss ++ ps) ms ∙ rw (to-marks, length-marks (st .due))
+  length-body : length (body st) ≡ 632
+  unfolding body
+  length-body = rw (length-append (vs ++ ss ++ ps) ms, length-marks (st .due)) (omega (arith, to-marks))
 
-  to-count : length (1 ∷ vs ++ ss ++ ps ++ ms ++ ts) ≡ 637
-  to-count = length-append (1 ∷ vs ++ ss ++ ps ++ ms) ts ∙ rw (to-time, length-word (st .time))
+  module _ (form : ℕ) (t : List ℕ) where
+    pub length-form : length (form ∷ body st ++ t) ≡ 633 + length t
+    length-form = length-append (form ∷ body st) t ∙ rw length-body
 
-  pub length-saved : length (saved st) ≡ 641
-  unfolding saved
-  length-saved = length-append (1 ∷ vs ++ ss ++ ps ++ ms ++ ts) cs ∙ rw (to-count, length-word (st .count))
+    module _ (b : List ℕ) where
+      pub form-laid : Stands b 0 (form ∷ body st ++ t) → Laid form b st × Stands b 633 t
+      unfolding body
+      form-laid s =
+          let h = stands-left (form ∷ body st) t s in
+          let c = stands-tail h in
+          let d = stands-left (vs ++ ss ++ ps) ms c in
+          let e = stands-left (vs ++ ss) ps d in (
+            record {
+              first = stands-head h;
+              values = stands-left vs ss e;
+              slots = rw to-slots at (stands-right vs ss e);
+              places = rw to-places at (stands-right (vs ++ ss) ps d);
+              marks = rw to-marks at (stands-right (vs ++ ss ++ ps) ms c);
+            },
+            rw length-body at (stands-right (form ∷ body st) t s),
+          )
 
-  -- a buffer of so many bytes holds nothing else after the stores of `save`
-  pub sets-saved : (l : List ℕ) → length l ≡ 641 → sets l 0 (saved st) ≡ saved st
-  sets-saved l e = sets-whole l (saved st) (e ∙ sym length-saved)
+      pub laid-form : Laid form b st → Stands b 633 t → Stands b 0 (form ∷ body st ++ t)
+      unfolding body
+      laid-form l s =
+          let c = stands-append vs ss (l .values) (rw to-slots (l .slots)) in
+          let d = stands-append (vs ++ ss) ps c (rw to-places (l .places)) in
+          let e = stands-append (vs ++ ss ++ ps) ms d (rw to-marks (l .marks)) in
+          stands-append (form ∷ body st) t (stands-cons (l .first) e) (rw length-body s)
 
-  module _ (b : List ℕ) where
-    pub saved-laid : Stands b 0 (saved st) → Laid b st
-    unfolding saved
-    saved-laid s =
-        let c = stands-left (1 ∷ vs ++ ss ++ ps ++ ms ++ ts) cs s in
-        let d = stands-left (1 ∷ vs ++ ss ++ ps ++ ms) ts c in
-        let e = stands-left (1 ∷ vs ++ ss ++ ps) ms d in
-        let f = stands-left (1 ∷ vs ++ ss) ps e in
-        let g = stands-left (1 ∷ vs) ss f in
-        record {
-          form = stands-head g;
-          values = stands-tail g;
-          slots = rw to-slots at (stands-right (1 ∷ vs) ss f);
-          places = rw to-places at (stands-right (1 ∷ vs ++ ss) ps e);
-          marks = rw to-marks at (stands-right (1 ∷ vs ++ ss ++ ps) ms d);
-          time = rw to-time at (stands-right (1 ∷ vs ++ ss ++ ps ++ ms) ts c);
-          count = rw to-count at (stands-right (1 ∷ vs ++ ss ++ ps ++ ms ++ ts) cs s);
-        }
+-- ---- bytes in which a state is laid are of the form, and the state in them is that state
 
-    pub laid-saved : Laid b st → Stands b 0 (saved st)
-    unfolding saved
-    laid-saved l =
-        let c = stands-append (1 ∷ vs) ss (stands-cons (l .form) (l .values)) (rw to-slots (l .slots)) in
-        let d = stands-append (1 ∷ vs ++ ss) ps c (rw to-places (l .places)) in
-        let e = stands-append (1 ∷ vs ++ ss ++ ps) ms d (rw to-marks (l .marks)) in
-        let f = stands-append (1 ∷ vs ++ ss ++ ps ++ ms) ts e (rw to-time (l .time)) in
-        stands-append (1 ∷ vs ++ ss ++ ps ++ ms ++ ts) cs f (rw to-count (l .count))
-
--- ---- bytes in which a state is laid are its saved form, and the state in them is that state
-
-module _ (b : List ℕ) (st : State) (l : Laid b st) where
+module _ (form : ℕ) (b : List ℕ) (st : State) (l : Laid form b st) where
   value-at : (v : ℕ) → v < 80
       → Stands b (1 + 5 * v) (flagByte (getD (st .unknown) v false) ∷ wordBytes (getD (st .value) v 0))
   unfolding valueBytes valueRow
@@ -153,16 +139,16 @@ module _ (b : List ℕ) (st : State) (l : Laid b st) where
       let e : 601 + 1 * k ≡ 601 + k = omega arith in
       rw e at (stands-head (stands-row 1 (markRow (st .due)) (length-mark (st .due)) b 601 32 (l .marks) k h))
 
-  pub laid-isSaved : length b ≡ 641 → isSaved b ≡ true
-  unfolding isSaved valueFlags slotFlags markFlags
-  laid-isSaved e =
+  pub laid-isForm : (size : ℕ) → length b ≡ size → isForm form size b ≡ true
+  unfolding isForm bodyFlags valueFlags slotFlags markFlags
+  laid-isForm size e =
       let v = each-allBelow (λ v. isFlag b (1 + 5 * v)) 80 (λ v h. isFlag-byte b (1 + 5 * v) _ (unknown-at v h)) in
       let s = each-allBelow (λ r. isFlag b (401 + 6 * r) && isFlag b (402 + 6 * r)) 32
       (λ r h. rw (isFlag-byte b (401 + 6 * r) _ (held-at r h)) (isFlag-byte b (402 + 6 * r) _ (unsure-at r h))) in
       let m = each-allBelow (λ k. isFlag b (601 + k)) 32 (λ k h. isFlag-byte b (601 + k) _ (due-at k h)) in
-      rw (eq-eqb (length b) 641 e, eq-eqb (getD b 0 0) 1 (l .form), v, s) m
+      rw (eq-eqb (length b) size e, eq-eqb (getD b 0 0) form (l .first), v, s) m
 
-  pub laid-stateIn : Shaped st → Bounded st → stateIn b ≡ st
+  pub laid-stateIn : Shaped st → Bounded st → stateIn b (st .counters) ≡ st
   unfolding stateIn
   laid-stateIn s n =
       state-same _ _
@@ -173,39 +159,38 @@ module _ (b : List ℕ) (st : State) (l : Laid b st) where
       (listOf-is _ (st .held) false 32 (s .held) (λ r h. flagAt-byte b (401 + 6 * r) _ (held-at r h)))
       (listOf-is _ (st .places) 0 8 (s .places) place-at)
       (listOf-is _ (st .due) false 32 (s .due) (λ k h. flagAt-byte b (601 + k) _ (due-at k h)))
-      (stands-word b 633 (st .time) (n .time) (l .time))
-      (stands-word b 637 (st .count) (n .count) (l .count))
+      refl
 
--- ---- in bytes that are a saved form the state in them is laid
+-- ---- in bytes of a form the state in them is laid
 
-pub record Flags (b : List ℕ) : Type 0 where
-  pub whole : length b ≡ 641
-  pub form : getD b 0 0 ≡ 1
+pub record Flags (form size : ℕ) (b : List ℕ) : Type 0 where
+  pub whole : length b ≡ size
+  pub first : getD b 0 0 ≡ form
   pub unknown : (v : ℕ) → v < 80 → isFlag b (1 + 5 * v) ≡ true
   pub held : (r : ℕ) → r < 32 → isFlag b (401 + 6 * r) ≡ true
   pub unsure : (r : ℕ) → r < 32 → isFlag b (402 + 6 * r) ≡ true
   pub due : (k : ℕ) → k < 32 → isFlag b (601 + k) ≡ true
 
-pub isSaved-flags : (b : List ℕ) → isSaved b ≡ true → Flags b
-unfolding isSaved valueFlags slotFlags markFlags
-isSaved-flags b h =
-    let m = and-both _ _ h in
-    let s = and-both _ _ (m .0) in
-    let v = and-both _ _ (s .0) in
-    let f = and-both _ _ (v .0) in
-    let slot = allBelow-each (λ r. isFlag b (401 + 6 * r) && isFlag b (402 + 6 * r)) 32 (s .1) in
+pub isForm-flags : (form size : ℕ) (b : List ℕ) → isForm form size b ≡ true → Flags form size b
+unfolding isForm bodyFlags valueFlags slotFlags markFlags
+isForm-flags form size b h =
+    let c = and-both _ _ h in
+    let f = and-both _ _ (c .0) in
+    let m = and-both _ _ (c .1) in
+    let v = and-both _ _ (m .0) in
+    let slot = allBelow-each (λ r. isFlag b (401 + 6 * r) && isFlag b (402 + 6 * r)) 32 (v .1) in
     record {
-      whole = eqb-true (length b) 641 (f .0);
-      form = eqb-true (getD b 0 0) 1 (f .1);
-      unknown = allBelow-each (λ v. isFlag b (1 + 5 * v)) 80 (v .1);
+      whole = eqb-true (length b) size (f .0);
+      first = eqb-true (getD b 0 0) form (f .1);
+      unknown = allBelow-each (λ v. isFlag b (1 + 5 * v)) 80 (v .0);
       held = λ r l. and-both (isFlag b (401 + 6 * r)) (isFlag b (402 + 6 * r)) (slot r l) .0;
       unsure = λ r l. and-both (isFlag b (401 + 6 * r)) (isFlag b (402 + 6 * r)) (slot r l) .1;
       due = allBelow-each (λ k. isFlag b (601 + k)) 32 (m .1);
     }
 
-module _ (b : List ℕ) (bytes : Bytes b) (f : Flags b) where
+module _ (form size : ℕ) (b : List ℕ) (bytes : Bytes b) (f : Flags form size b) (c : Counters) where
   abbrev st : State
-  st = stateIn b
+  st = stateIn b c
 
   value-stands : (v : ℕ) → v < 80 → Stands b (1 + 5 * v) (valueRow (st .value) (st .unknown) v)
   unfolding stateIn valueRow
@@ -240,17 +225,15 @@ module _ (b : List ℕ) (bytes : Bytes b) (f : Flags b) where
       rw (getD-listOf (λ k. flagAt b (601 + k)) 32 k false h)
       (stands-cons (rw e (byte-flagAt b (601 + k) (f .due k h))) stands-nil)
 
-  pub stateIn-laid : Laid b st
+  pub stateIn-laid : Laid form b st
   unfolding stateIn valueBytes slotBytes placeBytes markBytes
   stateIn-laid =
       record {
-        form = f .form;
+        first = f .first;
         values = rows-stand 5 (valueRow (st .value) (st .unknown)) (length-value (st .value) (st .unknown))
             b 1 80 value-stands;
         slots = rows-stand 6 (slotRow (st .held) (st .pending) (st .unsure))
             (length-slot (st .held) (st .pending) (st .unsure)) b 401 32 slot-stands;
         places = rows-stand 1 (placeRow (st .places)) (length-place (st .places)) b 593 8 place-stands;
         marks = rows-stand 1 (markRow (st .due)) (length-mark (st .due)) b 601 32 mark-stands;
-        time = word-stands b 633 bytes;
-        count = word-stands b 637 bytes;
       }

@@ -8,8 +8,8 @@ use native.Mathlib.Omega.{arith}
 use lib.ListN.{length, getD, set, length-append}
 use lib.Seq.{sets}
 use Rattle.state.specs.declared.State.{State}
-use Rattle.state.specs.Saved.{rows, flagByte, wordBytes, valueRow, slotRow, placeRow, markRow}
-use Rattle.state.specs.Saved.{valueBytes, slotBytes, placeBytes, markBytes, saved}
+use Rattle.state.specs.Saved.{rows, flagByte, wordBytes, longBytes, valueRow, slotRow, placeRow, markRow}
+use Rattle.state.specs.Saved.{valueBytes, slotBytes, placeBytes, markBytes, body, tail, saved}
 use Rattle.state.proofs.Rows.{sets-append, length-rows, rows-step}
 
 -- ---- four bytes of a number
@@ -23,6 +23,20 @@ pub word-sets : (l : List ℕ) (at n : ℕ)
     ≡ sets l at (wordBytes n)
 unfolding wordBytes
 word-sets l at n = rw (add-one, add-two, add-three)
+
+-- ---- eight bytes
+
+pub length-long : (n : ℕ) → length (longBytes n) ≡ 8
+unfolding longBytes
+length-long n =
+    length-append (wordBytes (n % 4294967296)) (wordBytes (n / 4294967296))
+    ∙ rw (length-word (n % 4294967296), length-word (n / 4294967296))
+
+pub long-sets : (l : List ℕ) (at n : ℕ)
+    → sets (sets l at (wordBytes (n % 4294967296))) (at + 4) (wordBytes (n / 4294967296)) ≡ sets l at (longBytes n)
+unfolding longBytes
+long-sets l at n =
+    sym (sets-append l at (wordBytes (n % 4294967296)) (wordBytes (n / 4294967296)) ∙ rw (length-word (n % 4294967296)) refl)
 
 -- ---- values
 
@@ -109,24 +123,24 @@ module _ (ds : List Bool) where
 
 -- ---- the whole: parts of the lengths that the form has, one after the other
 
-join : (l vs ss ps ms ts cs : List ℕ)
-    → length vs ≡ 400 → length ss ≡ 192 → length ps ≡ 8 → length ms ≡ 32 → length ts ≡ 4
-    → sets (sets (sets (sets (sets (sets (set l 0 1) 1 vs) 401 ss) 593 ps) 601 ms) 633 ts) 637 cs
-    ≡ sets l 0 (1 ∷ vs ++ ss ++ ps ++ ms ++ ts ++ cs)
-join l vs ss ps ms ts cs v s p m t = sym (simp (sets-append, length-append, v, s, p, m, t))
+join : (n : ℕ) (l vs ss ps ms ts cs : List ℕ)
+    → length vs ≡ 400 → length ss ≡ 192 → length ps ≡ 8 → length ms ≡ 32 → length ts ≡ 8
+    → sets (sets (sets (sets (sets (sets (set l 0 n) 1 vs) 401 ss) 593 ps) 601 ms) 633 ts) 641 cs
+    ≡ sets l 0 (n ∷ (vs ++ ss ++ ps ++ ms) ++ (ts ++ cs))
+join n l vs ss ps ms ts cs v s p m t = sym (simp (sets-append, length-append, v, s, p, m, t))
 
 pub saved-sets : (st : State) (l : List ℕ)
-    → sets (sets (sets (sets (sets (sets (set l 0 1)
+    → sets (sets (sets (sets (sets (sets (set l 0 2)
     1 (valueBytes (st .value) (st .unknown)))
     401 (slotBytes (st .held) (st .pending) (st .unsure)))
     593 (placeBytes (st .places)))
     601 (markBytes (st .due)))
-    633 (wordBytes (st .time)))
-    637 (wordBytes (st .count))
+    633 (longBytes (st .counters .time)))
+    641 (longBytes (st .counters .count))
     ≡ sets l 0 (saved st)
-unfolding saved
+unfolding saved body tail
 saved-sets st l =
-    join l (valueBytes (st .value) (st .unknown)) (slotBytes (st .held) (st .pending) (st .unsure))
-    (placeBytes (st .places)) (markBytes (st .due)) (wordBytes (st .time)) (wordBytes (st .count))
+    join 2 l (valueBytes (st .value) (st .unknown)) (slotBytes (st .held) (st .pending) (st .unsure))
+    (placeBytes (st .places)) (markBytes (st .due)) (longBytes (st .counters .time)) (longBytes (st .counters .count))
     (length-values (st .value) (st .unknown)) (length-slots (st .held) (st .pending) (st .unsure))
-    (length-places (st .places)) (length-marks (st .due)) (length-word (st .time))
+    (length-places (st .places)) (length-marks (st .due)) (length-long (st .counters .time))

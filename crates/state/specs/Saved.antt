@@ -1,4 +1,5 @@
--- The saved form of a state: one byte that names the form, and 640 bytes of state. "Multi-byte numbers are low byte first."
+-- The saved forms of a state: one byte that names the form, a body of 632 bytes, and the counters. Form 2 is written; form 1, with
+-- counters of 4 bytes, is read as well. "Multi-byte numbers are low byte first."
 use Prim.Native.Nat.{ℕ, zero, suc, _+_, _*_, _/_, _%_, _<_}
 use mathlib.Core.Bool.{Bool, true, false, _&&_}
 use mathlib.Core.List.{List, [], _∷_, _++_}
@@ -7,8 +8,10 @@ use lib.Dec.{leb, eqb}
 use lib.ListN.{length, getD, replicate}
 use Rattle.values.specs.Values.{pick}
 use Rattle.sheet.specs.Reading.{wordOf}
+use Rattle.state.specs.declared.Counters.{Counters}
 use Rattle.state.specs.declared.State.{State}
 use Rattle.state.specs.declared.Loaded.{Loaded}
+use Rattle.state.specs.State.{countersOf}
 
 -- ---- rows, one after the other
 
@@ -64,15 +67,33 @@ markRow ds k = flagByte (getD ds k false) ∷ []
 unfoldable pub markBytes : List Bool → List ℕ
 markBytes ds = rows 32 (markRow ds)
 
--- The form's number is 1. "time and count (4 bytes each): 640 bytes"
-unfoldable pub saved : State → List ℕ
-saved st =
-    1 ∷ valueBytes (st .value) (st .unknown)
+-- After the form's number: 632 bytes
+unfoldable pub body : State → List ℕ
+body st =
+    valueBytes (st .value) (st .unknown)
     ++ slotBytes (st .held) (st .pending) (st .unsure)
     ++ placeBytes (st .places)
     ++ markBytes (st .due)
-    ++ wordBytes (st .time)
-    ++ wordBytes (st .count)
+
+-- A number of 64 bits: eight bytes
+unfoldable pub longBytes : ℕ → List ℕ
+longBytes n = wordBytes (n % 4294967296) ++ wordBytes (n / 4294967296)
+
+-- time and count, 8 bytes each
+unfoldable pub tail : Counters → List ℕ
+tail c = longBytes (c .time) ++ longBytes (c .count)
+
+-- Form 2: 649 bytes
+unfoldable pub saved : State → List ℕ
+saved st = 2 ∷ body st ++ tail (st .counters)
+
+-- "time and count (4 bytes each)"
+unfoldable pub shortTail : Counters → List ℕ
+shortTail c = wordBytes (c .time) ++ wordBytes (c .count)
+
+-- Form 1, "with the short counters": 641 bytes
+unfoldable pub savedShort : State → List ℕ
+savedShort st = 1 ∷ body st ++ shortTail (st .counters)
 
 -- ---- loaded: the state that bytes are the saved form of
 
@@ -86,7 +107,7 @@ isFlag b at = leb (getD b at 0) 1
 unfoldable pub flagAt : List ℕ → ℕ → Bool
 flagAt b at = eqb (getD b at 0) 1
 
--- Value v stands at 1 + 5 v, slot r at 401 + 6 r, the places from 593, the marks from 601, time at 633, count at 637.
+-- Value v stands at 1 + 5 v, slot r at 401 + 6 r, the places from 593, the marks from 601, the counters from 633.
 unfoldable pub valueFlags : List ℕ → Bool
 valueFlags b = allBelow 80 (λ v. isFlag b (1 + 5 * v))
 
@@ -96,12 +117,24 @@ slotFlags b = allBelow 32 (λ r. isFlag b (401 + 6 * r) && isFlag b (402 + 6 * r
 unfoldable pub markFlags : List ℕ → Bool
 markFlags b = allBelow 32 (λ k. isFlag b (601 + k))
 
--- Bytes of another length, form or flag are no state.
-unfoldable pub isSaved : List ℕ → Bool
-isSaved b = eqb (length b) 641 && eqb (getD b 0 0) 1 && valueFlags b && slotFlags b && markFlags b
+unfoldable pub bodyFlags : List ℕ → Bool
+bodyFlags b = valueFlags b && slotFlags b && markFlags b
 
-unfoldable pub stateIn : List ℕ → State
-stateIn b =
+-- Bytes of another length, form or flag are no state.
+unfoldable pub isForm : ℕ → ℕ → List ℕ → Bool
+isForm form size b = eqb (length b) size && eqb (getD b 0 0) form && bodyFlags b
+
+unfoldable pub longOf : List ℕ → ℕ → ℕ
+longOf b at = wordOf b at + 4294967296 * wordOf b (at + 4)
+
+unfoldable pub countersIn : List ℕ → Counters
+countersIn b = countersOf (longOf b 633) (longOf b 641)
+
+unfoldable pub shortIn : List ℕ → Counters
+shortIn b = countersOf (wordOf b 633) (wordOf b 637)
+
+unfoldable pub stateIn : List ℕ → Counters → State
+stateIn b c =
     record {
       value = listOf 80 (λ v. wordOf b (2 + 5 * v));
       unknown = listOf 80 (λ v. flagAt b (1 + 5 * v));
@@ -110,12 +143,18 @@ stateIn b =
       held = listOf 32 (λ r. flagAt b (401 + 6 * r));
       places = listOf 8 (λ i. getD b (593 + i) 0);
       due = listOf 32 (λ k. flagAt b (601 + k));
-      time = wordOf b 633;
-      count = wordOf b 637;
+      counters = c;
     }
 
+-- "a saved state with the short counters is brought over with the same two numbers and all else as it was"
 unfoldable pub loaded : List ℕ → Option State
-loaded b = pick (isSaved b) (some (stateIn b)) none
+loaded b =
+    pick (isForm 2 649 b) (some (stateIn b (countersIn b)))
+    (pick (isForm 1 641 b) (some (stateIn b (shortIn b))) none)
+
+-- Bytes of either form.
+unfoldable pub isSaved : List ℕ → Bool
+isSaved b = pick (isForm 2 649 b) true (isForm 1 641 b)
 
 -- ---- what `load` answers
 
@@ -130,8 +169,7 @@ zeroState =
       held = replicate 32 false;
       places = replicate 8 0;
       due = replicate 32 false;
-      time = 0;
-      count = 0;
+      counters = countersOf 0 0;
     }
 
 -- Where nothing is found, the state says nothing: it is the one with every number 0.

@@ -8,6 +8,7 @@ use lib.ListN.{length, getD, set}
 use Rattle.values.specs.declared.Value.{Value}
 use Rattle.values.specs.Values.{pick}
 use Rattle.values.specs.Planes.{valueAt, numberOf, isUnknown}
+use Rattle.state.specs.declared.Counters.{Counters}
 use Rattle.state.specs.declared.State.{State}
 
 -- ---- the states that code has: arrays of so many elements, numbers of so many bits
@@ -25,8 +26,17 @@ pub record Bounded (st : State) : Type 0 where
   pub value : (v : ℕ) → getD (st .value) v 0 < 2 ^ 32
   pub pending : (r : ℕ) → getD (st .pending) r 0 < 2 ^ 32
   pub places : (i : ℕ) → getD (st .places) i 0 < 2 ^ 8
-  pub time : st .time < 2 ^ 32
-  pub count : st .count < 2 ^ 32
+  pub time : st .counters .time < 2 ^ 64
+  pub count : st .counters .count < 2 ^ 64
+
+-- ---- the counters
+
+-- A counter at this number can't go on: "Number 36 moves to 18,446,744,073,709,551,615 for each."
+abbrev pub full : ℕ
+full = 18446744073709551615
+
+abbrev pub countersOf : ℕ → ℕ → Counters
+countersOf time count = record { time = time; count = count }
 
 -- ---- the parts of a state, set anew
 
@@ -40,8 +50,7 @@ withPlanes st ns xs =
       held = st .held;
       places = st .places;
       due = st .due;
-      time = st .time;
-      count = st .count;
+      counters = st .counters;
     }
 
 unfoldable pub withSlots : State → List ℕ → List Bool → List Bool → State
@@ -54,8 +63,7 @@ withSlots st ns xs hs =
       held = hs;
       places = st .places;
       due = st .due;
-      time = st .time;
-      count = st .count;
+      counters = st .counters;
     }
 
 unfoldable pub withPlaces : State → List ℕ → State
@@ -68,8 +76,7 @@ withPlaces st ps =
       held = st .held;
       places = ps;
       due = st .due;
-      time = st .time;
-      count = st .count;
+      counters = st .counters;
     }
 
 unfoldable pub withMarks : State → List Bool → State
@@ -82,12 +89,11 @@ withMarks st ds =
       held = st .held;
       places = st .places;
       due = ds;
-      time = st .time;
-      count = st .count;
+      counters = st .counters;
     }
 
-unfoldable pub withCounters : State → ℕ → ℕ → State
-withCounters st t n =
+unfoldable pub withCounters : State → Counters → State
+withCounters st c =
     record {
       value = st .value;
       unknown = st .unknown;
@@ -96,8 +102,7 @@ withCounters st t n =
       held = st .held;
       places = st .places;
       due = st .due;
-      time = t;
-      count = n;
+      counters = c;
     }
 
 -- ---- values, by variable

@@ -5,6 +5,15 @@ mod saving;
 pub use loading::load;
 pub use saving::save;
 
+// "Time and the count of accepted choices become 64 bits wide."
+pub struct Counters {
+    pub time: u64,
+    pub count: u64,
+}
+
+// A counter that can't go on: number 36.
+pub const FULL: u64 = 18446744073709551615;
+
 // A state. A value is a number or, where its unknown flag is up, x. A register's pending value counts where its held flag
 // is up.
 pub struct State {
@@ -15,8 +24,7 @@ pub struct State {
     pub held: [bool; 32],
     pub places: [u8; 8],
     pub due: [bool; 32],
-    pub time: u32,
-    pub count: u32,
+    pub counters: Counters,
 }
 
 // What loading finds: a state, or none.

@@ -1,14 +1,15 @@
 // A state out of its saved form.
+use super::Counters;
 use super::Loaded;
 use super::State;
 use sheet::byte_at;
 use sheet::word_at;
 ghost use mathlib.Core.Path.{_≡_};
-ghost use Prim.Native.Nat.{_+_, _*_};
+ghost use Prim.Native.Nat.{_+_, _*_, _≤_};
 ghost use lib.ListN.{getD};
 ghost use Rattle.sheet.specs.Reading.{wordOf};
-ghost use Rattle.state.specs.Saved.{isFlag, valueFlags, slotFlags, markFlags, isSaved};
-ghost use Rattle.state.specs.Saved.{flagAt, listOf, stateIn, zeroState, loaded, loadedAnswer};
+ghost use Rattle.state.specs.Saved.{isFlag, valueFlags, slotFlags, markFlags, bodyFlags, isForm};
+ghost use Rattle.state.specs.Saved.{flagAt, listOf, longOf, countersIn, shortIn, stateIn, zeroState, loaded, loadedAnswer};
 
 // ---- are these bytes the saved form of a state?
 
@@ -61,15 +62,9 @@ fn mark_flags(bytes: &[u8]) -> bool
     true
 }
 
-fn is_saved(bytes: &[u8]) -> bool
-    ensures { λ r. ⌜ r ≡ isSaved (now (bytes .entry)) ⌝ }
+fn body_flags(bytes: &[u8]) -> bool
+    ensures { λ r. ⌜ r ≡ bodyFlags (now (bytes .entry)) ⌝ }
 {
-    if bytes.len() != 641 {
-        return false;
-    }
-    if byte_at(bytes, 0) != 1 {
-        return false;
-    }
     if !value_flags(bytes) {
         return false;
     }
@@ -77,6 +72,19 @@ fn is_saved(bytes: &[u8]) -> bool
         return false;
     }
     mark_flags(bytes)
+}
+
+// Are they of this form, with its number of bytes?
+fn is_form(form: u8, size: usize, bytes: &[u8]) -> bool
+    ensures { λ r. ⌜ r ≡ isForm form size (now (bytes .entry)) ⌝ }
+{
+    if bytes.len() != size {
+        return false;
+    }
+    if byte_at(bytes, 0) != form {
+        return false;
+    }
+    body_flags(bytes)
 }
 
 // ---- the parts of the state
@@ -174,8 +182,39 @@ fn due_in(bytes: &[u8]) -> [bool; 32]
 
 // ---- the state
 
-fn state_in(bytes: &[u8]) -> State
-    ensures { λ r. ⌜ r ≡ stateIn (now (bytes .entry)) ⌝ }
+// A number of 64 bits, low half first.
+fn long_at(bytes: &[u8], at: usize) -> u64
+    requires { ⌜ at ≤ 641 ⌝ }
+    ensures { λ r. ⌜ r ≡ longOf (now (bytes .entry)) at ⌝ }
+{
+    let low = word_at(bytes, at);
+    let high = word_at(bytes, at + 4);
+    low as u64 + 4294967296 * high as u64
+}
+
+fn counters_in(bytes: &[u8]) -> Counters
+    ensures { λ r. ⌜ r ≡ countersIn (now (bytes .entry)) ⌝ }
+{
+    Counters {
+        time: long_at(bytes, 633),
+        count: long_at(bytes, 641),
+    }
+}
+
+// The short counters.
+fn short_in(bytes: &[u8]) -> Counters
+    ensures { λ r. ⌜ r ≡ shortIn (now (bytes .entry)) ⌝ }
+{
+    let time = word_at(bytes, 633);
+    let count = word_at(bytes, 637);
+    Counters {
+        time: time as u64,
+        count: count as u64,
+    }
+}
+
+fn state_in(bytes: &[u8], counters: Counters) -> State
+    ensures { λ r. ⌜ r ≡ stateIn (now (bytes .entry)) counters ⌝ }
 {
     let value = value_in(bytes);
     let unknown = unknown_in(bytes);
@@ -192,8 +231,7 @@ fn state_in(bytes: &[u8]) -> State
         held,
         places,
         due,
-        time: word_at(bytes, 633),
-        count: word_at(bytes, 637),
+        counters,
     }
 }
 
@@ -209,22 +247,27 @@ fn zero_state() -> State
         held: [false; 32],
         places: [0u8; 8],
         due: [false; 32],
-        time: 0,
-        count: 0,
+        counters: Counters { time: 0, count: 0 },
     }
 }
 
-// The state that the bytes are the saved form of.
+// The state that the bytes are a saved form of: the one that is written, or the one with short counters.
 pub fn load(bytes: &[u8]) -> Loaded
     ensures { λ r. ⌜ r ≡ loadedAnswer (loaded (now (bytes .entry))) ⌝ }
 {
-    if !is_saved(bytes) {
-        let state = zero_state();
-        return Loaded {
-            found: false,
-            state,
-        };
+    if is_form(2, 649, bytes) {
+        let counters = counters_in(bytes);
+        let state = state_in(bytes, counters);
+        return Loaded { found: true, state };
     }
-    let state = state_in(bytes);
-    Loaded { found: true, state }
+    if is_form(1, 641, bytes) {
+        let counters = short_in(bytes);
+        let state = state_in(bytes, counters);
+        return Loaded { found: true, state };
+    }
+    let state = zero_state();
+    Loaded {
+        found: false,
+        state,
+    }
 }

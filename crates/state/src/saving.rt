@@ -3,7 +3,7 @@ use super::State;
 ghost use mathlib.Core.Path.{_≡_};
 ghost use Prim.Native.Nat.{_≤_};
 ghost use lib.Seq.{sets};
-ghost use Rattle.state.specs.Saved.{flagByte, wordBytes, valueBytes, slotBytes, placeBytes, markBytes, saved};
+ghost use Rattle.state.specs.Saved.{flagByte, wordBytes, longBytes, valueBytes, slotBytes, placeBytes, markBytes, saved};
 
 // A flag as a byte.
 fn flag_byte(b: bool) -> u8
@@ -13,8 +13,8 @@ fn flag_byte(b: bool) -> u8
 }
 
 // A number, low byte first.
-fn put_word(n: u32, out: &mut [u8; 641], at: usize)
-    requires { ⌜ at ≤ 637 ⌝ }
+fn put_word(n: u32, out: &mut [u8; 649], at: usize)
+    requires { ⌜ at ≤ 645 ⌝ }
     ensures { λ r. ⌜ now (out .exit) ≡ sets (now (out .entry)) at (wordBytes n) ⌝ }
 {
     out[at] = (n % 256) as u8;
@@ -23,8 +23,17 @@ fn put_word(n: u32, out: &mut [u8; 641], at: usize)
     out[at + 3] = (n / 16777216 % 256) as u8;
 }
 
+// A number of 64 bits, low half first.
+fn put_long(n: u64, out: &mut [u8; 649], at: usize)
+    requires { ⌜ at ≤ 641 ⌝ }
+    ensures { λ r. ⌜ now (out .exit) ≡ sets (now (out .entry)) at (longBytes n) ⌝ }
+{
+    put_word((n % 4294967296) as u32, out, at);
+    put_word((n / 4294967296) as u32, out, at + 4);
+}
+
 // The values.
-fn put_values<'a>(value: &'a [u32; 80], unknown: &'a [bool; 80], out: &mut [u8; 641])
+fn put_values<'a>(value: &'a [u32; 80], unknown: &'a [bool; 80], out: &mut [u8; 649])
     ensures { λ r. ⌜ now (out .exit) ≡ sets (now (out .entry)) 1 (valueBytes (now (value .entry)) (now (unknown .entry))) ⌝ }
 {
     let mut v = 0;
@@ -41,7 +50,7 @@ fn put_slots<'a>(
     held: &'a [bool; 32],
     pending: &'a [u32; 32],
     unsure: &'a [bool; 32],
-    out: &mut [u8; 641],
+    out: &mut [u8; 649],
 )
     ensures { λ r. ⌜ now (out .exit) ≡ sets (now (out .entry)) 401
         (slotBytes (now (held .entry)) (now (pending .entry)) (now (unsure .entry))) ⌝ }
@@ -57,7 +66,7 @@ fn put_slots<'a>(
 }
 
 // The places.
-fn put_places(places: &[u8; 8], out: &mut [u8; 641])
+fn put_places(places: &[u8; 8], out: &mut [u8; 649])
     ensures { λ r. ⌜ now (out .exit) ≡ sets (now (out .entry)) 593 (placeBytes (now (places .entry))) ⌝ }
 {
     let mut i = 0;
@@ -68,7 +77,7 @@ fn put_places(places: &[u8; 8], out: &mut [u8; 641])
 }
 
 // The marks.
-fn put_marks(due: &[bool; 32], out: &mut [u8; 641])
+fn put_marks(due: &[bool; 32], out: &mut [u8; 649])
     ensures { λ r. ⌜ now (out .exit) ≡ sets (now (out .entry)) 601 (markBytes (now (due .entry))) ⌝ }
 {
     let mut k = 0;
@@ -79,16 +88,16 @@ fn put_marks(due: &[bool; 32], out: &mut [u8; 641])
 }
 
 // The saved form of a state is put into the buffer, which it fills.
-pub fn save(st: State, out: &mut [u8; 641])
+pub fn save(st: State, out: &mut [u8; 649])
     ensures { λ r. ⌜ now (out .exit) ≡ saved st ⌝ }
 {
-    let mut bytes = [0u8; 641];
-    bytes[0] = 1;
+    let mut bytes = [0u8; 649];
+    bytes[0] = 2;
     put_values(&st.value, &st.unknown, &mut bytes);
     put_slots(&st.held, &st.pending, &st.unsure, &mut bytes);
     put_places(&st.places, &mut bytes);
     put_marks(&st.due, &mut bytes);
-    put_word(st.time, &mut bytes, 633);
-    put_word(st.count, &mut bytes, 637);
+    put_long(st.counters.time, &mut bytes, 633);
+    put_long(st.counters.count, &mut bytes, 641);
     *out = bytes;
 }

@@ -10,7 +10,7 @@ use lib.ListN.{length}
 use Rattle.sheet.specs.Expression.{Expr}
 use Rattle.sheet.specs.Module.{Module}
 use Rattle.state.specs.declared.State.{State}
-use Rattle.state.specs.State.{Shaped, isDue}
+use Rattle.state.specs.State.{Shaped, full, isDue}
 use Rattle.soundness.specs.Soundness.{Sound}
 use Rattle.events.specs.Cycle.{codeOf, isWait, enabled, quiet}
 use Rattle.events.specs.Calls.{chooseIn, runBy, plainChoice}
@@ -95,7 +95,7 @@ module _ (m : Module Expr) (w : Sound m) (R : Ruled m) where
 
   -- ---- the run
 
-  comes : (n q : ℕ) (u : State) → Shaped u → Ahead q u → q < n → u .count + q < 4294967295 → Long m n u
+  comes : (n q : ℕ) (u : State) → Shaped u → Ahead q u → q < n → u .counters .count + q < full → Long m n u
   unfolding runBy
   comes zero q u s A l room = absurd (omega arith)
   comes (suc n) q u s A l room = by (quiet m u) refl (comes n)
@@ -104,19 +104,19 @@ module _ (m : Module Expr) (w : Sound m) (R : Ruled m) where
       c = plainChoice m u
 
       z : quiet m u ≡ false → chooseIn m u c .number ≡ 0
-      z h = plain-refusal m u w h ∙ spend-zero (u .count) (λ e. omega arith)
+      z h = plain-refusal m u w h ∙ spend-zero (u .counters .count) (λ e. omega arith)
 
       step : (h : quiet m u ≡ false) → Step m u (next m u) c
       step h = step-chooseIn m w u s c (z h)
 
-      on : ((q : ℕ) (v : State) → Shaped v → Ahead q v → q < n → v .count + q < 4294967295 → Long m n v) →
+      on : ((q : ℕ) (v : State) → Shaped v → Ahead q v → q < n → v .counters .count + q < full → Long m n v) →
           quiet m u ≡ false → Fewer q (next m u) → Long m n (next m u)
       on ih h f =
           let p = f .0 in
           let less : p < q = f .1 in
           ih p (next m u) (shaped-chooseIn m u c s) (f .2) (omega arith) (omega (arith, step h .count))
 
-      ready : ((q : ℕ) (v : State) → Shaped v → Ahead q v → q < n → v .count + q < 4294967295 → Long m n v) →
+      ready : ((q : ℕ) (v : State) → Shaped v → Ahead q v → q < n → v .counters .count + q < full → Long m n v) →
           (h : quiet m u ≡ false) {d : ℕ} → Ready m u d → c ≡ d → Long m (suc n) u
       ready ih h (thread-ready {i = i} b t) e =
           long-back m n u h (z h) i e (λ x. omega (arith, w .threads-most))
@@ -130,7 +130,7 @@ module _ (m : Module Expr) (w : Sound m) (R : Ruled m) where
       ready ih h (commit-ready t p b y) e = inr (commit-there m n u h (z h) e .2)
 
       by : (t : Bool) → quiet m u ≡ t →
-          ((q : ℕ) (v : State) → Shaped v → Ahead q v → q < n → v .count + q < 4294967295 → Long m n v) → Long m (suc n) u
+          ((q : ℕ) (v : State) → Shaped v → Ahead q v → q < n → v .counters .count + q < full → Long m n v) → Long m (suc n) u
       by true h ih = inl (rw h refl)
       by false h ih = ready ih h (plain-ready m u h) refl
 
@@ -141,5 +141,5 @@ module _ (m : Module Expr) (w : Sound m) (R : Ruled m) where
       (rw (steps-none (length (m .threads))) (omega arith))
 
   pub long-enough : (n : ℕ) (u : State) → Shaped u → Fits m u → allInstructions m + length (m .wires) < n →
-      u .count + allInstructions m + length (m .wires) < 4294967295 → Long m n u
+      u .counters .count + allInstructions m + length (m .wires) < full → Long m n u
   long-enough n u s F l room = comes n (allInstructions m + length (m .wires)) u s (starts u F) l (omega arith)

@@ -14,7 +14,7 @@ use Rattle.sheet.specs.Reading.{ok}
 use Rattle.sheet.specs.Expression.{Expr}
 use Rattle.sheet.specs.Module.{Module, read}
 use Rattle.state.specs.declared.State.{State}
-use Rattle.state.specs.State.{Shaped, valueOf}
+use Rattle.state.specs.State.{Shaped, full, valueOf}
 use Rattle.events.specs.declared.Inputs.{Inputs}
 use Rattle.events.specs.declared.Verdict.the-variants.{Quiet}
 use Rattle.events.specs.Cycle.{wireExpr, touched}
@@ -80,7 +80,7 @@ pub record Exact (s : List ℕ) (m : Module Expr) (before after : State) : Type 
       length (stores s m after n) ≡ readerCount m (length (m .wires)) (valueOf before) (valueOf (there s m after n))
   -- All threads' instructions, the wires and the commit are long enough, while the count lasts.
   pub enough : (n : ℕ) → allInstructions m + length (m .wires) < n →
-      after .count + allInstructions m + length (m .wires) < 4294967295 → LongEnough s m after n
+      after .counters .count + allInstructions m + length (m .wires) < full → LongEnough s m after n
 
 pub record WorkOf (s : List ℕ) : Type 0 where
   pub m : Module Expr

@@ -68,8 +68,8 @@ const STATE: [(&str, usize, usize); 6] = [
     ("pending", 32, 6),
     ("place", 8, 1),
     ("mark", 32, 1),
-    ("time", 1, 4),
-    ("count", 1, 4),
+    ("time", 1, 8),
+    ("count", 1, 8),
 ];
 const CYCLE: [(&str, usize, usize); 3] =
     [("register", 32, 5), ("place", 8, 1), ("wire", 32, 5)];

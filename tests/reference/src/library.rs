@@ -6,7 +6,7 @@
 pub const TEXT: usize = 65_536;
 
 /// The bytes of a saved state, with the one that names its form.
-pub const SAVED: usize = 641;
+pub const SAVED: usize = 649;
 
 use crate::text::{Answer, Labels, VARIABLES};
 
@@ -37,6 +37,9 @@ unsafe extern "C" {
     /// Writes the listing at the front of the 65,536 bytes of text and stores its length; the
     /// number of a refusal, where the text stays.
     fn walbryts_list(sheet: *const u8, len: usize, text: *mut u8, length: *mut usize) -> u8;
+
+    /// A saved state of either form into the bytes of one; 31 where it is none.
+    fn walbryts_bring_over(old: *const u8, len: usize, state: *mut u8) -> u8;
 
     /// The calls on a saved state, which becomes the one that the call gives back. Each
     /// returns its number, 31 where the bytes are no saved state.
@@ -164,6 +167,12 @@ pub fn list(sheet: &[u8], text: &mut [u8; TEXT]) -> (u8, usize) {
     // Safety: as above, and the text has the length that the library writes into.
     let number = unsafe { walbryts_list(at, len, text, &mut length) };
     (number, length)
+}
+
+/// A saved state of either form, brought over; the number.
+pub fn bring_over(old: &[u8], state: &mut [u8; SAVED]) -> u8 {
+    // Safety: as above, and the state has the length of a saved one.
+    unsafe { walbryts_bring_over(old.as_ptr(), old.len(), state.as_mut_ptr()) }
 }
 
 /// The start state, saved, and the number.

@@ -5,7 +5,7 @@ use std::io::{self, Write};
 use crate::compiler::Compiler;
 use crate::module::Module;
 use crate::pseudocode;
-use crate::saved::write_state;
+use crate::saved::{FORM, SHORT, load, write_short, write_state};
 use crate::sheet::{self, Refusal};
 use crate::simulator::{Simulator, number_of};
 use crate::state::State;
@@ -23,6 +23,7 @@ pub fn replay(script: &[u8], out: &mut impl Write) -> io::Result<()> {
     if let Some(sheet) = script.sheet {
         let reading = sheet::read(sheet);
         let mut session = Session::new(sheet, &reading);
+        session.form = script.form;
         for record in &script.records {
             writeln!(out, "{}", session.answer(record))?;
         }
@@ -32,6 +33,8 @@ pub fn replay(script: &[u8], out: &mut impl Write) -> io::Result<()> {
 
 /// A sheet with the state and the tables that the calls hand on.
 pub struct Session<'a> {
+    /// The form of the states that are read and printed.
+    pub form: u8,
     sheet: &'a [u8],
     reading: &'a Result<Module, Refusal>,
     pub simulator: Simulator<'a>,
@@ -45,7 +48,7 @@ impl<'a> Session<'a> {
     pub fn new(sheet: &'a [u8], reading: &'a Result<Module, Refusal>) -> Session<'a> {
         let (simulator, compiler) = (Simulator::new(reading), Compiler::new(reading));
         let (state, words) = (State::ZERO, Words::unwritten());
-        Session { sheet, reading, simulator, compiler, state, words }
+        Session { form: FORM, sheet, reading, simulator, compiler, state, words }
     }
 
     /// Makes the call; the line without its line feed.
@@ -80,9 +83,18 @@ impl<'a> Session<'a> {
                 state.clone_from(loaded);
                 "load".into()
             }
+            Record::Bring(saved) => match load(saved) {
+                Some(brought) => {
+                    *state = brought;
+                    "bring 0".into()
+                }
+                None => "bring 31".into(),
+            },
             Record::Dump => {
                 let mut bytes = Vec::new();
-                write_state(state, &mut bytes);
+                if self.form != SHORT || !write_short(state, &mut bytes) {
+                    write_state(state, &mut bytes);
+                }
                 format!("state {}", hex(&bytes))
             }
             Record::Extract(lent) => {

@@ -2,10 +2,13 @@
 
 use crate::state::{Pending, Slot, State};
 
-/// The form that the first byte of a saved state names.
-pub const FORM: u8 = 1;
+/// The form that is written: counters of 8 bytes. The first byte of a saved state names its form.
+pub const FORM: u8 = 2;
+/// The form with counters of 4 bytes, which is read as well.
+pub const SHORT: u8 = 1;
 /// The bytes of a state without that byte.
-pub const STATE_BYTES: usize = 640;
+pub const STATE_BYTES: usize = 648;
+pub const SHORT_BYTES: usize = 640;
 
 /// The saved state: its form, then its bytes.
 pub fn save(state: &State) -> Vec<u8> {
@@ -14,18 +17,41 @@ pub fn save(state: &State) -> Vec<u8> {
     bytes
 }
 
+/// The state saved with short counters; none where a counter has more than 32 bits.
+pub fn save_short(state: &State) -> Option<Vec<u8>> {
+    let mut bytes = vec![SHORT];
+    write_short(state, &mut bytes).then_some(bytes)
+}
+
 /// The state that was saved. Bytes of another length, form or flag are no state.
 pub fn load(saved: &[u8]) -> Option<State> {
     let mut bytes = Bytes::new(saved);
     let form = bytes.byte()?;
-    let state = bytes.state()?;
-    (form == FORM && bytes.is_empty()).then_some(state)
+    let state = bytes.state(form)?;
+    bytes.is_empty().then_some(state)
 }
 
 // ---- writing
 
 /// 80 values; 32 pending slots; 8 places; 32 marks; time and count.
 pub fn write_state(state: &State, bytes: &mut Vec<u8>) {
+    write_body(state, bytes);
+    bytes.extend(state.time.to_le_bytes());
+    bytes.extend(state.count.to_le_bytes());
+}
+
+/// The same with short counters; nothing is written where a counter has more than 32 bits.
+pub fn write_short(state: &State, bytes: &mut Vec<u8>) -> bool {
+    let (Ok(time), Ok(count)) = (u32::try_from(state.time), u32::try_from(state.count)) else {
+        return false;
+    };
+    write_body(state, bytes);
+    bytes.extend(time.to_le_bytes());
+    bytes.extend(count.to_le_bytes());
+    true
+}
+
+fn write_body(state: &State, bytes: &mut Vec<u8>) {
     state.values.iter().for_each(|slot| write_slot(slot, bytes));
     for pending in &state.pending {
         bytes.push(pending.held.into());
@@ -33,8 +59,6 @@ pub fn write_state(state: &State, bytes: &mut Vec<u8>) {
     }
     bytes.extend(state.places);
     bytes.extend(state.due.map(u8::from));
-    bytes.extend(state.time.to_le_bytes());
-    bytes.extend(state.count.to_le_bytes());
 }
 
 /// A value: 1 for x or 0, then the number, which is kept also under x.
@@ -85,6 +109,10 @@ impl<'a> Bytes<'a> {
         self.array().map(u32::from_le_bytes)
     }
 
+    fn long(&mut self) -> Option<u64> {
+        self.array().map(u64::from_le_bytes)
+    }
+
     pub fn flag(&mut self) -> Option<bool> {
         match self.byte()? {
             0 => Some(false),
@@ -101,7 +129,8 @@ impl<'a> Bytes<'a> {
         Some(Pending { held: self.flag()?, slot: self.slot()? })
     }
 
-    pub fn state(&mut self) -> Option<State> {
+    /// A state in a form of saved states.
+    pub fn state(&mut self, form: u8) -> Option<State> {
         let mut state = State::ZERO;
         for slot in &mut state.values {
             *slot = self.slot()?;
@@ -113,8 +142,11 @@ impl<'a> Bytes<'a> {
         for due in &mut state.due {
             *due = self.flag()?;
         }
-        state.time = self.number()?;
-        state.count = self.number()?;
+        (state.time, state.count) = match form {
+            FORM => (self.long()?, self.long()?),
+            SHORT => (self.number()?.into(), self.number()?.into()),
+            _ => return None,
+        };
         Some(state)
     }
 }

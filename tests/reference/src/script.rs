@@ -7,6 +7,7 @@ use crate::machine::{COMMIT, Machine};
 use crate::module::Module;
 use crate::random::Random;
 use crate::replay::{Lent, Record, Script, Session};
+use crate::saved::{FORM, SHORT, save, save_short};
 use crate::sheet;
 use crate::state::{Slot, State};
 use crate::{extractable, generate, limits, mutate, refused, states, text};
@@ -18,13 +19,17 @@ pub fn script(seed: u64) -> Vec<u8> {
     let mut random = Random::new(seed);
     let sheet = sheet(&mut random);
     let reading = sheet::read(&sheet);
-    let session = Session::new(&sheet, &reading);
+    let mut session = Session::new(&sheet, &reading);
+    if seed % 4 == 1 {
+        session.form = SHORT;
+    }
+    let form = session.form;
     let module = reading.as_ref().ok();
     let (fitting, records) = (State::ZERO, Vec::new());
     let mut writer = Writer { random, session, module, fitting, records };
     writer.write();
     writer.records.extend(text_records(seed));
-    let script = Script::write(&sheet, &writer.records);
+    let script = Script::write_in(form, &sheet, &writer.records);
     match writer.random.chance(1, 8) {
         true => damage(script, &mut writer.random),
         false => script,
@@ -128,7 +133,11 @@ impl Writer<'_> {
     }
 
     /// Writes the record, makes its call, and looks at the state afterwards.
-    fn call(&mut self, record: Record) {
+    fn call(&mut self, mut record: Record) {
+        if let (SHORT, Record::Load(state)) = (self.session.form, &mut record) {
+            state.time = state.time.min(u32::MAX.into());
+            state.count = state.count.min(u32::MAX.into());
+        }
         let looks = record != Record::Dump;
         self.session.answer(&record);
         self.records.push(record);
@@ -165,9 +174,30 @@ impl Writer<'_> {
             24..=27 => Record::Load(Box::new(self.state())),
             28 => Record::Start,
             29 => Record::Read,
+            30 if self.session.form == FORM => Record::Bring(self.saved()),
             30 => Record::List,
             _ => Record::Plain(u16::MAX),
         }
+    }
+
+    /// A saved state of either form, now and then with a byte changed or cut short.
+    fn saved(&mut self) -> Vec<u8> {
+        let state = self.state();
+        let random = &mut self.random;
+        let mut saved = match save_short(&state) {
+            Some(short) if random.chance(1, 2) => short,
+            _ => save(&state),
+        };
+        match random.below(6) {
+            0 => saved[0] = random.below(4) as u8,
+            1 => {
+                let at = random.below(saved.len());
+                saved[at] = random.byte();
+            }
+            2 => saved.truncate(random.below(saved.len())),
+            _ => {}
+        }
+        saved
     }
 
     fn limit(&mut self) -> u16 {

@@ -127,7 +127,7 @@ impl<C: Calls> Held<'_, C> {
                 [("low wires", low), ("registers", registers), ("wires", wires)],
             )?;
         }
-        Ok(state.count.into())
+        Ok(state.count)
     }
 
     fn rest(&self, state: &mut State, order: Option<&mut Random>) -> Outcome {

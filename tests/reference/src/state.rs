@@ -19,8 +19,8 @@ pub struct State {
     pub places: [u8; PLACES],
     /// By wire.
     pub due: [bool; MARKS],
-    pub time: u32,
-    pub count: u32,
+    pub time: u64,
+    pub count: u64,
 }
 
 /// Where a value is kept. Under x the number means nothing, but it is carried along.

@@ -72,9 +72,9 @@ fn index(count: usize, all: usize, random: &mut Random) -> usize {
     }
 }
 
-/// At the end of a counter or next to it.
-fn nearly_full(random: &mut Random) -> u32 {
-    u32::MAX - random.below(4) as u32
+/// At the end of a counter or next to it, or where the short counters ended.
+fn nearly_full(random: &mut Random) -> u64 {
+    random.pick(&[u64::MAX, 1 << 32]) - random.below(4) as u64
 }
 
 /// The state with one field changed: it may fit the module afterwards or not.
@@ -143,7 +143,7 @@ pub fn noise(random: &mut Random) -> State {
     state.pending = std::array::from_fn(pending);
     state.places = std::array::from_fn(|_| random.byte());
     state.due = std::array::from_fn(|_| random.chance(1, 16));
-    state.time = random.number() as u32;
-    state.count = random.number() as u32;
+    state.time = random.number() >> random.pick(&[0, 32]);
+    state.count = random.number() >> random.pick(&[0, 32]);
     state
 }

@@ -15,7 +15,7 @@ pub struct Tally {
 }
 
 /// The calls whose line has a number, and where it stands in the line.
-const CALLS: [(&str, usize); 8] = [
+const CALLS: [(&str, usize); 9] = [
     ("read", 1),
     ("start", 1),
     ("choose", 1),
@@ -24,10 +24,14 @@ const CALLS: [(&str, usize); 8] = [
     ("instant", 1),
     ("extract", 1),
     ("cycle", 1),
+    ("bring", 1),
 ];
 
 /// The numbers that a call can give, 0 where it is accepted.
 fn numbers(call: &str) -> Vec<u8> {
+    if call == "bring" {
+        return vec![0, 31];
+    }
     let own: &[u8] = match call {
         "choose" | "run" => &[22, 31, 33, 34, 35, 36],
         "plain" => &[31, 36],

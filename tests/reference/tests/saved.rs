@@ -1,7 +1,7 @@
 //! Saved states.
 
 use reference::random::Random;
-use reference::saved::{STATE_BYTES, load, save};
+use reference::saved::{SHORT_BYTES, STATE_BYTES, load, save, save_short};
 use reference::state::{Pending, Slot, State};
 use reference::states::noise;
 
@@ -35,7 +35,7 @@ fn bytes_are_saved_as_loaded() {
         bytes[place] = before;
     }
     // Numbers, places and counters may be any byte; flags and marks 0 or 1.
-    assert_eq!(loaded, (4 * (80 + 32) + 8 + 8) * 256 + (80 + 2 * 32 + 32) * 2);
+    assert_eq!(loaded, (4 * (80 + 32) + 8 + 16) * 256 + (80 + 2 * 32 + 32) * 2);
 }
 
 /// Where each field stands.
@@ -46,16 +46,22 @@ fn layout() {
     state.pending[0] = Pending { held: true, slot: Slot { unknown: false, number: 0x0605 } };
     state.places = [1, 2, 3, 4, 5, 6, 7, 8];
     state.due[31] = true;
-    state.time = 0x0A09_0807;
-    state.count = 0x0E0D_0C0B;
+    state.time = 0x0E0D_0C0B_0A09_0807;
+    state.count = 0x1615_1413_1211_100F;
     let mut expected = vec![0; 1 + STATE_BYTES];
-    expected[0] = 1;
+    expected[0] = 2;
     expected[1 + 5..1 + 10].copy_from_slice(&[1, 1, 2, 3, 4]);
     expected[1 + 400..1 + 406].copy_from_slice(&[1, 0, 5, 6, 0, 0]);
     expected[1 + 592..1 + 600].copy_from_slice(&[1, 2, 3, 4, 5, 6, 7, 8]);
     expected[1 + 631] = 1;
-    expected[1 + 632..].copy_from_slice(&[7, 8, 9, 10, 11, 12, 13, 14]);
+    let counters: Vec<u8> = (7..=22).collect();
+    expected[1 + 632..].copy_from_slice(&counters);
     assert_eq!(save(&state), expected);
+    assert_eq!(save_short(&state), None);
+    (state.time, state.count) = (0x0A09_0807, 0x0E0D_0C0B);
+    expected[0] = 1;
+    expected.truncate(1 + SHORT_BYTES);
+    assert_eq!(save_short(&state), Some(expected));
 }
 
 #[test]
@@ -65,7 +71,12 @@ fn other_bytes_are_no_state() {
         assert_eq!(load(&saved[..length]), None);
     }
     assert_eq!(load(&[&saved[..], &[0]].concat()), None);
-    for form in (0..=255).filter(|&form| form != 1) {
+    for form in (0..=255).filter(|&form| form != 2) {
         assert_eq!(load(&[&[form], &saved[1..]].concat()), None);
+    }
+    let short = save_short(&State::start(3)).expect("short counters");
+    assert_eq!(load(&short), Some(State::start(3)));
+    for form in (0..=255).filter(|&form| form != 1) {
+        assert_eq!(load(&[&[form], &short[1..]].concat()), None);
     }
 }

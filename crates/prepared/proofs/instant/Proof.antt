@@ -30,9 +30,9 @@ returns-4 c =
     (instant-late _ _ (sym (c .before .before .before .before .before .before .before .before .before .state-fits .ensures) ∙ not-false _ (c .before .before .before .before .before .before .before .before .if1 .left)) _ (sym (c .before .before .before .before .before .before .before .inputs-fit .ensures) ∙ not-false _ (c .before .before .before .before .before .before .if2 .left)) _ (c .before .before .before .before .unpack .ensures)
     (sym (c .before .before .before .busy .ensures _ _ _) ∙ c .before .before .if3 .left) (c .before .if4 .taken))
 
-add-pack : tie.Need-add-pack
-add-pack c =
-    let b = bounded-good (c .before .before .before .before .before .before .before .before .before .before .before .before .before .before .before .before .before .before .before .before .before .before .before .args .t2) (c .before .before .before .before .before .before .before .before .before .before .before .before .before .before .before .before .before .before .before .before .before .before .before .good .1 .0) .time in omega arith
+add-time : tie.Need-add-time
+add-time c =
+    let b = bounded-good (c .before .before .before .before .before .before .before .before .before .before .before .before .before .before .before .before .before .before .before .before .before .args .t2) (c .before .before .before .before .before .before .before .before .before .before .before .before .before .before .before .before .before .before .before .before .before .good .1 .0) .time in omega arith
 
 returns-5 : tie.Need-returns-5
 unfolding inputOf
@@ -60,6 +60,6 @@ instant-spec =
     returns-4
     (λ c κs. search needs)
     (λ c κs. search needs)
-    add-pack
+    add-time
     (λ c κs. search needs)
     returns-5)

@@ -13,20 +13,16 @@ returns : tie.Need-returns
 returns c =
     run-unfit _ _ _ (sym (c .before .state-fits .ensures) ∙ not-true _ (c .if1 .taken))
 
-cast-count : tie.Need-cast-count
-cast-count c =
-    let h = list-left _ _ _ _ _ _ _ (c .before .before .run-list .ensures) in omega (arith, c .before .before .before .before .before .before .room-of .ensures, bounded-good (c .before .before .before .before .before .before .before .before .before .before .before .before .before .before .before .before .before .args .t2) (c .before .before .before .before .before .before .before .before .before .before .before .before .before .before .before .before .before .good .1 .0) .count)
-
 add-count : tie.Need-add-count
 add-count c =
-    let h = list-left _ _ _ _ _ _ _ (c .before .before .run-list .ensures) in omega (arith, c .before .before .before .before .before .before .room-of .ensures, bounded-good (c .before .before .before .before .before .before .before .before .before .before .before .before .before .before .before .before .before .args .t2) (c .before .before .before .before .before .before .before .before .before .before .before .before .before .before .before .before .before .good .1 .0) .count)
+    let h = list-left _ _ _ _ _ _ _ (c .before .run-list .ensures) in omega (arith, c .before .before .before .before .before .room-of .ensures, bounded-good (c .before .before .before .before .before .before .before .before .before .before .before .before .before .before .before .before .args .t2) (c .before .before .before .before .before .before .before .before .before .before .before .before .before .before .before .before .good .1 .0) .count)
 
 returns-2 : tie.Need-returns-2
 returns-2 c =
-    let p = c .before .before .before .before .before .before .before .before .before .before .before .before .before .before .before .before .before .before .before .before .args in
-    run-fit (planOf (p .plan .now)) (p .t2) (sym (c .before .before .before .before .before .before .before .before .before .before .before .before .before .before .before .before .before .before .state-fits .ensures) ∙ not-false _ (c .before .before .before .before .before .before .before .before .before .before .before .before .before .before .before .before .before .if1 .left)) _
-    (laid (planOf (p .plan .now)) (p .t2) _ _ _ _ (c .before .before .before .before .before .before .before .before .before .before .before .slots-of .ensures) (c .before .before .before .before .before .before .before .before .before .before .before .before .before .before .before .unpack .ensures))
-    _ _ _ _ _ _ _ (c .before .before .before .before .before .before .before .before .before .room-of .ensures) (c .before .before .before .before .before .run-list .ensures) refl (c .pack .ensures)
+    let p = c .before .before .before .before .before .before .before .before .before .before .before .before .before .before .before .before .before .before .before .args in
+    run-fit (planOf (p .plan .now)) (p .t2) (sym (c .before .before .before .before .before .before .before .before .before .before .before .before .before .before .before .before .before .state-fits .ensures) ∙ not-false _ (c .before .before .before .before .before .before .before .before .before .before .before .before .before .before .before .before .if1 .left)) _
+    (laid (planOf (p .plan .now)) (p .t2) _ _ _ _ (c .before .before .before .before .before .before .before .before .before .before .slots-of .ensures) (c .before .before .before .before .before .before .before .before .before .before .before .before .before .before .unpack .ensures))
+    _ _ _ _ _ _ _ (c .before .before .before .before .before .before .before .before .room-of .ensures) (c .before .before .before .before .run-list .ensures) refl (c .pack .ensures)
 
 pub run-spec : {M : Type 1} → statement M
 run-spec =
@@ -38,7 +34,6 @@ run-spec =
     (λ c κs. search needs)
     (λ c κs. search needs)
     (λ c κs. search needs)
-    cast-count
     add-count
     (λ c κs. search needs)
     returns-2)

@@ -4,18 +4,23 @@
 
 use std::process::ExitCode;
 
+use reference::calls::{Calls, Reference};
 use reference::census::Census;
 use reference::encode::encode;
-use reference::library::{self, TEXT};
+use reference::library::{self, Library, SAVED, TEXT};
 use reference::random::Random;
 use reference::samples::{self, to_hex};
-use reference::{generate, limits, mutate, pseudocode, sheet};
+use reference::state::{Slot, State};
+use reference::{generate, limits, mutate, pseudocode, saved, sheet, states};
 
 const RANDOM_MODULES: usize = 10_000;
 const ILL_TYPED: usize = 10_000;
 const DAMAGED: usize = 5_000;
 const DAMAGED_EACH: usize = 4;
 const NOISE: usize = 20_000;
+const STATES: usize = 20_000;
+/// The most that a short counter holds.
+const SHORT_END: u64 = u32::MAX as u64;
 /// Bytes behind the text that the library must not reach.
 const GUARD: usize = 4096;
 
@@ -29,6 +34,8 @@ fn main() -> ExitCode {
     comparison.ill_typed(seed);
     comparison.damaged(seed);
     comparison.noise(seed);
+    comparison.saved(seed);
+    comparison.counters();
     comparison.coverage();
     println!("{} sheets", comparison.met.iter().sum::<u64>());
     println!("{} passed, {} failed", comparison.passed, comparison.failed);
@@ -150,6 +157,24 @@ impl Comparison {
         });
     }
 
+    /// Saved states of both forms, whole and damaged, brought over as the reference loads them.
+    fn saved(&mut self, seed: u64) {
+        let mut random = Random::new(seed ^ 4 << 32);
+        self.group("saved states", |_| (0..STATES).try_for_each(|_| bring(&mut random)));
+    }
+
+    /// Calls on states at and next to the ends of the counters, and of the short ones.
+    fn counters(&mut self) {
+        let ends = [0, SHORT_END - 1, SHORT_END, SHORT_END + 1, u64::MAX - 1, u64::MAX];
+        self.group("counters", |_| {
+            let pairs = ends.into_iter().flat_map(|time| ends.map(|count| (time, count)));
+            samples::ALL.iter().try_for_each(|bench| {
+                let sheet = bench.sheet();
+                pairs.clone().try_for_each(|(time, count)| run_on(&sheet, time, count))
+            })
+        });
+    }
+
     /// Every form was generated and every number was met.
     fn coverage(&mut self) {
         println!("forms in the random modules\n{}", self.census);
@@ -194,6 +219,68 @@ impl Comparison {
         let text = self.buffer[..length].to_vec();
         self.buffer[..length].copy_from_slice(&self.unwritten[..length]);
         Ok(Answer { number, place, text })
+    }
+}
+
+/// What is brought over is the state that the reference loads; else the lent bytes stay.
+fn bring(random: &mut Random) -> Outcome {
+    let mut state = states::noise(random);
+    if random.chance(1, 2) {
+        state.time %= 1 << 32;
+        state.count %= 1 << 32;
+    }
+    let mut old = match saved::save_short(&state) {
+        Some(short) if random.chance(2, 3) => short,
+        _ => saved::save(&state),
+    };
+    match random.below(8) {
+        0 => old[0] = random.below(4) as u8,
+        1 => old.truncate(random.below(old.len())),
+        2 => old.push(0),
+        3 => {
+            let at = random.below(old.len());
+            old[at] = random.byte();
+        }
+        _ => {}
+    }
+    let mut lent = [0xA5; SAVED];
+    let number = library::bring_over(&old, &mut lent);
+    let expected = match saved::load(&old) {
+        Some(state) => (0, saved::save(&state)),
+        None => (31, vec![0xA5; SAVED]),
+    };
+    match (number, lent.to_vec()) == expected {
+        true => Ok(()),
+        false => Err(format!("bring over gives {number} for {}", to_hex(&old))),
+    }
+}
+
+/// The start run to rest, an instant and a plain run, with these counters.
+fn run_on(sheet: &[u8], time: u64, count: u64) -> Outcome {
+    let reading = sheet::read(sheet);
+    let inputs = reading.as_ref().map_or(0, |module| usize::from(module.inputs));
+    let answers = |calls: &dyn Calls| {
+        let mut state = State::ZERO;
+        let mut numbers = vec![calls.start(&mut state)];
+        numbers.push(calls.run_plain(&mut state, u16::MAX).number);
+        (state.time, state.count) = (time, count);
+        for clock in [0, 1] {
+            let mut given = vec![Slot::known(1); inputs];
+            given[0] = Slot::known(clock);
+            numbers.push(calls.instant(&mut state, &given));
+            numbers.push(calls.choose(&mut state, 0));
+            numbers.push(calls.run(&mut state, &[0, 0]).1);
+            numbers.push(calls.run_plain(&mut state, u16::MAX).number);
+        }
+        let rows = vec![vec![Slot::known(1); inputs - 1]; 2];
+        numbers.push(calls.run_cycles(&mut state, &rows).1);
+        (numbers, state)
+    };
+    let expected = answers(&Reference::new(&reading));
+    let found = answers(&Library { sheet });
+    match found == expected {
+        true => Ok(()),
+        false => Err(format!("time {time}, count {count}: {:?} and {:?}", expected.0, found.0)),
     }
 }
 

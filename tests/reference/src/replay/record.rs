@@ -3,12 +3,9 @@
 use std::fmt::{self, Display, Formatter};
 
 use super::tables::{Cycle, Lent, Table, read_inputs, write_inputs};
-use crate::saved::{Bytes, write_state};
+use crate::saved::{Bytes, FORM, SHORT, write_short, write_state};
 use crate::state::{Slot, State};
 use crate::value::Value;
-
-/// The form of script that is read and written.
-const FORM: u8 = 1;
 
 /// One call.
 #[derive(Clone, Debug, PartialEq, Eq)]
@@ -23,6 +20,8 @@ pub enum Record {
     /// At most 255 values.
     Instant(Vec<Slot>),
     Load(Box<State>),
+    /// At most 65,535 bytes of a saved state.
+    Bring(Vec<u8>),
     Dump,
     Extract(Lent),
     Tables,
@@ -44,6 +43,8 @@ pub const BUFFER: u16 = 8_193;
 
 /// A script as far as it can be read.
 pub struct Script<'a> {
+    /// That of the states in it, as saved states are numbered.
+    pub form: u8,
     /// None where the head is bad.
     pub sheet: Option<&'a [u8]>,
     pub records: Vec<Record>,
@@ -54,43 +55,49 @@ pub struct Script<'a> {
 impl<'a> Script<'a> {
     pub fn read(script: &'a [u8]) -> Script<'a> {
         let mut bytes = Bytes::new(script);
-        let Some(sheet) = read_head(&mut bytes) else {
-            return Script { sheet: None, records: Vec::new(), rest: Some(script) };
+        let Some((form, sheet)) = read_head(&mut bytes) else {
+            let (records, rest) = (Vec::new(), Some(script));
+            return Script { form: FORM, sheet: None, records, rest };
         };
         let mut records = Vec::new();
         let mut rest = None;
         while !bytes.is_empty() {
             let from_here = bytes.rest();
-            let Some(record) = Record::read(&mut bytes) else {
+            let Some(record) = Record::read(form, &mut bytes) else {
                 rest = Some(from_here);
                 break;
             };
             records.push(record);
         }
-        Script { sheet: Some(sheet), records, rest }
+        Script { form, sheet: Some(sheet), records, rest }
     }
 
     pub fn write(sheet: &[u8], records: &[Record]) -> Vec<u8> {
-        let mut script = vec![FORM];
+        Script::write_in(FORM, sheet, records)
+    }
+
+    /// In a form; the short one has no state whose counters have more than 32 bits.
+    pub fn write_in(form: u8, sheet: &[u8], records: &[Record]) -> Vec<u8> {
+        let mut script = vec![form];
         let length = u16::try_from(sheet.len()).expect("at most 65,535 bytes");
         script.extend(length.to_le_bytes());
         script.extend(sheet);
-        records.iter().for_each(|record| record.write(&mut script));
+        records.iter().for_each(|record| record.write(form, &mut script));
         script
     }
 }
 
-/// The sheet, behind the form and the sheet's length.
-fn read_head<'a>(bytes: &mut Bytes<'a>) -> Option<&'a [u8]> {
+/// The form and the sheet, behind the sheet's length.
+fn read_head<'a>(bytes: &mut Bytes<'a>) -> Option<(u8, &'a [u8])> {
     let form = bytes.byte()?;
     let length = bytes.word()?;
     let sheet = bytes.take(length.into())?;
-    (form == FORM).then_some(sheet)
+    [FORM, SHORT].contains(&form).then_some((form, sheet))
 }
 
 impl Record {
     /// None where the letter is unknown, a flag neither 0 nor 1, or the record cut short.
-    fn read(bytes: &mut Bytes) -> Option<Record> {
+    fn read(form: u8, bytes: &mut Bytes) -> Option<Record> {
         Some(match bytes.byte()? {
             b'N' => Record::Read,
             b'Q' => Record::List,
@@ -102,7 +109,11 @@ impl Record {
             }
             b'P' => Record::Plain(bytes.word()?),
             b'I' => Record::Instant(read_inputs(bytes)?),
-            b'L' => Record::Load(Box::new(bytes.state()?)),
+            b'L' => Record::Load(Box::new(bytes.state(form)?)),
+            b'M' if form == FORM => {
+                let length = bytes.word()?;
+                Record::Bring(bytes.take(length.into())?.to_vec())
+            }
             b'D' => Record::Dump,
             b'X' => Record::Extract(Lent::read(bytes)?),
             b'T' => Record::Tables,
@@ -121,7 +132,7 @@ impl Record {
         })
     }
 
-    fn write(&self, script: &mut Vec<u8>) {
+    fn write(&self, form: u8, script: &mut Vec<u8>) {
         match self {
             Record::Read => script.push(b'N'),
             Record::List => script.push(b'Q'),
@@ -143,7 +154,16 @@ impl Record {
             }
             Record::Load(state) => {
                 script.push(b'L');
-                write_state(state, script);
+                match form {
+                    SHORT => assert!(write_short(state, script), "short counters"),
+                    _ => write_state(state, script),
+                }
+            }
+            Record::Bring(saved) => {
+                let length = u16::try_from(saved.len()).expect("at most 65,535 bytes");
+                script.push(b'M');
+                script.extend(length.to_le_bytes());
+                script.extend(saved);
             }
             Record::Dump => script.push(b'D'),
             Record::Extract(lent) => {
@@ -186,6 +206,7 @@ impl Display for Record {
                 write_values(f, inputs)
             }
             Record::Load(_) => write!(f, "load"),
+            Record::Bring(saved) => write!(f, "bring {} bytes over", saved.len()),
             Record::Dump => write!(f, "state"),
             Record::Extract(Lent { nodes, rows }) => write!(f, "extract {nodes} {rows}"),
             Record::Tables => write!(f, "tables"),

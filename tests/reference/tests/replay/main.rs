@@ -6,6 +6,7 @@ use reference::differ::difference;
 use reference::random::Random;
 use reference::replay::{Cycle, Lent, Record, Script, Table, replay};
 use reference::samples::FLIP_FLOP;
+use reference::saved::{SHORT, save, save_short};
 use reference::script::script;
 use reference::state::{Slot, State};
 use reference::states::noise;
@@ -79,7 +80,7 @@ fn the_listing_in_hexadecimal() {
 /// The state before the first record is all zero, which fits; a refused start leaves it.
 #[test]
 fn the_first_state() {
-    let zero = format!("state {}", "00".repeat(640));
+    let zero = format!("state {}", "00".repeat(648));
     assert_eq!(answers(&[Record::Dump])[0], zero);
     let found = lines(&Script::write(&[], &[Record::Start, Record::Dump, Record::Plain(1)]));
     assert_eq!(found, ["start 2".into(), zero, "plain 0 2 refused".into()]);
@@ -97,6 +98,42 @@ fn states_are_printed_as_loaded() {
         let found = answers(&[Record::Load(Box::new(state)), Record::Choose(0), Record::Dump]);
         assert_eq!(found, ["load".into(), "choose 31".into(), format!("state {text}")]);
     }
+}
+
+/// In a script with short counters a state is printed so while its counters have 32 bits.
+#[test]
+fn short_counters() {
+    let mut state = State::start(0);
+    (state.time, state.count) = (u32::MAX.into(), 7);
+    let records = [
+        Record::Load(Box::new(state.clone())),
+        Record::Dump,
+        Record::Plain(9),
+        instant(&[0, 1]),
+        Record::Dump,
+    ];
+    let found = lines(&Script::write_in(SHORT, &FLIP_FLOP.sheet(), &records));
+    assert_eq!(found[1].len(), "state ".len() + 2 * 640);
+    assert!(found[1].ends_with("ffffffff07000000"));
+    assert_eq!((&found[2][..], &found[3][..]), ("plain 0 0 quiet", "instant 0"));
+    assert_eq!(found[4].len(), "state ".len() + 2 * 648);
+    assert!(found[4].ends_with("00000000010000000700000000000000"));
+}
+
+/// A state of either form is brought over; other bytes leave the state.
+#[test]
+fn bringing_over() {
+    let mut state = State::start(3);
+    (state.time, state.count) = (258, 3);
+    let [long, short] = [save(&state), save_short(&state).expect("short counters")];
+    let text = |saved: &[u8]| -> String { saved.iter().map(|b| format!("{b:02x}")).collect() };
+    let expected = format!("state {}", text(&long[1..]));
+    for saved in [long, short.clone()] {
+        let found = answers(&[Record::Bring(saved), Record::Dump]);
+        assert_eq!(found, ["bring 0", &expected]);
+    }
+    let found = answers(&[Record::Bring(short[..640].to_vec()), Record::Dump]);
+    assert_eq!(found, ["bring 31".into(), format!("state {}", "00".repeat(648))]);
 }
 
 /// Any count of inputs is answered.
@@ -118,7 +155,8 @@ fn heads() {
     assert_eq!(output(&[1, 1, 0]), "bad script\n");
     assert_eq!(output(&[1, 0, 0]), "");
     assert_eq!(output(&[1, 0, 0, b'N']), "read 2 0\n");
-    for form in (0..=255).filter(|&form| form != 1) {
+    assert_eq!(output(&[2, 0, 0, b'N']), "read 2 0\n");
+    for form in (0..=255).filter(|form| ![1, 2].contains(form)) {
         assert_eq!(output(&[form, 0, 0, b'N']), "bad script\n");
     }
     let long = [&[1, 255, 255][..], &[0; 65_535], b"N"].concat();
@@ -127,11 +165,14 @@ fn heads() {
 
 #[test]
 fn letters() {
-    for letter in 0..=255 {
-        let found = output(&[&[1, 0, 0, b'N', letter][..], &[0; 640]].concat());
-        let answered = b"NQSCRPILDXTWKV".contains(&letter);
-        let second = found.lines().nth(1).expect("two lines");
-        assert_eq!(second != "bad script", answered, "{letter}");
+    let forms = [(1, 640, &b"NQSCRPILDXTWKV"[..]), (2, 648, b"NQSCRPILMDXTWKV")];
+    for (form, length, letters) in forms {
+        for letter in 0..=255 {
+            let head = [form, 0, 0, b'N', letter];
+            let found = output(&[&head[..], &vec![0; length]].concat());
+            let second = found.lines().nth(1).expect("two lines");
+            assert_eq!(second != "bad script", letters.contains(&letter), "{letter}");
+        }
     }
 }
 
@@ -140,9 +181,9 @@ fn letters() {
 fn flags() {
     let head = Script::write(&FLIP_FLOP.sheet(), &[]);
     let load = |state: &[u8]| output(&[&head[..], b"L", state].concat());
-    let mut bytes = [0; 640];
+    let mut bytes = [0; 648];
     let mut flags = 0;
-    for place in 0..640 {
+    for place in 0..648 {
         bytes[place] = 2;
         flags += usize::from(load(&bytes) == "bad script\n");
         bytes[place] = 0;
@@ -180,7 +221,7 @@ fn records_are_read_as_written() {
         let script = script(seed);
         let read = Script::read(&script);
         if let (Some(sheet), None) = (read.sheet, read.rest) {
-            assert_eq!(Script::write(sheet, &read.records), script);
+            assert_eq!(Script::write_in(read.form, sheet, &read.records), script);
         }
     }
     let records = [
@@ -192,6 +233,7 @@ fn records_are_read_as_written() {
         Record::Plain(0x1234),
         Record::Instant(vec![Slot { unknown: true, number: 0xFEDC_BA98 }; 255]),
         Record::Load(Box::new(State::start(5))),
+        Record::Bring((0..=255).cycle().take(641).collect()),
         Record::Dump,
         Record::Extract(Lent { nodes: 16_385, rows: 1057 }),
         Record::Tables,
@@ -251,12 +293,12 @@ fn differences_are_named() {
     let expected =
         "line 2, record `choose 7`, after `start`\n  reference: choose 22\n  other: choose 33";
     assert_eq!(report, expected);
-    // The count's first byte is the fourth from the end.
+    // The count's first byte is the eighth from the end.
     let end = reference.len() - 1;
-    let other = format!("{}01000000\n", &reference[..end - 8]);
+    let other = format!("{}0100000000000000\n", &reference[..end - 16]);
     let report = differ(&other).expect("a difference");
     assert!(report.starts_with("line 3, record `state`, after `choose 7`"), "{report}");
-    assert!(report.ends_with("count: 00000000 and 01000000"), "{report}");
+    assert!(report.ends_with("count: 0000000000000000 and 0100000000000000"), "{report}");
     // A word of a table, a wire of a cycle run.
     let zero = [Slot::ZERO; 32];
     let (lent, inputs) = (Lent::RIGHT, vec![]);

@@ -106,9 +106,9 @@ fn stops() {
     assert_eq!(stop(&start, &rows(&[&[1], &[2, 2]])), (1, instant(1, 0), 25, quiet));
     assert_eq!(stop(&start, &rows(&[&[256]])), (0, instant(0, 0), 25, quiet));
     // Time is full in the second row's high instant, the count in the third choice.
-    let late = State { time: u32::MAX - 3, ..start.clone() };
+    let late = State { time: u64::MAX - 3, ..start.clone() };
     assert_eq!(stop(&late, &three), (1, instant(1, 1), 36, quiet));
-    let much = State { count: u32::MAX - 2, ..start.clone() };
+    let much = State { count: u64::MAX - 2, ..start.clone() };
     assert_eq!(stop(&much, &three), (0, Step::Rest { row: 0, clock: 1 }, 36, full));
     let mut unfit = start;
     unfit.places[0] = 3;

@@ -52,12 +52,12 @@ fn choices() {
     assert_eq!(refused(&simulator, &rested, 2), 33);
     assert_eq!(refused(&simulator, &rested, COMMIT), 35);
     // 36 comes last.
-    let full = State { count: u32::MAX, ..start };
+    let full = State { count: u64::MAX, ..start };
     assert_eq!(
         [2, 0, 3, COMMIT].map(|choice| refused(&simulator, &full, choice)),
         [36, 33, 22, 34]
     );
-    let mut pending = State { count: u32::MAX, ..rested };
+    let mut pending = State { count: u64::MAX, ..rested };
     assert_eq!(refused(&simulator, &pending, COMMIT), 35);
     pending.pending[0].held = true;
     assert_eq!(refused(&simulator, &pending, COMMIT), 36);
@@ -82,19 +82,19 @@ fn instants() {
     pending.pending[0].held = true;
     assert_eq!(refused_instant(&simulator, &pending, &good), 32);
     // 25 before 32 before 36; a full count doesn't matter.
-    let full = State { time: u32::MAX, count: u32::MAX, ..rested.clone() };
+    let full = State { time: u64::MAX, count: u64::MAX, ..rested.clone() };
     assert_eq!(refused_instant(&simulator, &full, &known(&[0])), 25);
     assert_eq!(refused_instant(&simulator, &full, &good), 36);
-    let full = State { time: u32::MAX, ..start.clone() };
+    let full = State { time: u64::MAX, ..start.clone() };
     assert_eq!(refused_instant(&simulator, &full, &good), 32);
     let mut unfit = full;
     unfit.due[1] = true;
     assert_eq!(refused_instant(&simulator, &unfit, &known(&[0])), 31);
     // Any value of the clock; x whatever its number.
-    let mut state = State { time: u32::MAX - 1, count: u32::MAX, ..rested };
+    let mut state = State { time: u64::MAX - 1, count: u64::MAX, ..rested };
     let wide_x = Slot { unknown: true, number: 99 };
     assert_eq!(simulator.instant(&mut state, &[wide_x, wide_x]), Ok(()));
-    assert_eq!((state.time, state.count), (u32::MAX, u32::MAX));
+    assert_eq!((state.time, state.count), (u64::MAX, u64::MAX));
 }
 
 /// What makes a state unfit, and what isn't looked at.

@@ -29,16 +29,17 @@ fn the_words_of_the_plain_run() {
     assert_eq!(plain(&start, u16::MAX), (2, 0, Verdict::Quiet));
     // Spent where exactly so many ran, also at a full count; else 36.
     let from = |count| State { count, ..start.clone() };
-    assert_eq!(plain(&from(u32::MAX), 0), (0, 0, Verdict::Spent));
-    assert_eq!(plain(&from(u32::MAX), 1), (0, 36, Verdict::Full));
-    assert_eq!(plain(&from(u32::MAX - 1), 1), (1, 0, Verdict::Spent));
-    assert_eq!(plain(&from(u32::MAX - 1), 2), (1, 36, Verdict::Full));
-    assert_eq!(plain(&from(u32::MAX - 2), 2), (2, 0, Verdict::Quiet));
+    assert_eq!(plain(&from(u64::MAX), 0), (0, 0, Verdict::Spent));
+    assert_eq!(plain(&from(u64::MAX), 1), (0, 36, Verdict::Full));
+    assert_eq!(plain(&from(u64::MAX - 1), 1), (1, 0, Verdict::Spent));
+    assert_eq!(plain(&from(u64::MAX - 1), 2), (1, 36, Verdict::Full));
+    assert_eq!(plain(&from(u64::MAX - 2), 2), (2, 0, Verdict::Quiet));
+    assert_eq!(plain(&from(u32::MAX.into()), 2), (2, 0, Verdict::Quiet));
     // Quiet before all.
     let mut quiet = start.clone();
     simulator.run_plain(&mut quiet, 9);
     assert_eq!(plain(&quiet, 0), (0, 0, Verdict::Quiet));
-    quiet.count = u32::MAX;
+    quiet.count = u64::MAX;
     assert_eq!(plain(&quiet, 0), (0, 0, Verdict::Quiet));
     assert_eq!(plain(&quiet, 9), (0, 0, Verdict::Quiet));
     // A state with something pending isn't quiet.

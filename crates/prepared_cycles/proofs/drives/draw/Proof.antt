@@ -33,7 +33,6 @@ draw-spec =
     (λ c κs. search needs)
     (λ c. search needs)
     (λ c. search needs)
-    (λ c. search needs)
     (λ c κs. search needs)
     counted-requires
     returns)

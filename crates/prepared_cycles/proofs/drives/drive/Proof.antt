@@ -2,6 +2,7 @@
 use borrow.Author.Needs.{needs}
 use native.Mathlib.Omega.{arith}
 use mathlib.Core.Path.{_≡_, refl, sym, _∙_}
+use Rattle.state.specs.State.{full}
 use Rattle.events.specs.Calls.{inputOf}
 use Rattle.plan.specs.Plan.{planOf}
 use Rattle.prepared_cycles.specs.Drives.{goingOf}
@@ -25,7 +26,7 @@ add-time c =
     let at-start = at-refusal .before .before .before in
     let a = at-start .args in
     let e = at-refusal .refusal .ensures (a .cells .now) (a .pending .now) (a .places .now) (a .g .standing .count) in
-    let d : a .g .standing .time ≡ 4294967295 → ⊥ = time-room _ _ _ (sym e ∙ at-else1 .if1 .left) in
+    let d : a .g .standing .time ≡ full → ⊥ = time-room _ _ _ (sym e ∙ at-else1 .if1 .left) in
     omega arith
 
 returns-2 : tie.Need-returns-2

@@ -2,6 +2,7 @@
 use borrow.Author.Needs.{needs}
 use native.Mathlib.Omega.{arith}
 use mathlib.Core.Path.{_≡_, refl, sym, _∙_}
+use Rattle.state.specs.State.{full}
 use Rattle.events.specs.Calls.{inputOf}
 use Rattle.plan.specs.Plan.{planOf}
 use Rattle.prepared_cycles.specs.Phases.{momentOf}
@@ -20,7 +21,7 @@ add-time c =
     let at-if = at-feed .before .before .before .before .before .before .before in
     let p = at-if .before .before .before .args in
     let e = at-if .before .refusal .ensures (p .cells .now) (p .pending .now) (p .places .now) (p .standing .count) in
-    let d : p .standing .time ≡ 4294967295 → ⊥ = time-room _ _ _ (sym e ∙ at-if .if1 .left) in
+    let d : p .standing .time ≡ full → ⊥ = time-room _ _ _ (sym e ∙ at-if .if1 .left) in
     omega arith
 
 add-count : tie.Need-add-count
@@ -46,7 +47,6 @@ phase-spec =
     (λ c κs. search needs)
     returns
     (λ c κs. search needs)
-    (λ c. search needs)
     (λ c. search needs)
     (λ c κs. search needs)
     add-time

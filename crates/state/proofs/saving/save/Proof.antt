@@ -3,7 +3,7 @@ use mathlib.Core.Path.{_∙_}
 use Prim.Native.Nat.{ℕ}
 use lib.ListN.{replicate, length-replicate}
 use borrow.Author.Needs.{needs}
-use Rattle.state.proofs.Laid.{sets-saved}
+use Rattle.state.proofs.Saved.{sets-saved}
 use Rattle.state.proofs.Stores.{saved-sets}
 use Rattle.state.proofs.saving.save.Statement.{statement}
 use Rattle.state.proofs.saving.save.Tie as tie
@@ -15,10 +15,10 @@ returns c =
     let slots = places .before .before .before .before in
     let values = slots .before .before .before .before .before .before in
     let st = values .before .before .before .before .before .args .t1 in
-    c .put-word2 .ensures
-    ∙ rw (c .before .before .put-word .ensures, marks .put-marks .ensures, places .put-places .ensures)
-    (rw (slots .put-slots .ensures, values .put-values .ensures) (saved-sets st (replicate 641 0)))
-    ∙ sets-saved st (replicate 641 0) (length-replicate {A = ℕ} 641 0)
+    c .put-long2 .ensures
+    ∙ rw (c .before .before .put-long .ensures, marks .put-marks .ensures, places .put-places .ensures)
+    (rw (slots .put-slots .ensures, values .put-values .ensures) (saved-sets st (replicate 649 0)))
+    ∙ sets-saved st (replicate 649 0) (length-replicate {A = ℕ} 649 0)
 
 pub save-spec : {M : Type 1} → statement M
 save-spec =
