@@ -1,8 +1,12 @@
 // A module driven by events through the halves of clock cycles: an instant, and then the plain run, or choices drawn by a seed until
 // nothing is left to choose. Each function equals its definition in specs/.
+mod going;
 mod saying;
 mod states;
 
+pub use going::after_expressions;
+pub use going::line_of;
+pub use going::run_unextracted;
 use options::Outcome;
 use options::Way;
 use plan::PlanTable;
@@ -42,6 +46,21 @@ pub enum Ending {
     Rested,
     Refused(u8),
     Restless(usize),
+}
+
+// What a line of the inputs is: a row of a cycle, a blank line that is passed over, the end of the file, or a line that is wrong.
+pub enum Line {
+    Cycle,
+    Passed,
+    Last,
+    Wrong,
+}
+
+// What becomes of a run whose module extraction refuses: it is held back, it goes on behind a warning, or it goes on and says nothing.
+pub enum Unextracted {
+    Held,
+    Warned,
+    Silent,
 }
 
 // The seed that choices are drawn by.

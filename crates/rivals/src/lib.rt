@@ -1,8 +1,14 @@
 // The four runs of a comparison: how far they came, the verdict over the rows of their traces, chunk by chunk, and how it ends. Each
 // function equals its definition in specs/.
+mod meeting;
+
 use comparison::Counts;
 use comparison::Finding;
 use comparison::Verdict;
+use driving::Ending;
+pub use meeting::first_ending;
+pub use meeting::meet;
+pub use meeting::telling_of;
 use options::Outcome;
 use trace_row::row_of;
 ghost use mathlib.Core.Path.{_≡_};
@@ -24,6 +30,28 @@ pub enum Halt {
     First,
     Second,
     Expressed,
+}
+
+// How each of them ended a cycle, or the start.
+pub struct Endings {
+    pub plain: Ending,
+    pub first: Ending,
+    pub second: Ending,
+    pub expressed: Ending,
+}
+
+// A cycle: does the comparison go on behind it, how did the first run end that stopped, and the verdict.
+pub struct Met {
+    pub on: bool,
+    pub ending: Ending,
+    pub verdict: Verdict,
+}
+
+// What is said at the end: nothing, that there was no cycle to compare, or the verdict.
+pub enum Telling {
+    Silent,
+    Uncompared,
+    Told,
 }
 
 // ---- how far the runs came

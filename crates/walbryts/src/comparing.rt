@@ -1,5 +1,5 @@
 // `compare`: event simulation, by the plain run and in two drawn orders, against the extracted expressions, cycle by cycle. What the
-// cycles show, and how the comparison ends, is judged by `rivals` and `comparison`.
+// cycles show, whether it goes on, and how it ends, is judged by `rivals` and `comparison`.
 use crate::feed;
 use crate::feed::Feed;
 use crate::feed::Row;
@@ -14,13 +14,14 @@ use clock_nodes::RowTable;
 use clock_steps::RowNumbers;
 use comparison::Counts;
 use comparison::Verdict;
-use driving::Rest;
+use driving::Line;
 use options::CompareOptions;
 use options::Outcome;
 use options::Way;
 use plan::PlanTable;
-use rivals::Halt;
-use rivals::Progress;
+use rivals::Endings;
+use rivals::Met;
+use rivals::Telling;
 use sheet::Layout;
 
 // The four runs: the plain one, those in the orders of seeds 1 and 2, and the one by the expressions.
@@ -54,64 +55,47 @@ fn halted(s: Sides, outcome: Outcome, feed: Feed) -> Sides {
     }
 }
 
-// A line that gives no cycle.
-fn unfed(s: Sides, row: Row) -> Sides {
-    let feed = row.feed;
-    if row.error == 1 {
-        if !feed::is_over(feed) {
-            let mut e = s;
-            e.feed = feed;
-            return e;
-        }
-    }
-    if row.error != 1 {
-        feed::say(feed, row.column, row.error);
-    }
-    halted(s, driving::line_outcome(row.error), feed)
-}
-
 // ---- a cycle
 
-// How many cycles a run did of one.
-fn done(s: Stand) -> usize {
-    let rest = s.rest;
-    if rest.rested { 1 } else { 0 }
-}
-
-fn progress(r: Runs) -> Progress {
-    let plain = r.plain;
-    let first = r.first;
-    let second = r.second;
-    let expressed = r.expressed;
-    Progress {
-        plain: done(plain),
-        first: done(first),
-        second: done(second),
-        expressed: done(expressed),
+// How the runs ended the cycle, or the start.
+fn endings(r: Runs) -> Endings {
+    let a = r.plain;
+    let b = r.first;
+    let c = r.second;
+    let d = r.expressed;
+    let plain = machine::ending_of(a);
+    let first = machine::ending_of(b);
+    let second = machine::ending_of(c);
+    let expressed = machine::ending_of(d);
+    Endings {
+        plain,
+        first,
+        second,
+        expressed,
     }
 }
 
-// What the rows of the four runs show.
+// What the four runs show, by how they ended and by their rows.
 fn judge(
     p: Plan,
     v: Verdict,
-    cycles: usize,
+    e: Endings,
     plain: &[u64; 176],
     first: &[u64; 176],
     second: &[u64; 176],
     expressed: &[u64; 176],
-) -> Verdict {
+) -> Met {
     let m = Counts {
         inputs: p.inputs,
         registers: p.registers,
         wires: p.wires,
         threads: p.threads,
     };
-    rivals::judge(m, v, cycles, plain, first, second, expressed)
+    rivals::meet(m, v, e, plain, first, second, expressed)
 }
 
 // The verdict with the cycle that was run.
-fn judged(p: Plan, v: Verdict, r: Runs) -> Verdict {
+fn judged(p: Plan, v: Verdict, r: Runs) -> Met {
     let plain = r.plain;
     let first = r.first;
     let second = r.second;
@@ -120,23 +104,7 @@ fn judged(p: Plan, v: Verdict, r: Runs) -> Verdict {
     let b = first.rows;
     let c = second.rows;
     let d = expressed.rows;
-    let n = rivals::comparable(progress(r));
-    judge(p, v, n, &a, &b, &c, &d)
-}
-
-// The run that stopped first.
-fn halting(r: Runs, h: Halt) -> Rest {
-    let plain = r.plain;
-    let first = r.first;
-    let second = r.second;
-    let expressed = r.expressed;
-    match h {
-        Halt::Nobody => plain.rest,
-        Halt::Plain => plain.rest,
-        Halt::First => first.rest,
-        Halt::Second => second.rest,
-        Halt::Expressed => expressed.rest,
-    }
+    judge(p, v, endings(r), &a, &b, &c, &d)
 }
 
 // The runs a cycle further.
@@ -167,30 +135,33 @@ fn advanced(
 // The cycle that was run: its verdict, and where a run did not come to rest said why.
 fn met(p: Plan, s: Sides, runs: Runs, feed: Feed) -> Sides {
     let old = s.verdict;
-    let cycle = comparison::cycle_of(old);
-    let h = rivals::first_halted(1, progress(runs));
-    let rest = halting(runs, h);
-    let verdict = judged(p, old, runs);
-    let outcome = s.outcome;
-    if rest.rested {
-        return Sides {
-            on: comparison::is_agreed(verdict),
-            outcome,
-            verdict,
-            runs,
-            feed,
-        };
-    }
-    machine::say_unrest(p.index, cycle, rest);
-    let e = driving::ending_of(rest);
-    let stopped = driving::outcome_of(e);
+    let m = judged(p, old, runs);
+    let ending = m.ending;
+    let verdict = m.verdict;
+    machine::say_unrest(p.index, comparison::cycle_of(old), ending);
     Sides {
-        on: false,
-        outcome: stopped,
+        on: m.on,
+        outcome: driving::outcome_of(ending),
         verdict,
         runs,
         feed,
     }
+}
+
+// A row's cycle.
+fn cycled(
+    p: Plan,
+    plan: &PlanTable,
+    lent: &PlanTable,
+    table: &RowTable,
+    numbers: &RowNumbers,
+    s: Sides,
+    row: Row,
+) -> Sides {
+    let before = s.runs;
+    let feed = row.feed;
+    let runs = advanced(plan, lent, table, numbers, before, row);
+    met(p, s, runs, feed)
 }
 
 // A row's cycle, or what its line is in place of one.
@@ -203,13 +174,20 @@ fn turn(
     s: Sides,
     row: Row,
 ) -> Sides {
-    if row.error != 0 {
-        return unfed(s, row);
-    }
-    let before = s.runs;
     let feed = row.feed;
-    let runs = advanced(plan, lent, table, numbers, before, row);
-    met(p, s, runs, feed)
+    match driving::line_of(row.error, feed::is_over(feed)) {
+        Line::Cycle => cycled(p, plan, lent, table, numbers, s, row),
+        Line::Passed => {
+            let mut e = s;
+            e.feed = feed;
+            e
+        }
+        Line::Last => halted(s, driving::line_outcome(row.error), feed),
+        Line::Wrong => {
+            feed::say(feed, row.column, row.error);
+            halted(s, driving::line_outcome(row.error), feed)
+        }
+    }
 }
 
 // ---- all of them
@@ -231,14 +209,11 @@ fn begun(p: Plan, plan: &PlanTable) -> Runs {
 // Before the first cycle; where a run does not come to rest from the start, says so.
 fn opened(p: Plan, plan: &PlanTable, fd: i32) -> Sides {
     let runs = begun(p, plan);
-    let h = rivals::first_halted(1, progress(runs));
-    let rest = halting(runs, h);
-    let on = running::started(p.sheet, rest);
-    let e = driving::ending_of(rest);
-    let outcome = driving::outcome_of(e);
+    let ending = rivals::first_ending(endings(runs));
+    let on = running::started(p.sheet, ending);
     Sides {
         on,
-        outcome,
+        outcome: driving::outcome_of(ending),
         verdict: Verdict::Agreed(0),
         runs,
         feed: feed::over(p.index, fd),
@@ -294,14 +269,15 @@ fn tell(names: &[u8; 2560], verdict: Verdict) -> Outcome {
 fn conclude(p: Plan, names: &[u8; 2560], s: Sides) -> Outcome {
     let outcome = s.outcome;
     let verdict = s.verdict;
-    if !rivals::is_said(verdict, outcome) {
-        return rivals::conclude(verdict, outcome);
+    let end = rivals::conclude(verdict, outcome);
+    match rivals::telling_of(verdict, outcome) {
+        Telling::Silent => end,
+        Telling::Uncompared => {
+            report::wrong_with(p.index, b": no cycle to compare\n", 0);
+            end
+        }
+        Telling::Told => options::joined(tell(names, verdict), end),
     }
-    if comparison::cycle_of(verdict) == 0 && comparison::is_agreed(verdict) {
-        report::wrong_with(p.index, b": no cycle to compare\n", 0);
-        return Outcome::Mistaken;
-    }
-    options::joined(tell(names, verdict), rivals::conclude(verdict, outcome))
 }
 
 // What the runs go by.

@@ -69,9 +69,15 @@ pub fn begin(p: Plan, plan: &PlanTable, way: Way) -> Stand {
     }
 }
 
-// Says why it did not come to rest.
-pub fn say_unrest(index: usize, cycle: usize, r: Rest) {
-    match driving::ending_of(r) {
+// Did it come to rest, and if not, why?
+pub fn ending_of(s: Stand) -> Ending {
+    let rest = s.rest;
+    driving::ending_of(rest)
+}
+
+// Says why a cycle did not come to rest, where it did not.
+pub fn say_unrest(index: usize, cycle: usize, e: Ending) {
+    match e {
         Ending::Rested => {}
         Ending::Refused(number) => report::stopped(index, cycle, number),
         Ending::Restless(most) => report::restless(index, cycle, most),
@@ -89,19 +95,6 @@ fn by_events(plan: &PlanTable, s: Stand, value: &[u32], unknown: &[bool]) -> Sta
         rest,
         registers,
         rows,
-    }
-}
-
-// The same way on, by expressions: the number of a cycle run, 0 where it was accepted.
-fn ended(r: Rest, number: u8) -> Rest {
-    let way = r.way;
-    let state = r.state;
-    Rest {
-        way,
-        number,
-        rested: number == 0,
-        state,
-        seed: r.seed,
     }
 }
 
@@ -137,7 +130,7 @@ fn by_expressions(
         unknown,
         places,
     };
-    let rest = ended(old, r.number);
+    let rest = driving::after_expressions(old, r.number);
     Stand {
         rest,
         registers,

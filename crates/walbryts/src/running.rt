@@ -17,7 +17,8 @@ use crate::wave::Wave;
 use clock_nodes::RowTable;
 use clock_steps::RowNumbers;
 use driving::Ending;
-use driving::Rest;
+use driving::Line;
+use driving::Unextracted;
 use libc::STDERR_FILENO;
 use libc::STDOUT_FILENO;
 use options::Outcome;
@@ -144,23 +145,15 @@ fn fed(p: Plan, c: Course, text: &[u8; 65536], buffer: &mut [u8; 65536]) -> Cour
     stopped(e, Outcome::Mistaken)
 }
 
-// The line of a row that is none: the end, a blank line, or one that is wrong.
-fn unfed(c: Course, row: Row) -> Course {
-    let feed = row.feed;
+// A line that is wrong.
+fn mistaken(c: Course, row: Row) -> Course {
     let mut e = c;
-    e.feed = feed;
-    if row.error != 1 {
-        e.error = row.error;
-        e.column = row.column;
-        return stopped(e, driving::line_outcome(row.error));
-    }
-    if feed::is_over(feed) {
-        return stopped(e, Outcome::Done);
-    }
-    e
+    e.error = row.error;
+    e.column = row.column;
+    stopped(e, driving::line_outcome(row.error))
 }
 
-// A row's cycle, or what its line is in place of one.
+// A row's cycle: where it does not come to rest, the run stops.
 fn cycled(
     plan: &PlanTable,
     lent: &PlanTable,
@@ -169,23 +162,38 @@ fn cycled(
     c: Course,
     row: Row,
 ) -> Course {
-    if row.error != 0 {
-        return unfed(c, row);
-    }
     let old = c.stand;
-    let feed = row.feed;
     let stand = machine::whole(plan, lent, table, numbers, old, row);
-    let rest = stand.rest;
-    let rested = rest.rested;
+    let mut e = c;
+    e.stand = stand;
+    match machine::ending_of(stand) {
+        Ending::Rested => {
+            e.fresh = true;
+            e
+        }
+        Ending::Refused(_) => stopped(e, outcome_of(stand)),
+        Ending::Restless(_) => stopped(e, outcome_of(stand)),
+    }
+}
+
+// A row's cycle, or what its line is in place of one.
+fn turn(
+    plan: &PlanTable,
+    lent: &PlanTable,
+    table: &RowTable,
+    numbers: &RowNumbers,
+    c: Course,
+    row: Row,
+) -> Course {
+    let feed = row.feed;
     let mut e = c;
     e.feed = feed;
-    e.stand = stand;
-    e.fresh = rested;
-    if rested {
-        return e;
+    match driving::line_of(row.error, feed::is_over(feed)) {
+        Line::Cycle => cycled(plan, lent, table, numbers, e, row),
+        Line::Passed => e,
+        Line::Last => stopped(e, driving::line_outcome(row.error)),
+        Line::Wrong => mistaken(e, row),
     }
-    let outcome = outcome_of(rest);
-    stopped(e, outcome)
 }
 
 // ---- what is shown of it
@@ -270,7 +278,7 @@ fn turns(
             c = fed(p, c, &text, &mut buffer);
         } else {
             let row = feed::next_row(f, &buffer, &widths, p.inputs);
-            c = cycled(plan, lent, table, numbers, c, row);
+            c = turn(plan, lent, table, numbers, c, row);
             c = shown(p, names, path, c, &mut text, &mut waves);
         }
         left -= 1;
@@ -342,17 +350,14 @@ fn say_end(p: Plan, c: Course) {
         feed::say(c.feed, c.column, c.error);
     }
     let stand = c.stand;
-    let rest = stand.rest;
-    if !rest.rested {
-        machine::say_unrest(p.index, c.cycle, rest);
-    }
+    machine::say_unrest(p.index, c.cycle, machine::ending_of(stand));
 }
 
 // ---- its start
 
 // Did it come to rest from the start? If not, says why.
-pub fn started(index: usize, rest: Rest) -> bool {
-    match driving::ending_of(rest) {
+pub fn started(index: usize, e: Ending) -> bool {
+    match e {
         Ending::Rested => true,
         Ending::Refused(number) => {
             report::stopped(index, 0, number);
@@ -365,9 +370,9 @@ pub fn started(index: usize, rest: Rest) -> bool {
     }
 }
 
-// How the command ends where a run ends so.
-fn outcome_of(rest: Rest) -> Outcome {
-    let e = driving::ending_of(rest);
+// How the command ends where its run stands so.
+fn outcome_of(s: Stand) -> Outcome {
+    let e = machine::ending_of(s);
     driving::outcome_of(e)
 }
 
@@ -389,17 +394,20 @@ fn course_of(p: Plan, fd: i32, stand: Stand, wave: Wave) -> Course {
     }
 }
 
-// Is the run to be held back, or is a word to be said first, where extraction refuses the module?
+// Is the run to be held back, where extraction refuses the module? Says what is to be said first.
 fn unextracted(o: RunOptions, sheet: &[u8], names: &[u8; 2560]) -> bool {
     let way = o.way;
-    if driving::is_expressed(way) {
-        report::refuse_extraction(o.sheet, sheet, names);
-        return true;
+    match driving::run_unextracted(way, o.silent) {
+        Unextracted::Held => {
+            report::refuse_extraction(o.sheet, sheet, names);
+            true
+        }
+        Unextracted::Warned => {
+            report::one_order(o.sheet, sheet, names);
+            false
+        }
+        Unextracted::Silent => false,
     }
-    if !o.silent {
-        report::one_order(o.sheet, sheet, names);
-    }
-    false
 }
 
 // Extraction's tables, laid out for a run.
@@ -445,9 +453,8 @@ fn run_on(
     prepared::prepare(sheet, &mut plan);
     let way = o.way;
     let stand = machine::begin(p, &plan, way);
-    let rest = stand.rest;
-    if !started(o.sheet, rest) {
-        return outcome_of(rest);
+    if !started(o.sheet, machine::ending_of(stand)) {
+        return outcome_of(stand);
     }
     let mut lent = [0u32; 25212];
     let mut table = [0u32; 1152];
