@@ -17,11 +17,13 @@ isLineEnd bytes i = eqb (getD bytes i 0) 10
 unfoldable pub lineEnd : List ℕ → ℕ → ℕ → ℕ
 lineEnd bytes from to = firstFrom (isLineEnd bytes) (to - from) from
 
--- ---- waiting: a line and where it ends; the last line of a file may have no line end. Where no whole line waits, the file is read on,
--- but not where what waits is as long as the buffer: such a line is too long.
+-- ---- waiting: a line and where it ends; the last line of a file may have no line end
+
+-- Where no whole line waits, the file is read on, but not where what waits is as long as the buffer: such a line is too long.
+unfoldable pub unended : List ℕ → ℕ → ℕ → Waiting
+unended bytes from to = pick (leb (from + length bytes) to) Long More
 
 unfoldable pub waiting : List ℕ → ℕ → ℕ → Bool → Waiting
 waiting bytes from to ended =
     pick (ltb (lineEnd bytes from to) to) (Whole (lineEnd bytes from to))
-    (pick ended (pick (ltb from to) (Whole to) Nothing)
-    (pick (leb (from + length bytes) to) Long More))
+    (pick ended (pick (ltb from to) (Whole to) Nothing) (unended bytes from to))

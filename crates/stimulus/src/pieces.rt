@@ -2,7 +2,7 @@
 use crate::Waiting;
 use crate::words::byte_at;
 ghost use mathlib.Core.Path.{_≡_};
-ghost use Rattle.stimulus.specs.Waiting.{lineEnd, waiting};
+ghost use Rattle.stimulus.specs.Waiting.{lineEnd, unended, waiting};
 
 // The first line end from one place on, or the other place.
 pub fn line_end(bytes: &[u8], from: usize, to: usize) -> usize
@@ -16,6 +16,19 @@ pub fn line_end(bytes: &[u8], from: usize, to: usize) -> usize
         i += 1;
     }
     i
+}
+
+// What waits without a line end, while the file has more: it is read on, or too long where it fills the buffer.
+fn unended(bytes: &[u8], from: usize, to: usize) -> Waiting
+    ensures { λ r. ⌜ r ≡ unended (now (bytes .entry)) from to ⌝ }
+{
+    if to < from {
+        return Waiting::More;
+    }
+    if to - from < bytes.len() {
+        return Waiting::More;
+    }
+    Waiting::Long
 }
 
 // What waits from one place to another; `ended` says that the file has nothing more.
@@ -32,11 +45,5 @@ pub fn find_line(bytes: &[u8], from: usize, to: usize, ended: bool) -> Waiting
         }
         return Waiting::Nothing;
     }
-    if to < from {
-        return Waiting::More;
-    }
-    if to - from < bytes.len() {
-        return Waiting::More;
-    }
-    Waiting::Long
+    unended(bytes, from, to)
 }

@@ -5,6 +5,31 @@ use Rattle.verilog_read.proofs.Wholes.{derived-no, derived-yes}
 use Rattle.verilog_read.proofs.derived.Statement.{statement}
 use Rattle.verilog_read.proofs.derived.Tie as tie
 
+returns : tie.Need-returns
+returns c =
+    let test = c .before .before in
+    let read = test .before .before in
+    let number = read .before .before .before .before .before in
+    derived-no _ _ _ _ _
+    (number .before .before .wide .ensures)
+    (number .number .ensures)
+    (read .read .ensures)
+    (not-true _ (test .if1 .taken))
+    (c .before .place-at .ensures)
+    (c .refusal .ensures)
+
+returns-2 : tie.Need-returns-2
+returns-2 c =
+    let test = c .before .before .before .before .before in
+    let read = test .before .before in
+    let number = read .before .before .before .before .before in
+    derived-yes _ _ _ _ _
+    (number .before .before .wide .ensures)
+    (number .number .ensures)
+    (read .read .ensures)
+    (not-false _ (test .if1 .left))
+    (c .before .before .named .ensures)
+
 pub derived-spec : {M : Type 1} → statement M
 derived-spec =
     tie.close
@@ -14,7 +39,7 @@ derived-spec =
     (λ c κs. search needs)
     (λ c κs. search needs)
     (λ c κs. search needs)
-    (λ c. derived-no _ _ _ _ _ (c .before .before .before .before .before .before .before .before .before .before .before .wide .ensures) (c .before .before .before .before .before .before .before .before .before .number .ensures) (c .before .before .before .before .read .ensures) (not-true _ (c .before .before .if1 .taken)) (c .before .place-at .ensures) (c .refusal .ensures))
+    returns
     (λ c κs. search needs)
     (λ c. search needs)
-    (λ c. derived-yes _ _ _ _ _ (c .before .before .before .before .before .before .before .before .before .before .before .before .before .before .wide .ensures) (c .before .before .before .before .before .before .before .before .before .before .before .before .number .ensures) (c .before .before .before .before .before .before .before .read .ensures) (not-false _ (c .before .before .before .before .before .if1 .left)) (c .before .before .named .ensures)))
+    returns-2)

@@ -1,9 +1,6 @@
 -- `stimulus::pieces::find_line` meets its contract, row by row. Assumes nothing.
 use borrow.Author.Needs.{needs}
-use borrow.Author.Tests.{lt-ltb, le-ltb, lt-leb, le-leb}
-use native.Mathlib.Omega.{arith}
-use Prim.Native.Nat.{_+_}
-use lib.ListN.{length}
+use borrow.Author.Tests.{lt-ltb, le-ltb}
 use Rattle.stimulus.specs.Waiting.{waiting}
 use Rattle.stimulus.proofs.pieces.find_line.Statement.{statement}
 use Rattle.stimulus.proofs.pieces.find_line.Tie as tie
@@ -28,24 +25,7 @@ returns-4 : tie.Need-returns-4
 unfolding waiting
 returns-4 c =
     let at-end = c .before .before in
-    let a = at-end .before .before .before .args in
-    rw (← at-end .before .line-end .ensures, le-ltb _ _ (at-end .if1 .left), c .before .if2 .left, lt-leb (a .from + length (a .bytes .now)) (a .to) (omega arith))
-
-returns-5 : tie.Need-returns-5
-unfolding waiting
-returns-5 c =
-    let at-more = c .before .before in
-    let at-end = at-more .before in
-    let a = at-end .before .before .before .args in
-    rw (← at-end .before .line-end .ensures, le-ltb _ _ (at-end .if1 .left), at-more .if2 .left, lt-leb (a .from + length (a .bytes .now)) (a .to) (omega arith))
-
-returns-6 : tie.Need-returns-6
-unfolding waiting
-returns-6 c =
-    let at-more = c .before .before in
-    let at-end = at-more .before in
-    let a = at-end .before .before .before .args in
-    rw (← at-end .before .line-end .ensures, le-ltb _ _ (at-end .if1 .left), at-more .if2 .left, le-leb (a .from + length (a .bytes .now)) (a .to) (omega arith))
+    rw (← at-end .before .line-end .ensures, le-ltb _ _ (at-end .if1 .left), c .before .if2 .left) (c .unended .ensures)
 
 pub find-line-spec : {M : Type 1} → statement M
 find-line-spec =
@@ -55,6 +35,5 @@ find-line-spec =
     returns
     returns-2
     returns-3
-    returns-4
-    returns-5
-    returns-6)
+    (λ c κs. search needs)
+    returns-4)
