@@ -56,7 +56,7 @@ pub fn is_told(asked: bool, cycle: usize, errors: bool, table: bool) -> bool
 }
 
 // How many bytes in front of two texts agree.
-pub fn common<'a>(a: &'a [u8], b: &'a [u8]) -> usize
+pub fn common(a: &[u8], b: &[u8]) -> usize
     ensures { λ r. ⌜ r ≡ common (now (a .entry)) (now (b .entry)) ⌝ }
 {
     let mut i: usize = 0;

@@ -83,6 +83,10 @@ fn common_part(table: &[u8], bytes: &[u8], from: usize, to: usize) -> usize {
     outputs::common(table, &bytes[from..to])
 }
 
+fn common_bytes(table: &[u8], bytes: &[u8; 65536], to: usize) -> usize {
+    common_part(table, bytes, 0, to)
+}
+
 // The file's bytes between two places, where the table has others.
 fn say_part(x: Expected, table: &[u8], bytes: &[u8], from: usize, to: usize, place: usize) {
     if from > to || to > bytes.len() {
@@ -107,7 +111,7 @@ fn read_behind(x: Expected, buffer: &mut [u8], at: usize) -> usize {
 
 // A part of the table, and what the file has in its place.
 fn held(x: Expected, table: &[u8], buffer: &mut [u8; 65536], size: usize) -> Expected {
-    let n = common_part(table, buffer, 0, size);
+    let n = common_bytes(table, buffer, size);
     if n == table.len() {
         return with_lines(x, table);
     }
