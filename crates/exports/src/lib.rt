@@ -58,7 +58,11 @@ pub extern "C" fn walbryts_is_state(bytes: &[u8]) -> bool
 // A saved state of any form, in the form that the calls take: one with one count is brought over with that count as user 0's and
 // these allowances.
 #[no_mangle]
-pub extern "C" fn walbryts_bring_over(old: &[u8], allowances: &[u32; 4], state: &mut [u8; 689]) -> u8
+pub extern "C" fn walbryts_bring_over(
+    old: &[u8],
+    allowances: &[u32; 4],
+    state: &mut [u8; 689],
+) -> u8
     ensures { λ r. ⌜ r ≡ broughtOver (now (old .entry)) (now (allowances .entry)) .number ⌝ }
     ensures { λ r. ⌜
         now (state .exit)
