@@ -1,5 +1,6 @@
 // One choice of the simulation cycle, and runs of them, on a plan that was filled once (document 01, "The simulation cycle"). Each
-// function equals its definition in specs/ for plans and states of any contents. Of the counts and allowances only the room that is left is asked.
+// function equals its definition in specs/ for plans and states of any contents. Of a user's count and allowance only the room that
+// is left is asked.
 use plan::Action;
 use plan::Cells;
 use plan::Expression;
