@@ -80,12 +80,17 @@ body st =
 unfoldable pub longBytes : ℕ → List ℕ
 longBytes n = wordBytes (n % 4294967296) ++ wordBytes (n / 4294967296)
 
--- The time, the four counts, 8 bytes each, and the four allowances, 4 bytes each
+-- The four counts, 8 bytes each
+unfoldable pub countBytes : List ℕ → List ℕ
+countBytes ns = rows 4 (λ u. longBytes (getD ns u 0))
+
+-- The four allowances, 4 bytes each
+unfoldable pub allowanceBytes : List ℕ → List ℕ
+allowanceBytes ns = rows 4 (λ u. wordBytes (getD ns u 0))
+
+-- The time, the counts and the allowances
 unfoldable pub tail : Counters → List ℕ
-tail c =
-    longBytes (c .time)
-    ++ rows 4 (λ u. longBytes (getD (c .counts) u 0))
-    ++ rows 4 (λ u. wordBytes (getD (c .allowances) u 0))
+tail c = longBytes (c .time) ++ countBytes (c .counts) ++ allowanceBytes (c .allowances)
 
 -- Form 3: 689 bytes
 unfoldable pub saved : State → List ℕ
