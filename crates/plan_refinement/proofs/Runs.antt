@@ -70,9 +70,9 @@ module _ {m : Module Expr} {q : Plan} (w : PlanOf m q) (u : ℕ) (user : u < use
   runList-shows (c ∷ cs) st room l g f e z =
       let t = take-shows w st (fits-kept g f) u user room e l z c in
       let x = chooseIn m st u c .state in
-      onward-runs (chooseIn m st u c) (takeChoice q room c l) (runList q cs (room - 1) (takeChoice q room c l .left)) (runIn m u cs u) t
-      (λ h. runList-shows cs u (room - 1) (takeChoice q room c l .left) (shaped-chooseIn m st u c g)
-      (fits-chooseIn m (w .sound) st g f c) (room-accepted st room c l e t h) (t .left))
+      onward-runs (chooseIn m st u c) (takeChoice q room c l) (runList q cs (room - 1) (takeChoice q room c l .left)) (runIn m u cs x) t
+      (λ h. runList-shows cs x (room - 1) (takeChoice q room c l .left) (shaped-chooseIn m st u c g)
+      (fits-chooseIn m (w .sound) st g f u c) (room-accepted st room c l g e t h) (t .left))
 
   -- ---- the plain run
 
@@ -146,8 +146,8 @@ module _ {m : Module Expr} {q : Plan} (w : PlanOf m q) (u : ℕ) (user : u < use
       let c = calls.plainChoice m st in
       let t = take-shows w st (fits-kept g f) u user room e l z c in
       let x = chooseIn m st u c .state in
-      let x = takeChoice q room c l in
-      plain-step st room l (fits-kept g f) z (runPlain q n (room - 1)) (runBy m u (calls.plainChoice m) n u)
-      (resting-rests st c x (runPlain q n (room - 1) (x .left)) (runBy m u (calls.plainChoice m) n u) t
-      (λ h. runPlain-shows n u (room - 1) (x .left) (shaped-chooseIn m st u c g) (fits-chooseIn m (w .sound) st g f c)
-      (room-accepted st room c l e t h) (t .left)))
+      let y = takeChoice q room c l in
+      plain-step st room l (fits-kept g f) z (runPlain q n (room - 1)) (runBy m u (calls.plainChoice m) n x)
+      (resting-rests st c y (runPlain q n (room - 1) (y .left)) (runBy m u (calls.plainChoice m) n x) t
+      (λ h. runPlain-shows n x (room - 1) (y .left) (shaped-chooseIn m st u c g) (fits-chooseIn m (w .sound) st g f u c)
+      (room-accepted st room c l g e t h) (t .left)))
