@@ -55,19 +55,19 @@ module _ {m : Module Expr} {q : Plan} (w : PlanOf m q) where
   unfolding userless refusal byUser items
   userless-same st u c h = rw (w .threads, w .wires, le-ltb u users h) refl
 
+  userless-some : (c : ℕ) → userless q c ≡ 0 → ⊥
+  unfolding userless
+  userless-some c = by (ltb c (q .threads + q .wires)) (eqb c 255)
+    where
+      by : (a b : Bool) → _≡_ {A = ℕ} (pick a 46 (pick b 46 22)) 0 → ⊥
+      by true b e = omega arith
+      by false true e = omega arith
+      by false false e = omega arith
+
   userless-choice : (st : State) (u c : ℕ) → users ≤ u → record { number = userless q c; state = st } ≡ chooseIn m st u c
   userless-choice st u c h =
       let e = userless-same st u c h in
       ap (λ (n : ℕ). record { number = n; state = st }) e ∙ sym (chooseIn-refused m st u c (λ z. userless-some c (e ∙ z)))
-    where
-      userless-some : (c : ℕ) → userless q c ≡ 0 → ⊥
-      unfolding userless
-      userless-some c = by (ltb c (q .threads + q .wires)) (eqb c 255)
-        where
-          by : (a b : Bool) → pick a 46 (pick b 46 22) ≡ 0 → ⊥
-          by true b e = omega arith
-          by false true e = omega arith
-          by false false e = omega arith
 
   module _ (st : State) (same : planFits q st ≡ stateFits m st) (h : Shaped st) (b : Bounded st) where
     fit : stateFits m st ≡ true → Fits m st
@@ -190,15 +190,15 @@ module _ {m : Module Expr} {q : Plan} (w : PlanOf m q) where
           by true = refl
           by false = refl
 
+      later-timed : timed st .counters ≡ later (st .counters)
+      unfolding timed withCounters
+      later-timed = refl
+
       fed-at : stateFits m st ≡ true → fedAt q st a ≡ feed m (inputOf a) (timed st)
       unfolding fedAt
       fed-at f =
           packed-shows (feed-timed-shows w st (kept f) (unpacked q st) (shown f) (inputOf a) fitting) (later (st .counters))
           (counters-feed m st (inputOf a) ∙ later-timed)
-        where
-          later-timed : timed st .counters ≡ later (st .counters)
-          unfolding timed withCounters
-          later-timed = refl
 
       pub instant-at : instantAt q st a ≡ pick (stateFits m st) (instantIn m st a) (record { number = 31; state = st })
       unfolding instantAt instantIn
