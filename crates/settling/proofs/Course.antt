@@ -128,7 +128,8 @@ module _ (m : Module Expr) (who : ℕ) (next : State → ℕ) where
       u = chooseIn m st who (next st) .state
 
       by : Going st → choicesBy m who next (a + b) u ≡ choicesBy m who next a u ++ choicesBy m who next b (runBy m who next a u .state) →
-          choicesBy m who next (suc a + b) st ≡ choicesBy m who next (suc a) st ++ choicesBy m who next b (runBy m who next (suc a) st .state)
+          choicesBy m who next (suc a + b) st
+          ≡ choicesBy m who next (suc a) st ++ choicesBy m who next b (runBy m who next (suc a) st .state)
       by (goes q z) ih =
           let e : suc a + b ≡ suc (a + b) = omega arith in
           rw (e, choices-goes st q z (a + b), choices-goes st q z a, state-goes st q z a, ih) refl

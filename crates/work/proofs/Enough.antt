@@ -130,7 +130,8 @@ module _ (m : Module Expr) (w : Sound m) (R : Ruled m) (who : ℕ) (four : who <
       ready ih h (commit-ready t p b y) e = inr (commit-there m who n u h (z h) e .2)
 
       by : (t : Bool) → quiet m u ≡ t →
-          ((q : ℕ) (v : State) → Shaped v → Ahead q v → q < n → countOf v who + q < allowanceOf v who → Long m who n v) → Long m who (suc n) u
+          ((q : ℕ) (v : State) → Shaped v → Ahead q v → q < n → countOf v who + q < allowanceOf v who → Long m who n v) →
+          Long m who (suc n) u
       by true h ih = inl (rw h refl)
       by false h ih = ready ih h (plain-ready m u h) refl
 

@@ -252,20 +252,23 @@ module _ (m : Module Expr) (w : Sound m) (R : Ruled m) (who : ℕ) (f : ℕ → 
   fresh-rest n u h e t F =
       wires-rest n u 0 h e t (fresh-passed m f u (λ i l. idle-thread m u i l (none-enabled m u h i (omega arith))) F)
 
-  fresh-turn : (n : ℕ) → ((u : State) → Shaped u → Fresh m f u → Long m who n u → stored m who n u ≡ readers m f (valueOf (end m who n u))) →
+  fresh-turn : (n : ℕ) →
+      ((u : State) → Shaped u → Fresh m f u → Long m who n u → stored m who n u ≡ readers m f (valueOf (end m who n u))) →
       (u : State) → Shaped u → Fresh m f u → Long m who (suc n) u → Turn m who (suc n) u →
       stored m who (suc n) u ≡ readers m f (valueOf (end m who (suc n) u))
   unfolding readersBelow
   fresh-turn n ih u s F h (rests a e t) = fresh-rest (suc n) u a e t F
   fresh-turn n ih u s F h (thread i l step e t g) =
       let new = next m who u in
-      e ∙ ih new (shaped-chooseIn m u who (plainChoice m u) s) (fresh-thread u new i l step F) g ∙ ap (λ v. readers m f (valueOf v)) (sym t)
+      e ∙ ih new (shaped-chooseIn m u who (plainChoice m u) s) (fresh-thread u new i l step F) g
+      ∙ ap (λ v. readers m f (valueOf v)) (sym t)
   fresh-turn n ih u s F h (wire k l step idle e t g) =
       stores-rest (suc n) u s 0 (fresh-passed m f u (λ i b. idle-thread m u i b (idle i (omega arith))) F) h
 
   fresh-zero : (u : State) → Fresh m f u → Turn m who 0 u → stored m who 0 u ≡ readers m f (valueOf (end m who 0 u))
   fresh-zero u F (rests h e t) = fresh-rest 0 u h e t F
 
-  pub stores-readers : (n : ℕ) (u : State) → Shaped u → Fresh m f u → Long m who n u → stored m who n u ≡ readers m f (valueOf (end m who n u))
+  pub stores-readers :
+      (n : ℕ) (u : State) → Shaped u → Fresh m f u → Long m who n u → stored m who n u ≡ readers m f (valueOf (end m who n u))
   stores-readers zero u s F h = fresh-zero u F (turn m who w zero u s h)
   stores-readers (suc n) u s F h = fresh-turn n (stores-readers n) u s F h (turn m who w (suc n) u s h)

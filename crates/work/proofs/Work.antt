@@ -35,7 +35,8 @@ module _ (s : List ℕ) (m : Module Expr) (r : read s ≡ ok m) (R : Ruled m) wh
   abbrev w : Sound m
   w = sound s r
 
-  exact-fresh : (u : ℕ) → u < users → (before after : State) → Shaped after → Fits m after → Fresh m (valueOf before) after → Exact s m u before after
+  exact-fresh : (u : ℕ) → u < users → (before after : State) → Shaped after → Fits m after → Fresh m (valueOf before) after →
+      Exact s m u before after
   unfolding readers
   exact-fresh u b before after shaped F fresh =
       record {
