@@ -129,8 +129,8 @@ run-keeps s b u cs bytes h = by (loaded b) refl h
     by none e w = (refl, refl, refl)
     by (some st) e w =
         let f : Module Expr → Ran = λ m. runIn m u cs st in
-        let g = λ (m : Module Expr). user-refused (idle st) 0 (f m) (λ o. absurd (o refl)) u in
-        let q = judged-refused st (idle st) (λ m. byUser u 0) _ g (read s) w in (
+        let r = idle st in
+        let q = judged-refused st r (λ m. byUser u 0) _ (λ m. user-refused r 0 (f m) (λ o. absurd (o refl)) u) (read s) w in (
           ap (λ (x : Ran). x .number) q,
           ap (λ (x : Ran). x .accepted) q,
           ap (λ (x : Ran). saved (x .state)) q ∙ saved-loaded b st e bytes,
@@ -147,8 +147,8 @@ plain-run-keeps s b u limit bytes h = by (loaded b) refl h
     by none e w = (refl, refl, refl)
     by (some st) e w =
         let f : Module Expr → Rested = λ m. runBy m u (plainChoice m) limit st in
-        let g = λ (m : Module Expr). user-refused (idlePlain st) 0 (f m) (λ o. absurd (o refl)) u in
-        let q = judged-refused st (idlePlain st) (λ m. byUser u 0) _ g (read s) w in (
+        let r = idlePlain st in
+        let q = judged-refused st r (λ m. byUser u 0) _ (λ m. user-refused r 0 (f m) (λ o. absurd (o refl)) u) (read s) w in (
           ap (λ (x : Rested). x .verdict) q,
           ap (λ (x : Rested). x .accepted) q,
           ap (λ (x : Rested). saved (x .state)) q ∙ saved-loaded b st e bytes,
@@ -176,8 +176,8 @@ run-cycles-keeps s b u ns xs bytes h = by (loaded b) refl h
     by (some st) e w =
         let whole = wholeRows ns xs in
         let r : ℕ → Cycled = λ n. cycled 0 n false st in
-        let g = λ (m : Module Expr). user-refused r (rowsNumber whole) _ (rows st _ whole) u in
-        let q = judged-refused st r (λ m. byUser u (rowsNumber whole)) _ g (read s) w in (
+        let k = rowsNumber whole in
+        let q = judged-refused st r (λ m. byUser u k) _ (λ m. user-refused r k _ (rows st _ whole) u) (read s) w in (
           ap (λ (x : Cycled). x .number) q,
           ap (λ (x : Cycled). x .phases) q,
           ap (λ (x : Cycled). x .running) q,

@@ -271,8 +271,8 @@ pub extern "C" fn walbryts_instant(
     entered.number
 }
 
-// Many clock cycles, whose choices are a user's: rows of 16 inputs, the clock's not looked at; `phases` takes how many instants were done, `running` whether it
-// was the run after an instant that stopped it.
+// Many clock cycles, whose choices are a user's: rows of 16 inputs, the clock's not looked at; `phases` takes how many instants were
+// done, `running` whether it was the run after an instant that stopped it.
 #[no_mangle]
 pub extern "C" fn walbryts_run_cycles(
     sheet: &[u8],
