@@ -12,7 +12,7 @@ use state::Counters;
 use state::FULL;
 ghost use mathlib.Core.Path.{_≡_};
 ghost use mathlib.Core.List.{List};
-ghost use Prim.Native.Nat.{ℕ, _<_};
+ghost use Prim.Native.Nat.{ℕ};
 ghost use Rattle.state.specs.State.{full, countersOf};
 ghost use Rattle.plan.specs.Plan.{planOf};
 ghost use Rattle.plan_engine.specs.Live.{live};
@@ -37,7 +37,7 @@ pub fn refusal(plan: &PlanTable, marks: Marks, time: u64, a: Inputs) -> u8
 
 // The time one further.
 pub fn later(c: Counters) -> Counters
-    requires { ⌜ c .time < full ⌝ }
+    requires { ⌜ (c .time ≡ full → ⊥) ⌝ }
     ensures { λ r. ⌜ r ≡ later c ⌝ }
 {
     let counts = c.counts;
