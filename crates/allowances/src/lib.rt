@@ -3,6 +3,9 @@
 ghost use mathlib.Core.Path.{_≡_};
 ghost use Rattle.allowances.specs.Allowances.{userOf, nothing, spoilt, digitTaken, commaTaken, taken, refused, allowedBy, allowancesOf};
 
+// The greatest allowance: each user's where no word says otherwise.
+pub const MOST: u32 = 4294967295;
+
 // Four allowances, or a word that is none.
 pub struct Allowances {
     pub good: bool,

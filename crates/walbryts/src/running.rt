@@ -480,6 +480,8 @@ fn plan_of(o: RunOptions, layout: Layout, sheet: &[u8]) -> Plan {
         last: o.last,
         told: o.progress,
         waved: o.vcd != 0,
+        user: 0,
+        allowances: [allowances::MOST; 4],
     }
 }
 
