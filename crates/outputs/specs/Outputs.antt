@@ -1,8 +1,8 @@
--- Files that a command writes, and when it tells how far it has come.
+-- Files that a command writes, how far a text is the one that was expected, and when the command tells how far it has come.
 use mathlib.Core.Bool.{Bool, false, not, _&&_, _||_}
-use mathlib.Core.List.{List, _++_}
-use Prim.Native.Nat.{ℕ}
-use lib.Dec.{leb}
+use mathlib.Core.List.{List, [], _∷_, _++_}
+use Prim.Native.Nat.{ℕ, suc}
+use lib.Dec.{leb, eqb}
 use Rattle.values.specs.Values.{pick}
 use Rattle.writing.specs.Ascii.{ascii}
 use Rattle.outputs.specs.declared.Aim.{Aim}
@@ -24,3 +24,10 @@ partName path id = ((path ++ ascii ".") ++ id) ++ ascii ".part"
 
 unfoldable pub isTold : Bool → ℕ → Bool → Bool → Bool
 isTold asked cycle errors table = not table && (asked || (leb 10000 cycle && errors))
+
+-- ---- common: how many bytes in front of two texts agree
+
+unfoldable pub common : List ℕ → List ℕ → ℕ
+common [] t = 0
+common (a ∷ s) [] = 0
+common (a ∷ s) (b ∷ t) = pick (eqb a b) (suc (common s t)) 0

@@ -3,7 +3,7 @@ use writing::put_byte;
 use writing::put_word;
 ghost use mathlib.Core.Path.{_≡_};
 ghost use Rattle.writing.specs.Buffer.{filled, puts};
-ghost use Rattle.outputs.specs.Outputs.{aimOf, partName, isTold};
+ghost use Rattle.outputs.specs.Outputs.{aimOf, partName, isTold, common};
 
 // How a file is written: not at all, since the command reads it; whole, under another name at first; or straight into what is there.
 pub enum Aim {
@@ -53,4 +53,21 @@ pub fn is_told(asked: bool, cycle: usize, errors: bool, table: bool) -> bool
         return false;
     }
     errors
+}
+
+// How many bytes in front of two texts agree.
+pub fn common<'a>(a: &'a [u8], b: &'a [u8]) -> usize
+    ensures { λ r. ⌜ r ≡ common (now (a .entry)) (now (b .entry)) ⌝ }
+{
+    let mut i: usize = 0;
+    while i < a.len() {
+        if b.len() <= i {
+            return i;
+        }
+        if a[i] != b[i] {
+            return i;
+        }
+        i += 1;
+    }
+    i
 }
