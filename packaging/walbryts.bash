@@ -6,15 +6,18 @@ _walbryts() {
         return
     fi
     case $before in
-    --vcd | --names)
+    --vcd | --names | --expect)
         mapfile -t COMPREPLY < <(compgen -f -- "$word")
         return
         ;;
-    --seed) return ;;
+    --seed | --from | --to | --every | --only) return ;;
     esac
     local options=--verilog
     case $command in
-    run) options="$options --wires --seed --by-expressions --last --vcd --progress --any-order --names" ;;
+    run)
+        options="$options --wires --inputs --only --hex --binary --csv --from --to --every --last --expect"
+        options="$options --seed --by-expressions --vcd --progress --any-order --names"
+        ;;
     compare) options="$options --names" ;;
     extract) options="$options --dot --names" ;;
     esac

@@ -1,3 +1,4 @@
 pub mod Rows
 pub mod Misfits
+pub mod Among
 pub mod Samples

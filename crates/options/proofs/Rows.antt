@@ -1,4 +1,4 @@
--- The rows of the definitions that a seed and a command go by. Assumes nothing.
+-- The rows of the definitions that a number and a command go by. Assumes nothing.
 use mathlib.Core.Path.{_≡_}
 use mathlib.Core.Bool.{true, false}
 use mathlib.Core.List.{List}
@@ -9,28 +9,32 @@ use Rattle.stimulus.specs.declared.Number.{Number}
 use Rattle.stimulus.specs.Numbers.{numberOf}
 use Rattle.options.specs.declared.Options.{Options}
 use Rattle.options.specs.declared.Command.the-variants.{Run, Extract}
-use Rattle.options.specs.Options.{noted, misplaced, withSeed, seeded}
+use Rattle.options.specs.Options.{noted, valued, misplaced, leastOf, numbered}
 use Rattle.options.specs.Requests.{wordOf, isGiven, runOf, commanded}
 
--- ---- seeded
+-- ---- numbered
 
-module _ (o : Options) (word : List ℕ) where
-  pub seeded-empty : length word ≡ 0 → misplaced o 3 ≡ seeded o word
-  unfolding seeded
-  seeded-empty h = rw (eq-eqb (length word) 0 h)
+module _ (o : Options) (slot : ℕ) (word : List ℕ) where
+  pub numbered-empty : length word ≡ 0 → misplaced o 3 ≡ numbered o slot word
+  unfolding numbered
+  numbered-empty h = rw (eq-eqb (length word) 0 h)
 
   module _ (h : length word ≡ 0 → ⊥) (a : Number) (e : a ≡ numberOf false word) where
-    pub seeded-bad : a .good ≡ false → misplaced o 3 ≡ seeded o word
-    unfolding seeded
-    seeded-bad g = rw (ne-eqb (length word) 0 h, ← e, g)
+    pub numbered-bad : a .good ≡ false → misplaced o 3 ≡ numbered o slot word
+    unfolding numbered
+    numbered-bad g = rw (ne-eqb (length word) 0 h, ← e, g)
 
-    pub seeded-long : a .good ≡ true → 4294967296 ≤ a .n → misplaced o 3 ≡ seeded o word
-    unfolding seeded
-    seeded-long g l = rw (ne-eqb (length word) 0 h, ← e, g, le-ltb (a .n) 4294967296 l)
+    pub numbered-long : a .good ≡ true → 4294967296 ≤ a .n → misplaced o 3 ≡ numbered o slot word
+    unfolding numbered
+    numbered-long g l = rw (ne-eqb (length word) 0 h, ← e, g, le-ltb (a .n) 4294967296 l)
 
-    pub seeded-is : a .good ≡ true → a .n < 4294967296 → withSeed (noted o 3) (a .n) ≡ seeded o word
-    unfolding seeded
-    seeded-is g l = rw (ne-eqb (length word) 0 h, ← e, g, lt-ltb (a .n) 4294967296 l)
+    pub numbered-small : a .good ≡ true → a .n < 4294967296 → a .n < leastOf slot → misplaced o 3 ≡ numbered o slot word
+    unfolding numbered
+    numbered-small g l k = rw (ne-eqb (length word) 0 h, ← e, g, lt-ltb (a .n) 4294967296 l, lt-ltb (a .n) (leastOf slot) k)
+
+    pub numbered-is : a .good ≡ true → a .n < 4294967296 → leastOf slot ≤ a .n → valued (noted o slot) slot (a .n) ≡ numbered o slot word
+    unfolding numbered
+    numbered-is g l k = rw (ne-eqb (length word) 0 h, ← e, g, lt-ltb (a .n) 4294967296 l, le-ltb (a .n) (leastOf slot) k)
 
 -- ---- commanded, where the options of a command are made first
 
@@ -40,6 +44,6 @@ module _ (o : Options) where
   commanded-run e = rw e
 
   pub commanded-extract :
-      o .command ≡ 4 → Extract (record { sheet = wordOf o 30; names = wordOf o 2; dot = isGiven o 13 }) ≡ commanded o
+      o .command ≡ 4 → Extract (record { sheet = wordOf o 30; names = wordOf o 2; dot = isGiven o 23 }) ≡ commanded o
   unfolding commanded
   commanded-extract e = rw e

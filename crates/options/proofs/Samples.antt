@@ -5,28 +5,45 @@ use mathlib.Core.List.{List, [], _∷_}
 use Prim.Native.Nat.{ℕ}
 use Prim.Native.String.{String}
 use Rattle.writing.specs.Ascii.{ascii}
-use Rattle.naming.specs.Naming.{sameText}
 use Rattle.hextext.specs.Characters.{digitOf}
 use Rattle.stimulus.specs.Counting.{counted}
 use Rattle.stimulus.specs.Numbers.{grown, grownBy, numberOf}
 use Rattle.options.specs.declared.Way.{Way}
 use Rattle.options.specs.declared.Way.the-variants.{Drawn, Expressed}
+use Rattle.options.specs.declared.Shape.{Shape}
 use Rattle.options.specs.declared.Command.the-variants.{List as Listing, Run, Extract, Compare}
 use Rattle.options.specs.declared.Request.{Request}
 use Rattle.options.specs.declared.Request.the-variants.{Help, Version, Short, Wrong, Asked}
-use Rattle.options.specs.Tables.{commandOf, valuedOption, loneOption, plainOption, optionOf, isFed, goesWith}
-use Rattle.options.specs.Options.{nothing, advanced, noted, wanting, misplaced, withSeed, withCommand, seeded, isDash, filled, isDashed}
+use Rattle.options.specs.Tables.{agrees, isFound, goesOn, lettered, ended, amongFrom, among, commandOf}
+use Rattle.options.specs.Tables.{valuedOption, loneOption, plainOption, shortOption, either, optionOf, isNumber, isFed, goesWith}
+use Rattle.options.specs.Options.{nothing, advanced, noted, valued, wanting, misplaced, withCommand, leastOf, numbered, isDash, isBarred, filled, isDashed}
 use Rattle.options.specs.Options.{named, placed, fresh, taken, takenAll}
-use Rattle.options.specs.Requests.{isGiven, isMisfit, misfit, lacking, clashing, wayOf, runOf, commanded, fitted, judged, request, requestOf}
+use Rattle.options.specs.Requests.{isGiven, isMisfit, misfit, lacking, clashing, based, wayOf, baseOf, lastOf, everyOf, shapeOf, runOf}
+use Rattle.options.specs.Requests.{commanded, fitted, judged, request, requestOf}
 
 -- The words as bytes.
 abbrev bytes : List String → List (List ℕ)
 bytes [] = []
 bytes (w ∷ ws) = ascii w ∷ bytes ws
 
--- A run by the words that name its files, its way, and whether the wires are shown.
-abbrev run : ℕ → ℕ → ℕ → ℕ → Way → Bool → Request
-run sheet inputs names vcd way wires =
+-- A table of the registers in decimal, of all cycles.
+abbrev plain : Bool → Shape
+plain wires =
+    record {
+      base = 10;
+      csv = false;
+      inputs = false;
+      wires = wires;
+      only = 0;
+      from = 0;
+      to = 4294967295;
+      every = 1;
+      last = false;
+    }
+
+-- A run by the words that name its module, inputs, names and waveform, its way, and what it shows.
+abbrev run : ℕ → ℕ → ℕ → ℕ → Way → Shape → Request
+run sheet inputs names vcd way shape =
     Asked
     (Run
     (record {
@@ -34,12 +51,29 @@ run sheet inputs names vcd way wires =
       inputs = inputs;
       names = names;
       vcd = vcd;
+      expect = 0;
+      user = 0;
+      allowance = 0;
       way = way;
-      wires = wires;
-      last = false;
+      shape = shape;
       progress = false;
       silent = false;
     }))
+
+-- The inputs in hexadecimal, with commas, from cycle 2 to 9, every third, of the variables that word 16 names.
+abbrev third : Shape
+third =
+    record {
+      base = 16;
+      csv = true;
+      inputs = true;
+      wires = false;
+      only = 16;
+      from = 2;
+      to = 9;
+      every = 3;
+      last = false;
+    }
 
 infix 4 _asks_
 abbrev _asks_ : List String → Request → Type 0
@@ -47,11 +81,13 @@ ws asks r = requestOf (bytes ws) ≡ r
 
 -- Options stand anywhere, and `-` is a file. Help and the version come first. Then words that are missing, and words that are out of
 -- place, each with its fault: no command, two commands in one word, no option, one file too many, an option or inputs that do not go with
--- the command, a seed that is no number or past 32 bits, a seed and the expressions, a waveform on standard output, an option that wants a
--- word.
+-- the command, a number that is none, past 32 bits or too small, two bases, a seed and the expressions, a waveform on standard output, an option
+-- that wants a word.
 pub samples :
-    (("run" ∷ "m.hex" ∷ "m.in" ∷ "--seed" ∷ "7" ∷ "--wires" ∷ []) asks run 2 3 0 0 (Drawn 7) true) ×
-    (("--vcd" ∷ "w.vcd" ∷ "run" ∷ "--names" ∷ "m.names" ∷ "-" ∷ "m.in" ∷ "--by-expressions" ∷ []) asks run 6 7 5 2 Expressed false) ×
+    (("run" ∷ "m.hex" ∷ "m.in" ∷ "--seed" ∷ "7" ∷ "--wires" ∷ []) asks run 2 3 0 0 (Drawn 7) (plain true)) ×
+    (("--vcd" ∷ "w.vcd" ∷ "run" ∷ "--names" ∷ "m.names" ∷ "-" ∷ "m.in" ∷ "--by-expressions" ∷ []) asks run 6 7 5 2 Expressed (plain false)) ×
+    (("run" ∷ "m.hex" ∷ "m.in" ∷ "--hex" ∷ "--csv" ∷ "--inputs" ∷ "--from" ∷ "2" ∷ "--to" ∷ "9" ∷ "--every" ∷ "3" ∷ "--seed" ∷ "7" ∷ "--only" ∷ "a" ∷ [])
+    asks run 2 3 0 0 (Drawn 7) third) ×
     (("extract" ∷ "m.hex" ∷ "--dot" ∷ []) asks Asked (Extract (record { sheet = 2; names = 0; dot = true }))) ×
     (("compare" ∷ "m.hex" ∷ "m.in" ∷ "--status" ∷ []) asks Asked (Compare (record { sheet = 2; inputs = 3 }))) ×
     (("list" ∷ "-" ∷ []) asks Asked (Listing 2)) ×
@@ -72,7 +108,39 @@ pub samples :
     (("run" ∷ "m.hex" ∷ "m.in" ∷ "--seed" ∷ "1x" ∷ []) asks Wrong 5 3) ×
     (("run" ∷ "m.hex" ∷ "m.in" ∷ "--seed" ∷ "4294967296" ∷ []) asks Wrong 5 3) ×
     (("run" ∷ "m.hex" ∷ "m.in" ∷ "--vcd" ∷ "-" ∷ []) asks Wrong 5 7) ×
+    (("run" ∷ "m.hex" ∷ "m.in" ∷ "--every" ∷ "0" ∷ []) asks Wrong 5 3) ×
+    (("run" ∷ "m.hex" ∷ "m.in" ∷ "--user" ∷ "two" ∷ []) asks Wrong 5 3) ×
+    (("compare" ∷ "m.hex" ∷ "m.in" ∷ "--allowance" ∷ "1,2,3,4" ∷ []) asks Wrong 5 5) ×
+    (("run" ∷ "m.hex" ∷ "m.in" ∷ "--hex" ∷ "--binary" ∷ []) asks Wrong 5 9) ×
     (("run" ∷ "m.hex" ∷ "m.in" ∷ "--seed" ∷ "1" ∷ "--by-expressions" ∷ []) asks Wrong 6 6)
-unfolding requestOf request judged fitted takenAll taken nothing advanced counted noted wanting misplaced withSeed withCommand seeded isDash filled isDashed named placed fresh optionOf valuedOption loneOption plainOption commandOf sameText ascii isGiven misfit isMisfit goesWith isFed lacking clashing wayOf runOf commanded numberOf grownBy grown digitOf
-samples =
-    (refl, refl, refl, refl, refl, refl, refl, refl, refl, refl, refl, refl, refl, refl, refl, refl, refl, refl, refl, refl, refl, refl, refl)
+unfolding requestOf request judged fitted takenAll taken nothing advanced counted noted valued wanting misplaced withCommand leastOf numbered isDash isBarred filled isDashed named placed fresh optionOf either valuedOption loneOption plainOption shortOption commandOf among amongFrom isFound goesOn agrees lettered ended isNumber ascii isGiven misfit isMisfit goesWith isFed lacking clashing based wayOf baseOf lastOf everyOf shapeOf runOf commanded numberOf grownBy grown digitOf
+samples = (
+  refl,
+  refl,
+  refl,
+  refl,
+  refl,
+  refl,
+  refl,
+  refl,
+  refl,
+  refl,
+  refl,
+  refl,
+  refl,
+  refl,
+  refl,
+  refl,
+  refl,
+  refl,
+  refl,
+  refl,
+  refl,
+  refl,
+  refl,
+  refl,
+  refl,
+  refl,
+  refl,
+  refl,
+)

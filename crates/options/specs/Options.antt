@@ -1,4 +1,5 @@
--- The words of a command line, taken one after the other. A slot keeps the number of the word that it is given by, from 1 on.
+-- The words of a command line, taken one after the other. A slot keeps the number of the word that it is given by, from 1 on, and where it
+-- takes a number, that number.
 use mathlib.Core.Bool.{Bool, true, false, _&&_}
 use mathlib.Core.List.{List, [], _∷_}
 use Prim.Native.Nat.{ℕ}
@@ -8,59 +9,73 @@ use Rattle.values.specs.Values.{pick, _is_then_else_}
 use Rattle.stimulus.specs.Counting.{counted}
 use Rattle.stimulus.specs.Numbers.{numberOf}
 use Rattle.options.specs.declared.Options.{Options}
-use Rattle.options.specs.Tables.{commandOf, optionOf}
+use Rattle.options.specs.Tables.{commandOf, optionOf, isNumber}
 
-abbrev pub options : ℕ → ℕ → ℕ → ℕ → ℕ → ℕ → List ℕ → Options
-options words command wants wrong fault seed at =
-    record { words = words; command = command; wants = wants; wrong = wrong; fault = fault; seed = seed; at = at }
+abbrev pub options : ℕ → ℕ → ℕ → ℕ → ℕ → List ℕ → List ℕ → Options
+options words command wants wrong fault value at =
+    record { words = words; command = command; wants = wants; wrong = wrong; fault = fault; value = value; at = at }
 
 -- ---- what a word changes
 
 unfoldable pub nothing : Options
-nothing = options 0 0 0 0 0 0 (replicate 32 0)
+nothing = options 0 0 0 0 0 (replicate 40 0) (replicate 40 0)
 
 -- One word more, which no slot wants any longer.
 unfoldable pub advanced : Options → Options
-advanced o = options (counted (o .words)) (o .command) 0 (o .wrong) (o .fault) (o .seed) (o .at)
+advanced o = options (counted (o .words)) (o .command) 0 (o .wrong) (o .fault) (o .value) (o .at)
 
--- A slot is given by the last word. There are 32, of which number 0 is none.
+-- A slot is given by the last word. There are 40, of which number 0 is none.
 unfoldable pub noted : Options → ℕ → Options
 noted o slot =
-    pick (ltb slot 32) (options (o .words) (o .command) (o .wants) (o .wrong) (o .fault) (o .seed) (set (o .at) slot (o .words))) o
+    pick (ltb slot 40) (options (o .words) (o .command) (o .wants) (o .wrong) (o .fault) (o .value) (set (o .at) slot (o .words))) o
+
+-- A slot has a number.
+unfoldable pub valued : Options → ℕ → ℕ → Options
+valued o slot n =
+    pick (ltb slot 40) (options (o .words) (o .command) (o .wants) (o .wrong) (o .fault) (set (o .value) slot n) (o .at)) o
 
 -- A slot wants the next word.
 unfoldable pub wanting : Options → ℕ → Options
-wanting o slot = options (o .words) (o .command) slot (o .wrong) (o .fault) (o .seed) (o .at)
+wanting o slot = options (o .words) (o .command) slot (o .wrong) (o .fault) (o .value) (o .at)
 
--- The last word is out of place; the first such word counts. Faults: 1 no command, 2 no option, 3 no seed, 4 one file too many, 5 an
--- option or inputs that do not go with the command, 6 a seed and the expressions, 7 a waveform on standard output, 8 an option at the end
--- that wants a word.
+-- The last word is out of place; the first such word counts. Faults: 1 no command, 2 no option, 3 no number, 4 one file too many, 5 an
+-- option or inputs that do not go with the command, 6 a seed and the expressions, 7 a waveform on standard output, 8 an option
+-- at the end that wants a word, 9 two bases.
 unfoldable pub misplaced : Options → ℕ → Options
 misplaced o fault =
-    o .wrong is 0 then options (o .words) (o .command) (o .wants) (o .words) fault (o .seed) (o .at) else o
-
-unfoldable pub withSeed : Options → ℕ → Options
-withSeed o n = options (o .words) (o .command) (o .wants) (o .wrong) (o .fault) n (o .at)
+    o .wrong is 0 then options (o .words) (o .command) (o .wants) (o .words) fault (o .value) (o .at) else o
 
 unfoldable pub withCommand : Options → ℕ → Options
-withCommand o n = options (o .words) n (o .wants) (o .wrong) (o .fault) (o .seed) (o .at)
+withCommand o n = options (o .words) n (o .wants) (o .wrong) (o .fault) (o .value) (o .at)
 
--- ---- the word that a slot wants: a seed is a decimal number below 2^32, any word names a file, but `-` (45) no waveform
+-- ---- the word that a slot wants: a number is decimal and below 2^32, for `--every` not 0; any word names a file, but `-` (45) no
+-- waveform
 
-unfoldable pub seeded : Options → List ℕ → Options
-seeded o word =
+-- The least number that a slot takes.
+unfoldable pub leastOf : ℕ → ℕ
+leastOf slot = slot is 6 then 1 else 0
+
+unfoldable pub numbered : Options → ℕ → List ℕ → Options
+numbered o slot word =
     let a = numberOf false word in
     length word is 0 then misplaced o 3 else
-    pick (a .good) (pick (ltb (a .n) 4294967296) (withSeed (noted o 3) (a .n)) (misplaced o 3)) (misplaced o 3)
+    pick (a .good)
+    (pick (ltb (a .n) 4294967296)
+    (pick (ltb (a .n) (leastOf slot)) (misplaced o 3) (valued (noted o slot) slot (a .n)))
+    (misplaced o 3))
+    (misplaced o 3)
 
 unfoldable pub isDash : List ℕ → Bool
 isDash word = length word is 1 then eqb (getD word 0 0) 45 else false
 
+unfoldable pub isBarred : ℕ → List ℕ → Bool
+isBarred slot word = slot is 1 then isDash word else false
+
 unfoldable pub filled : Options → ℕ → List ℕ → Options
 filled o slot word =
-    slot is 3 then seeded o word else
-    slot is 1 then pick (isDash word) (misplaced o 7) (noted o 1) else
-    noted o slot
+    pick (isNumber slot) (numbered o slot word)
+    (pick (isBarred slot word) (misplaced o 7)
+    (noted o slot))
 
 -- ---- a word that none wants: an option, or in turn the command, the sheet and the inputs
 
@@ -72,7 +87,7 @@ isDashed word = leb 2 (length word) && eqb (getD word 0 0) 45
 unfoldable pub named : Options → ℕ → Options
 named o n =
     n is 0 then misplaced o 1 else
-    n is 7 then noted o 17 else
+    n is 7 then noted o 33 else
     withCommand o n
 
 unfoldable pub placed : Options → List ℕ → Options
@@ -85,7 +100,7 @@ placed o word =
 unfoldable pub fresh : Options → List ℕ → Options
 fresh o word =
     let slot = optionOf word in
-    pick (ltb 9 slot) (noted o slot)
+    pick (ltb 19 slot) (noted o slot)
     (pick (ltb 0 slot) (wanting o slot)
     (pick (isDashed word) (misplaced o 2)
     (placed o word)))

@@ -8,6 +8,7 @@ use Rattle.values.specs.Values.{pick, _is_then_else_}
 use Rattle.options.specs.declared.Options.{Options}
 use Rattle.options.specs.declared.Way.{Way}
 use Rattle.options.specs.declared.Way.the-variants.{Plain, Drawn, Expressed}
+use Rattle.options.specs.declared.Shape.{Shape}
 use Rattle.options.specs.declared.RunOptions.{RunOptions}
 use Rattle.options.specs.declared.Command.{Command}
 use Rattle.options.specs.declared.Command.the-variants.{List as Listing, Check, Run, Extract, Compare, Verilog}
@@ -39,14 +40,46 @@ lacking o =
     o .command is 0 then 1 else
     pick (isGiven o 30) (pick (isFed (o .command)) (pick (isGiven o 31) 0 3) 0) 2
 
--- A run goes by a seed or by the expressions.
+-- A run goes by a seed or by the expressions, and shows numbers in one base.
 unfoldable pub clashing : Options → Bool
-clashing o = isGiven o 3 && isGiven o 10
+clashing o = isGiven o 3 && isGiven o 20
+
+unfoldable pub based : Options → Bool
+based o = isGiven o 27 && isGiven o 28
 
 -- ---- commands
 
+abbrev pub numberAt : Options → ℕ → ℕ
+numberAt o slot = getD (o .value) slot 0
+
 unfoldable pub wayOf : Options → Way
-wayOf o = pick (isGiven o 10) Expressed (pick (isGiven o 3) (Drawn (o .seed)) Plain)
+wayOf o = pick (isGiven o 20) Expressed (pick (isGiven o 3) (Drawn (numberAt o 3)) Plain)
+
+-- The base of the numbers in the table.
+unfoldable pub baseOf : Options → ℕ
+baseOf o = pick (isGiven o 27) 16 (pick (isGiven o 28) 2 10)
+
+-- The last cycle of those to be shown: where none is given, the largest number.
+unfoldable pub lastOf : Options → ℕ
+lastOf o = pick (isGiven o 5) (numberAt o 5) 4294967295
+
+-- Every so many cycles.
+unfoldable pub everyOf : Options → ℕ
+everyOf o = pick (isGiven o 6) (numberAt o 6) 1
+
+unfoldable pub shapeOf : Options → Shape
+shapeOf o =
+    record {
+      base = baseOf o;
+      csv = isGiven o 29;
+      inputs = isGiven o 26;
+      wires = isGiven o 21;
+      only = wordOf o 7;
+      from = numberAt o 4;
+      to = lastOf o;
+      every = everyOf o;
+      last = isGiven o 22;
+    }
 
 unfoldable pub runOf : Options → RunOptions
 runOf o =
@@ -55,11 +88,13 @@ runOf o =
       inputs = wordOf o 31;
       names = wordOf o 2;
       vcd = wordOf o 1;
+      expect = wordOf o 8;
+      user = numberAt o 9;
+      allowance = wordOf o 10;
       way = wayOf o;
-      wires = isGiven o 11;
-      last = isGiven o 12;
-      progress = isGiven o 14;
-      silent = isGiven o 15;
+      shape = shapeOf o;
+      progress = isGiven o 24;
+      silent = isGiven o 25;
     }
 
 unfoldable pub commanded : Options → Command
@@ -67,7 +102,7 @@ commanded o =
     o .command is 1 then Listing (wordOf o 30) else
     o .command is 2 then Check (wordOf o 30) else
     o .command is 3 then Run (runOf o) else
-    o .command is 4 then Extract (record { sheet = wordOf o 30; names = wordOf o 2; dot = isGiven o 13 }) else
+    o .command is 4 then Extract (record { sheet = wordOf o 30; names = wordOf o 2; dot = isGiven o 23 }) else
     o .command is 5 then Compare (record { sheet = wordOf o 30; inputs = wordOf o 31 }) else
     Verilog (wordOf o 30)
 
@@ -76,7 +111,7 @@ commanded o =
 unfoldable pub fitted : Options → Request
 fitted o =
     let n = misfit (o .command) 0 (o .at) in
-    n is 0 then pick (clashing o) (Wrong (wordOf o 10) 6) (Asked (commanded o)) else Wrong n 5
+    n is 0 then pick (clashing o) (Wrong (wordOf o 20) 6) (pick (based o) (Wrong (wordOf o 28) 9) (Asked (commanded o))) else Wrong n 5
 
 unfoldable pub judged : Options → Request
 judged o =
@@ -84,7 +119,7 @@ judged o =
     Wrong (o .wrong) (o .fault)
 
 unfoldable pub request : Options → Request
-request o = pick (isGiven o 17) Help (pick (isGiven o 18) Version (judged o))
+request o = pick (isGiven o 33) Help (pick (isGiven o 34) Version (judged o))
 
 -- ---- requestOf: what a list of words asks for
 

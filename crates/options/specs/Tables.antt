@@ -1,68 +1,80 @@
 -- The tables of the command line: the words of commands and options, and which option goes with which command.
--- Slots: 1 `--vcd`, 2 `--names`, 3 `--seed`, which take the next word; 10 `--by-expressions`, 11 `--wires`, 12 `--last`, 13 `--dot`,
--- 14 `--progress`, 15 `--any-order`, 16 `--status`, 17 help, 18 the version; 30 the sheet, 31 the inputs. Commands: 1 list, 2 check, 3 run,
--- 4 extract, 5 compare, 6 verilog, 7 help.
-use mathlib.Core.Bool.{Bool, true, _||_}
-use mathlib.Core.List.{List}
-use Prim.Native.Nat.{ℕ}
+-- Slots: from 1 on the options that take the next word, from 20 on those that stand alone, 30 the module, 31 the inputs, from 32 on the
+-- options that go with every command: 32 the status, 33 help, 34 the version.
+use mathlib.Core.Bool.{Bool, true, false, _&&_, _||_}
+use mathlib.Core.List.{List, [], _∷_}
+use Prim.Native.Nat.{ℕ, _+_}
 use Prim.Native.String.{String}
-use lib.Dec.{ltb, eqb}
+use lib.ListN.{length, getD}
+use lib.Dec.{ltb, leb, eqb}
 use Rattle.values.specs.Values.{pick, _is_then_else_}
 use Rattle.writing.specs.Ascii.{ascii}
-use Rattle.naming.specs.Naming.{sameText}
 
--- A row of a table that goes by a word.
-infixr 5 _says_then_else_
-abbrev pub _says_then_else_ : {A : Type 0} → List ℕ → String → A → A → A
-_says_then_else_ w s a b = pick (sameText w (ascii s)) a b
+-- ---- among: which word of a line it is, counted on from a number, 0 where it is none; a blank (32) stands behind each word of the line
+
+-- Is byte n of a word this one?
+unfoldable pub agrees : List ℕ → ℕ → ℕ → Bool
+agrees word n b = ltb n (length word) && eqb (getD word n 0) b
+
+-- What a byte of the line makes of the word that it stands in: is that the one, with all its bytes; do the bytes so far agree; how many
+-- are there; and how many words are passed.
+unfoldable pub isFound : List ℕ → ℕ → Bool → ℕ → Bool
+isFound word n same b = b is 32 then (same && eqb n (length word)) else false
+
+unfoldable pub goesOn : List ℕ → ℕ → Bool → ℕ → Bool
+goesOn word n same b = b is 32 then true else (same && agrees word n b)
+
+unfoldable pub lettered : ℕ → ℕ → ℕ
+lettered n b = b is 32 then 0 else n + 1
+
+unfoldable pub ended : ℕ → ℕ → ℕ
+ended k b = b is 32 then k + 1 else k
+
+-- The rest of a line, where k words are passed, and n bytes of the next.
+unfoldable pub amongFrom : List ℕ → ℕ → ℕ → Bool → List ℕ → ℕ
+amongFrom word k n same [] = 0
+amongFrom word k n same (b ∷ bs) =
+    pick (isFound word n same b) (k + 1) (amongFrom word (ended k b) (lettered n b) (goesOn word n same b) bs)
+
+unfoldable pub among : List ℕ → ℕ → String → ℕ
+among word base line = amongFrom word base 0 true (ascii line)
 
 -- ---- commandOf: a command's number, 0 for any other word
 
 unfoldable pub commandOf : List ℕ → ℕ
-commandOf w =
-    w says "list" then 1 else
-    w says "check" then 2 else
-    w says "run" then 3 else
-    w says "extract" then 4 else
-    w says "compare" then 5 else
-    w says "verilog" then 6 else
-    w says "help" then 7 else
-    0
+commandOf w = among w 0 "list check run extract compare verilog help "
 
--- ---- optionOf: an option's slot, 0 for any other word; those below 10 take the next word
+-- ---- optionOf: an option's slot, 0 for any other word
 
+-- Those that take the next word.
 unfoldable pub valuedOption : List ℕ → ℕ
-valuedOption w =
-    w says "--vcd" then 1 else
-    w says "--names" then 2 else
-    w says "--seed" then 3 else
-    0
+valuedOption w = among w 0 "--vcd --names --seed --from --to --every --only --expect --user --allowance "
 
+-- Those that stand alone.
 unfoldable pub loneOption : List ℕ → ℕ
 loneOption w =
-    w says "--by-expressions" then 10 else
-    w says "--wires" then 11 else
-    w says "--last" then 12 else
-    w says "--dot" then 13 else
-    w says "--progress" then 14 else
-    w says "--any-order" then 15 else
-    0
+    among w 19 "--by-expressions --wires --last --dot --progress --any-order --inputs --hex --binary --csv "
 
--- Those that go with every command.
+-- Those that go with every command, and two of them in short.
 unfoldable pub plainOption : List ℕ → ℕ
-plainOption w =
-    w says "--status" then 16 else
-    w says "--help" then 17 else
-    w says "-h" then 17 else
-    w says "--version" then 18 else
-    w says "-V" then 18 else
-    0
+plainOption w = among w 31 "--status --help --version "
+
+unfoldable pub shortOption : List ℕ → ℕ
+shortOption w = among w 32 "-h -V "
+
+-- The first of two slots that is one.
+unfoldable pub either : ℕ → ℕ → ℕ
+either a b = a is 0 then b else a
 
 unfoldable pub optionOf : List ℕ → ℕ
-optionOf w =
-    valuedOption w is 0 then (loneOption w is 0 then plainOption w else loneOption w) else valuedOption w
+optionOf w = either (valuedOption w) (either (loneOption w) (either (plainOption w) (shortOption w)))
 
--- ---- goesWith: slots 16 to 30 go with all commands, the others as the help says
+-- ---- isNumber: `--seed`, `--from`, `--to`, `--every` and `--user` take a number
+
+unfoldable pub isNumber : ℕ → Bool
+isNumber slot = slot is 9 then true else (ltb 2 slot && ltb slot 7)
+
+-- ---- goesWith: slots 30 and 32 up go with all commands, names with run and extract, a graph with extract, the others with run
 
 unfoldable pub isFed : ℕ → Bool
 isFed command = eqb command 3 || eqb command 5
@@ -70,6 +82,6 @@ isFed command = eqb command 3 || eqb command 5
 unfoldable pub goesWith : ℕ → ℕ → Bool
 goesWith command slot =
     slot is 2 then (eqb command 3 || eqb command 4) else
-    slot is 13 then eqb command 4 else
+    slot is 23 then eqb command 4 else
     slot is 31 then isFed command else
-    pick (ltb slot 16) (eqb command 3) true
+    pick (ltb slot 30) (eqb command 3) true

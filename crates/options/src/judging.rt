@@ -6,12 +6,14 @@ use crate::Options;
 use crate::Outcome;
 use crate::Request;
 use crate::RunOptions;
+use crate::Shape;
 use crate::Way;
 use crate::tables::goes_with;
 use crate::tables::is_fed;
 ghost use mathlib.Core.Path.{_≡_};
 ghost use lib.ListN.{getD};
-ghost use Rattle.options.specs.Requests.{isGiven, isMisfit, misfit, lacking, wayOf, runOf, clashing, commanded};
+ghost use Rattle.options.specs.Requests.{isGiven, isMisfit, misfit, lacking, wayOf, clashing, based};
+ghost use Rattle.options.specs.Requests.{baseOf, lastOf, everyOf, shapeOf, runOf, commanded};
 ghost use Rattle.options.specs.Requests.{fitted, judged, request, sheetOf, namesOf};
 ghost use Rattle.options.specs.Status.{joined, statusOf};
 
@@ -35,7 +37,7 @@ fn is_given(o: Options, slot: usize) -> bool
 }
 
 // Is a slot given by a word, and does not go with the command?
-fn is_misfit(command: u8, slot: usize, n: usize) -> bool
+fn is_misfit(command: usize, slot: usize, n: usize) -> bool
     ensures { λ r. ⌜ r ≡ isMisfit command slot n ⌝ }
 {
     if n == 0 {
@@ -45,11 +47,11 @@ fn is_misfit(command: u8, slot: usize, n: usize) -> bool
 }
 
 // The word of the first slot that is given and does not go with the command, 0 where all do.
-fn misfit(command: u8, at: [usize; 32]) -> usize
+fn misfit(command: usize, at: [usize; 40]) -> usize
     ensures { λ r. ⌜ r ≡ misfit command 0 at ⌝ }
 {
     let mut k: usize = 0;
-    while k < 32 {
+    while k < 40 {
         let n = at[k];
         if is_misfit(command, k, n) {
             return n;
@@ -75,33 +77,96 @@ fn lacking(o: Options) -> u8
     if is_given(o, 31) { 0 } else { 3 }
 }
 
+// The number of a slot, 0 where none is given.
+fn number_in(value: &[u32], slot: usize) -> u32
+    ensures { λ r. ⌜ r ≡ getD (now (value .entry)) slot 0 ⌝ }
+{
+    if slot < value.len() { value[slot] } else { 0 }
+}
+
+fn number_at(o: Options, slot: usize) -> u32
+    ensures { λ r. ⌜ r ≡ getD (o .value) slot 0 ⌝ }
+{
+    number_in(&o.value, slot)
+}
+
 // By which way a run goes.
 fn way_of(o: Options) -> Way
     ensures { λ r. ⌜ r ≡ wayOf o ⌝ }
 {
-    if is_given(o, 10) {
+    if is_given(o, 20) {
         return Way::Expressed;
     }
     if is_given(o, 3) {
-        return Way::Drawn(o.seed);
+        return Way::Drawn(number_at(o, 3));
     }
     Way::Plain
+}
+
+// The base of the numbers in the table.
+fn base_of(o: Options) -> u8
+    ensures { λ r. ⌜ r ≡ baseOf o ⌝ }
+{
+    if is_given(o, 27) {
+        return 16;
+    }
+    if is_given(o, 28) { 2 } else { 10 }
+}
+
+// The last cycle of those to be shown.
+fn last_of(o: Options) -> usize
+    ensures { λ r. ⌜ r ≡ lastOf o ⌝ }
+{
+    if is_given(o, 5) {
+        return number_at(o, 5) as usize;
+    }
+    4294967295
+}
+
+// Every so many cycles.
+fn every_of(o: Options) -> usize
+    ensures { λ r. ⌜ r ≡ everyOf o ⌝ }
+{
+    if is_given(o, 6) {
+        return number_at(o, 6) as usize;
+    }
+    1
+}
+
+// What the table shows.
+fn shape_of(o: Options) -> Shape
+    ensures { λ r. ⌜ r ≡ shapeOf o ⌝ }
+{
+    Shape {
+        base: base_of(o),
+        csv: is_given(o, 29),
+        inputs: is_given(o, 26),
+        wires: is_given(o, 21),
+        only: word_of(o, 7),
+        from: number_at(o, 4) as usize,
+        to: last_of(o),
+        every: every_of(o),
+        last: is_given(o, 22),
+    }
 }
 
 fn run_of(o: Options) -> RunOptions
     ensures { λ r. ⌜ r ≡ runOf o ⌝ }
 {
     let way = way_of(o);
+    let shape = shape_of(o);
     RunOptions {
         sheet: word_of(o, 30),
         inputs: word_of(o, 31),
         names: word_of(o, 2),
         vcd: word_of(o, 1),
+        expect: word_of(o, 8),
+        user: number_at(o, 9),
+        allowance: word_of(o, 10),
         way,
-        wires: is_given(o, 11),
-        last: is_given(o, 12),
-        progress: is_given(o, 14),
-        silent: is_given(o, 15),
+        shape,
+        progress: is_given(o, 24),
+        silent: is_given(o, 25),
     }
 }
 
@@ -118,7 +183,7 @@ fn commanded(o: Options) -> Command
         4 => Command::Extract(ExtractOptions {
             sheet,
             names: word_of(o, 2),
-            dot: is_given(o, 13),
+            dot: is_given(o, 23),
         }),
         5 => Command::Compare(CompareOptions {
             sheet,
@@ -133,7 +198,17 @@ fn clashing(o: Options) -> bool
     ensures { λ r. ⌜ r ≡ clashing o ⌝ }
 {
     if is_given(o, 3) {
-        return is_given(o, 10);
+        return is_given(o, 20);
+    }
+    false
+}
+
+// Are there two bases?
+fn based(o: Options) -> bool
+    ensures { λ r. ⌜ r ≡ based o ⌝ }
+{
+    if is_given(o, 27) {
+        return is_given(o, 28);
     }
     false
 }
@@ -148,7 +223,10 @@ fn fitted(o: Options) -> Request
         return Request::Wrong(n, 5);
     }
     if clashing(o) {
-        return Request::Wrong(word_of(o, 10), 6);
+        return Request::Wrong(word_of(o, 20), 6);
+    }
+    if based(o) {
+        return Request::Wrong(word_of(o, 28), 9);
     }
     Request::Asked(commanded(o))
 }
@@ -174,10 +252,10 @@ fn judged(o: Options) -> Request
 pub fn judge(o: Options) -> Request
     ensures { λ r. ⌜ r ≡ request o ⌝ }
 {
-    if is_given(o, 17) {
+    if is_given(o, 33) {
         return Request::Help;
     }
-    if is_given(o, 18) {
+    if is_given(o, 34) {
         return Request::Version;
     }
     judged(o)
@@ -185,9 +263,9 @@ pub fn judge(o: Options) -> Request
 
 // Is the status asked for?
 pub fn wants_status(o: Options) -> bool
-    ensures { λ r. ⌜ r ≡ isGiven o 16 ⌝ }
+    ensures { λ r. ⌜ r ≡ isGiven o 32 ⌝ }
 {
-    is_given(o, 16)
+    is_given(o, 32)
 }
 
 // The word that names a command's sheet.

@@ -11,21 +11,22 @@ pub use judging::status_of;
 pub use judging::wants_status;
 use stimulus::number_of;
 use tables::command_of;
+use tables::is_number;
 use tables::option_of;
 ghost use mathlib.Core.Path.{_≡_};
-ghost use Rattle.options.specs.Options.{nothing, advanced, noted, wanting, misplaced, seeded};
-ghost use Rattle.options.specs.Options.{isDash, filled, isDashed, named, placed, fresh, taken};
+ghost use Rattle.options.specs.Options.{nothing, advanced, noted, valued, wanting, misplaced, leastOf, numbered};
+ghost use Rattle.options.specs.Options.{isDash, isBarred, filled, isDashed, named, placed, fresh, taken};
 
 // What the words so far have asked for: how many there are, the command's number or 0, the slot whose word is to come or 0, the first
-// word that is out of place or 0, and its fault; the seed, and the slots.
+// word that is out of place or 0, and its fault; the numbers of the slots, and the words that give them.
 pub struct Options {
     pub words: usize,
-    pub command: u8,
+    pub command: usize,
     pub wants: usize,
     pub wrong: usize,
     pub fault: u8,
-    pub seed: u32,
-    pub at: [usize; 32],
+    pub value: [u32; 40],
+    pub at: [usize; 40],
 }
 
 // By which of the three ways a run goes: the plain run, choices drawn by a seed, or the extracted expressions.
@@ -35,15 +36,31 @@ pub enum Way {
     Expressed,
 }
 
+// What the table shows: the base of its numbers, commas or columns, the inputs and the wires beside the registers, the word that names
+// its variables or 0, the cycles from one to another and every how many, or only the last one.
+pub struct Shape {
+    pub base: u8,
+    pub csv: bool,
+    pub inputs: bool,
+    pub wires: bool,
+    pub only: usize,
+    pub from: usize,
+    pub to: usize,
+    pub every: usize,
+    pub last: bool,
+}
+
 // `run`: the numbers of the words that name files, 0 where there is none, and what is to be shown.
 pub struct RunOptions {
     pub sheet: usize,
     pub inputs: usize,
     pub names: usize,
     pub vcd: usize,
+    pub expect: usize,
+    pub user: u32,
+    pub allowance: usize,
     pub way: Way,
-    pub wires: bool,
-    pub last: bool,
+    pub shape: Shape,
     pub progress: bool,
     pub silent: bool,
 }
@@ -99,8 +116,8 @@ pub fn begin() -> Options
         wants: 0,
         wrong: 0,
         fault: 0,
-        seed: 0,
-        at: [0usize; 32],
+        value: [0u32; 40],
+        at: [0usize; 40],
     }
 }
 
@@ -108,6 +125,7 @@ pub fn begin() -> Options
 fn advanced(o: Options) -> Options
     ensures { λ r. ⌜ r ≡ advanced o ⌝ }
 {
+    let value = o.value;
     let at = o.at;
     Options {
         words: stimulus::counted(o.words),
@@ -115,7 +133,7 @@ fn advanced(o: Options) -> Options
         wants: 0,
         wrong: o.wrong,
         fault: o.fault,
-        seed: o.seed,
+        value,
         at,
     }
 }
@@ -124,9 +142,10 @@ fn advanced(o: Options) -> Options
 fn noted(o: Options, slot: usize) -> Options
     ensures { λ r. ⌜ r ≡ noted o slot ⌝ }
 {
-    if 32 <= slot {
+    if 40 <= slot {
         return o;
     }
+    let value = o.value;
     let mut at = o.at;
     at[slot] = o.words;
     Options {
@@ -135,7 +154,28 @@ fn noted(o: Options, slot: usize) -> Options
         wants: o.wants,
         wrong: o.wrong,
         fault: o.fault,
-        seed: o.seed,
+        value,
+        at,
+    }
+}
+
+// A slot has a number.
+fn valued(o: Options, slot: usize, n: u32) -> Options
+    ensures { λ r. ⌜ r ≡ valued o slot n ⌝ }
+{
+    if 40 <= slot {
+        return o;
+    }
+    let mut value = o.value;
+    value[slot] = n;
+    let at = o.at;
+    Options {
+        words: o.words,
+        command: o.command,
+        wants: o.wants,
+        wrong: o.wrong,
+        fault: o.fault,
+        value,
         at,
     }
 }
@@ -144,6 +184,7 @@ fn noted(o: Options, slot: usize) -> Options
 fn wanting(o: Options, slot: usize) -> Options
     ensures { λ r. ⌜ r ≡ wanting o slot ⌝ }
 {
+    let value = o.value;
     let at = o.at;
     Options {
         words: o.words,
@@ -151,7 +192,7 @@ fn wanting(o: Options, slot: usize) -> Options
         wants: slot,
         wrong: o.wrong,
         fault: o.fault,
-        seed: o.seed,
+        value,
         at,
     }
 }
@@ -163,6 +204,7 @@ fn misplaced(o: Options, fault: u8) -> Options
     if o.wrong != 0 {
         return o;
     }
+    let value = o.value;
     let at = o.at;
     Options {
         words: o.words,
@@ -170,16 +212,23 @@ fn misplaced(o: Options, fault: u8) -> Options
         wants: o.wants,
         wrong: o.words,
         fault,
-        seed: o.seed,
+        value,
         at,
     }
 }
 
 // ---- words
 
-// The seed is given by a word: a decimal number below 2^32.
-fn seeded(o: Options, word: &[u8]) -> Options
-    ensures { λ r. ⌜ r ≡ seeded o (now (word .entry)) ⌝ }
+// The least number that a slot takes.
+fn least_of(slot: usize) -> u64
+    ensures { λ r. ⌜ r ≡ leastOf slot ⌝ }
+{
+    if slot == 6 { 1 } else { 0 }
+}
+
+// A slot's number is given by a word: a decimal number below 2^32.
+fn numbered(o: Options, slot: usize, word: &[u8]) -> Options
+    ensures { λ r. ⌜ r ≡ numbered o slot (now (word .entry)) ⌝ }
 {
     let a = number_of(false, word, 0);
     let n = a.n;
@@ -192,17 +241,10 @@ fn seeded(o: Options, word: &[u8]) -> Options
     if 4294967296 <= n {
         return misplaced(o, 3);
     }
-    let b = noted(o, 3);
-    let at = b.at;
-    Options {
-        words: b.words,
-        command: b.command,
-        wants: b.wants,
-        wrong: b.wrong,
-        fault: b.fault,
-        seed: n as u32,
-        at,
+    if n < least_of(slot) {
+        return misplaced(o, 3);
     }
+    valued(noted(o, slot), slot, n as u32)
 }
 
 // Is the word `-`?
@@ -215,18 +257,25 @@ fn is_dash(word: &[u8]) -> bool
     word[0] == b'-'
 }
 
+// Is it a waveform on standard output?
+fn is_barred(slot: usize, word: &[u8]) -> bool
+    ensures { λ r. ⌜ r ≡ isBarred slot (now (word .entry)) ⌝ }
+{
+    if slot == 1 {
+        return is_dash(word);
+    }
+    false
+}
+
 // The word that a slot wants.
 fn filled(o: Options, slot: usize, word: &[u8]) -> Options
     ensures { λ r. ⌜ r ≡ filled o slot (now (word .entry)) ⌝ }
 {
-    if slot == 3 {
-        return seeded(o, word);
+    if is_number(slot) {
+        return numbered(o, slot, word);
     }
-    if slot == 1 {
-        if is_dash(word) {
-            return misplaced(o, 7);
-        }
-        return noted(o, 1);
+    if is_barred(slot, word) {
+        return misplaced(o, 7);
     }
     noted(o, slot)
 }
@@ -242,15 +291,16 @@ fn is_dashed(word: &[u8]) -> bool
 }
 
 // A command by its number, 0 for none.
-fn named(o: Options, n: u8) -> Options
+fn named(o: Options, n: usize) -> Options
     ensures { λ r. ⌜ r ≡ named o n ⌝ }
 {
     if n == 0 {
         return misplaced(o, 1);
     }
     if n == 7 {
-        return noted(o, 17);
+        return noted(o, 33);
     }
+    let value = o.value;
     let at = o.at;
     Options {
         words: o.words,
@@ -258,7 +308,7 @@ fn named(o: Options, n: u8) -> Options
         wants: o.wants,
         wrong: o.wrong,
         fault: o.fault,
-        seed: o.seed,
+        value,
         at,
     }
 }
@@ -285,7 +335,7 @@ fn fresh(o: Options, word: &[u8]) -> Options
     ensures { λ r. ⌜ r ≡ fresh o (now (word .entry)) ⌝ }
 {
     let slot = option_of(word);
-    if 9 < slot {
+    if 19 < slot {
         return noted(o, slot);
     }
     if 0 < slot {

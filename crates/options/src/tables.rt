@@ -1,133 +1,149 @@
 // The tables of words: commands, options, and which option goes with which command.
 ghost use mathlib.Core.Path.{_≡_};
-ghost use Rattle.naming.specs.Naming.{sameText};
-ghost use Rattle.options.specs.Tables.{commandOf, valuedOption, loneOption, plainOption, optionOf, isFed, goesWith};
+ghost use mathlib.Core.Bool.{true};
+ghost use Prim.Native.Nat.{_<_};
+ghost use Rattle.options.specs.Tables.{agrees, isFound, goesOn, lettered, ended, amongFrom, commandOf};
+ghost use Rattle.options.specs.Tables.{valuedOption, loneOption, plainOption, shortOption};
+ghost use Rattle.options.specs.Tables.{either, optionOf, isNumber, isFed, goesWith};
 
-// Are two texts equal?
-fn is_word(word: &[u8], text: &[u8]) -> bool
-    ensures { λ r. ⌜ r ≡ sameText (now (word .entry)) (now (text .entry)) ⌝ }
+// Is byte n of a word this one?
+fn agrees(word: &[u8], n: usize, b: u8) -> bool
+    ensures { λ r. ⌜ r ≡ agrees (now (word .entry)) n b ⌝ }
 {
-    if word.len() != text.len() {
+    if n < word.len() { word[n] == b } else { false }
+}
+
+// Does the line's word end here, and is it the one?
+fn is_found(word: &[u8], n: usize, same: bool, b: u8) -> bool
+    ensures { λ r. ⌜ r ≡ isFound (now (word .entry)) n same b ⌝ }
+{
+    if b != b' ' {
         return false;
     }
-    let mut i = 0;
-    while i < word.len() {
-        if word[i] != text[i] {
-            return false;
+    if same { n == word.len() } else { false }
+}
+
+// Do the bytes of the line's word so far agree?
+fn goes_on(word: &[u8], n: usize, same: bool, b: u8) -> bool
+    ensures { λ r. ⌜ r ≡ goesOn (now (word .entry)) n same b ⌝ }
+{
+    if b == b' ' {
+        return true;
+    }
+    if same { agrees(word, n, b) } else { false }
+}
+
+// How many bytes of the line's word are passed.
+fn lettered(n: usize, b: u8) -> usize
+    requires { ⌜ n < 18446744073709551615 ⌝ }
+    ensures { λ r. ⌜ r ≡ lettered n b ⌝ }
+{
+    if b == b' ' { 0 } else { n + 1 }
+}
+
+// How many words of the line are passed.
+fn ended(k: usize, b: u8) -> usize
+    requires { ⌜ k < 18446744073709551615 ⌝ }
+    ensures { λ r. ⌜ r ≡ ended k b ⌝ }
+{
+    if b == b' ' { k + 1 } else { k }
+}
+
+// Which word of a line it is, counted on from a number, 0 where it is none; a blank stands behind each word of the line.
+fn among(word: &[u8], base: u8, line: &[u8]) -> usize
+    requires { do ⌜ (← ⟦line.len()⟧) < 65536 ⌝ }
+    ensures { λ r. ⌜ r ≡ amongFrom (now (word .entry)) base 0 true (now (line .entry)) ⌝ }
+{
+    let mut k = base as usize;
+    let mut n: usize = 0;
+    let mut same = true;
+    let mut i: usize = 0;
+    while i < line.len() {
+        let b = line[i];
+        if is_found(word, n, same, b) {
+            return k + 1;
         }
+        same = goes_on(word, n, same, b);
+        n = lettered(n, b);
+        k = ended(k, b);
         i += 1;
     }
-    true
+    0
 }
 
 // A command's number by its word, 0 for any other word.
-pub fn command_of(word: &[u8]) -> u8
+pub fn command_of(word: &[u8]) -> usize
     ensures { λ r. ⌜ r ≡ commandOf (now (word .entry)) ⌝ }
 {
-    if is_word(word, b"list") {
-        return 1;
-    }
-    if is_word(word, b"check") {
-        return 2;
-    }
-    if is_word(word, b"run") {
-        return 3;
-    }
-    if is_word(word, b"extract") {
-        return 4;
-    }
-    if is_word(word, b"compare") {
-        return 5;
-    }
-    if is_word(word, b"verilog") {
-        return 6;
-    }
-    if is_word(word, b"help") {
-        return 7;
-    }
-    0
+    among(word, 0, b"list check run extract compare verilog help ")
 }
 
 // The slot of an option that takes the next word.
 fn valued_option(word: &[u8]) -> usize
     ensures { λ r. ⌜ r ≡ valuedOption (now (word .entry)) ⌝ }
 {
-    if is_word(word, b"--vcd") {
-        return 1;
-    }
-    if is_word(word, b"--names") {
-        return 2;
-    }
-    if is_word(word, b"--seed") {
-        return 3;
-    }
-    0
+    among(
+        word,
+        0,
+        b"--vcd --names --seed --from --to --every --only --expect --user --allowance ",
+    )
 }
 
 // The slot of an option that stands alone.
 fn lone_option(word: &[u8]) -> usize
     ensures { λ r. ⌜ r ≡ loneOption (now (word .entry)) ⌝ }
 {
-    if is_word(word, b"--by-expressions") {
-        return 10;
-    }
-    if is_word(word, b"--wires") {
-        return 11;
-    }
-    if is_word(word, b"--last") {
-        return 12;
-    }
-    if is_word(word, b"--dot") {
-        return 13;
-    }
-    if is_word(word, b"--progress") {
-        return 14;
-    }
-    if is_word(word, b"--any-order") {
-        return 15;
-    }
-    0
+    among(
+        word,
+        19,
+        b"--by-expressions --wires --last --dot --progress --any-order --inputs --hex --binary --csv ",
+    )
 }
 
 // The slot of an option that goes with every command.
 fn plain_option(word: &[u8]) -> usize
     ensures { λ r. ⌜ r ≡ plainOption (now (word .entry)) ⌝ }
 {
-    if is_word(word, b"--status") {
-        return 16;
-    }
-    if is_word(word, b"--help") {
-        return 17;
-    }
-    if is_word(word, b"-h") {
-        return 17;
-    }
-    if is_word(word, b"--version") {
-        return 18;
-    }
-    if is_word(word, b"-V") {
-        return 18;
-    }
-    0
+    among(word, 31, b"--status --help --version ")
+}
+
+// The slot of an option in short.
+fn short_option(word: &[u8]) -> usize
+    ensures { λ r. ⌜ r ≡ shortOption (now (word .entry)) ⌝ }
+{
+    among(word, 32, b"-h -V ")
+}
+
+// The first of two slots that is one.
+fn either(a: usize, b: usize) -> usize
+    ensures { λ r. ⌜ r ≡ either a b ⌝ }
+{
+    if a == 0 { b } else { a }
 }
 
 // The slot of an option, 0 for any other word.
 pub fn option_of(word: &[u8]) -> usize
     ensures { λ r. ⌜ r ≡ optionOf (now (word .entry)) ⌝ }
 {
-    let slot = valued_option(word);
-    if slot != 0 {
-        return slot;
+    let a = valued_option(word);
+    let b = lone_option(word);
+    let c = plain_option(word);
+    let d = short_option(word);
+    either(a, either(b, either(c, d)))
+}
+
+// Does a slot take a number?
+pub fn is_number(slot: usize) -> bool
+    ensures { λ r. ⌜ r ≡ isNumber slot ⌝ }
+{
+    if slot == 9 {
+        return true;
     }
-    let lone = lone_option(word);
-    if lone != 0 {
-        return lone;
-    }
-    plain_option(word)
+    if 2 < slot { slot < 7 } else { false }
 }
 
 // Does the command take inputs?
-pub fn is_fed(command: u8) -> bool
+pub fn is_fed(command: usize) -> bool
     ensures { λ r. ⌜ r ≡ isFed command ⌝ }
 {
     if command == 3 {
@@ -137,7 +153,7 @@ pub fn is_fed(command: u8) -> bool
 }
 
 // Does a slot go with a command?
-pub fn goes_with(command: u8, slot: usize) -> bool
+pub fn goes_with(command: usize, slot: usize) -> bool
     ensures { λ r. ⌜ r ≡ goesWith command slot ⌝ }
 {
     if slot == 2 {
@@ -146,13 +162,13 @@ pub fn goes_with(command: u8, slot: usize) -> bool
         }
         return command == 4;
     }
-    if slot == 13 {
+    if slot == 23 {
         return command == 4;
     }
     if slot == 31 {
         return is_fed(command);
     }
-    if slot < 16 {
+    if slot < 30 {
         return command == 3;
     }
     true

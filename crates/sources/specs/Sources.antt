@@ -21,10 +21,10 @@ nothing = words noOptions false false
 
 -- One word more, which asks nothing of `options`; one word more, by which the command is number 2, `check`.
 unfoldable pub counted : Options → Options
-counted o = options (more (o .words)) (o .command) (o .wants) (o .wrong) (o .fault) (o .seed) (o .at)
+counted o = options (more (o .words)) (o .command) (o .wants) (o .wrong) (o .fault) (o .value) (o .at)
 
 unfoldable pub commanded : Options → Options
-commanded o = options (more (o .words)) 2 (o .wants) (o .wrong) (o .fault) (o .seed) (o .at)
+commanded o = options (more (o .words)) 2 (o .wants) (o .wrong) (o .fault) (o .value) (o .at)
 
 -- Is it the word `sheet`, and in the command's place?
 unfoldable pub asks : Options → List ℕ → Bool

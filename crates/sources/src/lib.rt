@@ -33,6 +33,7 @@ pub fn begin() -> Words
 fn counted(o: Options) -> Options
     ensures { λ r. ⌜ r ≡ counted o ⌝ }
 {
+    let value = o.value;
     let at = o.at;
     Options {
         words: stimulus::counted(o.words),
@@ -40,7 +41,7 @@ fn counted(o: Options) -> Options
         wants: o.wants,
         wrong: o.wrong,
         fault: o.fault,
-        seed: o.seed,
+        value,
         at,
     }
 }
@@ -49,6 +50,7 @@ fn counted(o: Options) -> Options
 fn commanded(o: Options) -> Options
     ensures { λ r. ⌜ r ≡ commanded o ⌝ }
 {
+    let value = o.value;
     let at = o.at;
     Options {
         words: stimulus::counted(o.words),
@@ -56,7 +58,7 @@ fn commanded(o: Options) -> Options
         wants: o.wants,
         wrong: o.wrong,
         fault: o.fault,
-        seed: o.seed,
+        value,
         at,
     }
 }

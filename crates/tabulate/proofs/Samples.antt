@@ -1,35 +1,46 @@
--- Samples, computed: the cycle's column, titles of two variables and a row with x.
+-- Samples, computed: lines of titles and of values, with x, in three bases and with commas. Assumes nothing.
 use mathlib.Core.Path.{_≡_, refl}
 use mathlib.Core.List.{List, [], _∷_, _++_}
-use mathlib.Core.Bool.{true, false}
+use mathlib.Core.Bool.{Bool, true, false}
 use Prim.Native.Nat.{ℕ}
+use Prim.Native.String.{String}
 use lib.ListN.{replicate}
 use Rattle.values.specs.Planes.{valueAt}
 use Rattle.writing.specs.Ascii.{ascii}
 use Rattle.writing.specs.Numbers.{digits, decimal}
-use Rattle.naming.specs.Naming.{nameFrom, nameOf, within, texts}
-use Rattle.tabulate.specs.Tabulate.{aligned, cell, largest, longer, columnWidth, shown}
-use Rattle.tabulate.specs.Tabulate.{cycleTitle, cycleCell, title, titles, entry, entries}
-
-cycles : cycleTitle ++ cycleCell 1024 ≡ ascii "   cycle    1024"
-unfolding cycleTitle cycleCell aligned decimal digits ascii
-cycles = refl
-
--- A cycle of more than 8 digits stands as it is.
-long-cycle : cycleCell 123456789 ≡ ascii "123456789"
-unfolding cycleCell aligned decimal digits ascii
-long-cycle = refl
+use Rattle.naming.specs.Naming.{nameFrom, nameOf}
+use Rattle.tabulate.specs.Tabulate.{figure, figures, figured, shown, shownIn, largest, longer, places, columnWidth, aligned, gap, cell}
+use Rattle.tabulate.specs.Tabulate.{cycleTitle, cycleCell, title, entry, columns, headLine, line, isChosen}
 
 -- Three variables: clk of 1 bit, count of 4 bits, q of 10 bits.
-names : List ℕ
+pub names : List ℕ
 unfolding ascii
 names = ascii "clk" ++ (replicate 29 0 ++ (ascii "count" ++ (replicate 27 0 ++ (ascii "q" ++ replicate 31 0))))
 
--- The registers' columns: the first is as wide as its name, the second as its largest value, 1023.
-heads : titles (1 ∷ 4 ∷ 10 ∷ []) names 1 2 ≡ ascii "  count     q"
-unfolding names titles title cell aligned columnWidth largest longer nameOf nameFrom within texts decimal digits ascii
-heads = refl
+-- The titles of count and q, and cycle 12 with count x and q 512.
+abbrev pub heads : ℕ → Bool → List ℕ
+heads base csv = headLine (record { base = base; csv = csv }) (1 ∷ 4 ∷ 10 ∷ []) names (1 ∷ 2 ∷ [])
 
-row : entries (1 ∷ 4 ∷ 10 ∷ []) names (valueAt (1 ∷ 7 ∷ 512 ∷ []) (false ∷ true ∷ false ∷ [])) 1 2 ≡ ascii "      x   512"
-unfolding names entries entry cell aligned columnWidth largest longer shown nameOf nameFrom within texts valueAt decimal digits ascii
-row = refl
+abbrev pub row : ℕ → Bool → List ℕ
+row base csv =
+    line (record { base = base; csv = csv }) (1 ∷ 4 ∷ 10 ∷ []) names (1 ∷ 2 ∷ []) 12
+    (valueAt (1 ∷ 7 ∷ 512 ∷ []) (false ∷ true ∷ false ∷ []))
+
+-- The first column is as wide as its name, the second as its largest value, 1023.
+pub lines :
+    (heads 10 false ≡ ascii "   cycle  count     q\n") × (row 10 false ≡ ascii "      12      x   512\n") ×
+    (heads 16 false ≡ ascii "   cycle  count    q\n") × (row 16 false ≡ ascii "      12      x  200\n") ×
+    (heads 2 false ≡ ascii "   cycle  count           q\n") × (row 2 false ≡ ascii "      12      x  1000000000\n") ×
+    (heads 10 true ≡ ascii "cycle,count,q\n") × (row 10 true ≡ ascii "12,x,512\n")
+unfolding names headLine line cycleTitle cycleCell columns title entry cell gap aligned columnWidth places largest longer shownIn figured figures figure shown nameOf nameFrom valueAt decimal digits ascii
+lines = (refl, refl, refl, refl, refl, refl, refl, refl)
+
+-- A cycle of more than 8 digits stands as it is.
+pub long-cycle : cycleCell false 123456789 ≡ ascii "123456789"
+unfolding cycleCell aligned decimal digits ascii
+long-cycle = refl
+
+-- From cycle 2 to 9, every third.
+pub choices : (isChosen 2 9 3 5 ≡ true) × (isChosen 2 9 3 6 ≡ false) × (isChosen 2 9 3 1 ≡ false) × (isChosen 2 9 3 11 ≡ false)
+unfolding isChosen
+choices = (refl, refl, refl, refl)

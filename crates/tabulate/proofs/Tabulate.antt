@@ -1,25 +1,31 @@
 -- Laws of the table: numbers in decimal by their digits, and that the columns stand under their titles.
 -- Assumes nothing.
-use mathlib.Core.Path.{_≡_, refl, sym, _∙_}
+use mathlib.Core.Path.{_≡_, refl, sym, ap, _∙_}
+use mathlib.Core.Logic.{_≢_}
 use mathlib.Core.Bool.{Bool, true, false}
 use mathlib.Core.List.{List, [], _∷_, _++_}
 use Prim.Native.Nat.{ℕ, zero, suc, _+_, _-_, _*_, _/_, _%_, _^_, _≤_, _<_}
 use native.Mathlib.Nat.{one-mul}
+use native.Mathlib.Numerals.{add-one}
 use native.Mathlib.Omega.{arith}
 use borrow.Author.Tests.{lt-ltb, le-ltb, ltb-true, ltb-false}
-use lib.Dec.{ltb, lit<}
-use lib.ListN.{length, getD, replicate, length-append, length-replicate}
+use lib.Dec.{ltb, eqb, lit<}
+use lib.ListN.{length, getD, drop, replicate, length-append, length-replicate, drop-of-length-le}
 use lib.Pow.{shl-exact}
+use lib.Seq.{drop-cons}
 use Rattle.values.specs.declared.Value.{Value}
 use Rattle.values.specs.declared.Value.the-variants.{Known, Unknown}
 use Rattle.values.specs.Values.{pick, fits}
 use Rattle.values.proofs.Values.{fits→<}
 use Rattle.writing.specs.Ascii.{ascii, byte}
 use Rattle.writing.specs.Numbers.{digit, digits, decimal}
+use Rattle.writing.specs.Buffer.{Text, puts}
+use Rattle.writing.proofs.Buffer.{puts-nil, puts-append}
 use Rattle.writing.proofs.Numbers.{decimal-less, decimal-more}
-use Rattle.naming.specs.Naming.{nameOf, within, texts}
-use Rattle.tabulate.specs.Tabulate.{aligned, cell, largest, longer, columnWidth, shown}
-use Rattle.tabulate.specs.Tabulate.{title, titles, entry, entries}
+use Rattle.naming.specs.Naming.{nameOf}
+use Rattle.tabulate.specs.declared.Form.{Form}
+use Rattle.tabulate.specs.Tabulate.{figure, figures, figured, shown, shownIn, largest, longer, places, columnWidth}
+use Rattle.tabulate.specs.Tabulate.{gap, cell, title, entry, columns}
 
 -- ---- largest
 
@@ -99,17 +105,56 @@ decimal-some : (n : ℕ) → 1 ≤ length (decimal n)
 unfolding decimal
 decimal-some n = digits-some 19 n
 
--- ---- aligned, cell: a text that fits fills its places
+-- ---- figures
 
-pub length-aligned : (n : ℕ) (t : List ℕ) → length t ≤ n → length (aligned n t) ≡ n
-unfolding aligned
-length-aligned n t h =
-    length-append (replicate (n - length t) (byte " ")) t
+module _ (base k n : ℕ) where
+  pub figures-none : k ≡ 0 → figures base k n ≡ []
+  unfolding figures
+  figures-none e = rw e refl
+
+  pub figures-more : k ≢ 0 → figures base k n ≡ figures base (k - 1) (n / base) ++ (figure (n % base) ∷ [])
+  unfolding figures
+  figures-more h = by k refl
+    where
+      by : (j : ℕ) → k ≡ j → figures base j n ≡ figures base (j - 1) (n / base) ++ (figure (n % base) ∷ [])
+      by zero e = absurd (h e)
+      by (suc j) e = let z : suc j - 1 ≡ j = omega arith in rw z refl
+
+pub length-figures : (base k n : ℕ) → length (figures base k n) ≡ k
+unfolding figures
+length-figures base zero n = refl
+length-figures base (suc k) n =
+    length-append (figures base k (n / base)) (figure (n % base) ∷ []) ∙ rw (length-figures base k (n / base)) (omega arith)
+
+pub figure-digit : (n : ℕ) → n < 10 → figure n ≡ 48 + n
+unfolding figure
+figure-digit n h = rw (lt-ltb n 10 h)
+
+pub figure-letter : (n : ℕ) → 10 ≤ n → figure n ≡ 87 + n
+unfolding figure
+figure-letter n h = rw (le-ltb n 10 h)
+
+-- ---- columns: one put, and the rest to come
+
+pub columns-next : (column : ℕ → List ℕ) (t u : Text) (vs : List ℕ) (i : ℕ) → i < length vs → u ≡ puts t (column (getD vs i 0))
+    → puts u (columns column (drop (i + 1) vs)) ≡ puts t (columns column (drop i vs))
+unfolding columns
+columns-next column t u vs i h e =
+    rw (add-one, drop-cons vs i 0 h)
+    (ap (λ x. puts x (columns column (drop (suc i) vs))) e
+    ∙ sym (puts-append t (column (getD vs i 0)) (columns column (drop (suc i) vs))))
+
+pub columns-done : (column : ℕ → List ℕ) (t : Text) (vs : List ℕ) (i : ℕ) → length vs ≤ i → puts t (columns column (drop i vs)) ≡ t
+unfolding columns
+columns-done column t vs i h = rw (drop-of-length-le vs h) (puts-nil t)
+
+-- ---- cell: a text that fits fills its places
+
+pub length-cell : (n : ℕ) (t : List ℕ) → length t ≤ n → length (cell false n t) ≡ n + 2
+unfolding cell gap ascii
+length-cell n t h =
+    length-append (byte " " ∷ byte " " ∷ replicate (n - length t) (byte " ")) t
     ∙ rw (length-replicate (n - length t) (byte " ")) (omega arith)
-
-pub length-cell : (n : ℕ) (t : List ℕ) → length t ≤ n → length (cell n t) ≡ n + 2
-unfolding cell ascii
-length-cell n t h = let e = length-aligned n t h in omega arith
 
 -- ---- columnWidth: no name and no value that fits is longer
 
@@ -121,9 +166,9 @@ longer-≥ a b = by (ltb a b) refl
     by true q = let h = ltb-true a b q in (omega arith, omega arith)
     by false q = let h = ltb-false a b q in (omega arith, omega arith)
 
-pub name-fits : (widths names : List ℕ) (v : ℕ) → length (nameOf names v) ≤ columnWidth widths names v
+pub name-fits : (base : ℕ) (widths names : List ℕ) (v : ℕ) → length (nameOf names v) ≤ columnWidth base widths names v
 unfolding columnWidth
-name-fits widths names v = longer-≥ (length (nameOf names v)) (length (decimal (largest (getD widths v 0)))) .0
+name-fits base widths names v = longer-≥ (length (nameOf names v)) (places base (getD widths v 0)) .0
 
 below-largest : (w n : ℕ) → w ≤ 32 → n < 2 ^ w → n ≤ largest w
 below-largest w n h l = by (ltb w 32) refl
@@ -135,36 +180,51 @@ below-largest w n h l = by (ltb w 32) refl
         let e : w ≡ 32 = omega arith in
         rw (largest-all w k) (let g = rw e at l in omega (arith, g))
 
-shown-fits : (w : ℕ) (a : Value) → w ≤ 32 → fits w a ≡ true → length (shown a) ≤ length (decimal (largest w))
+decimal-fits : (w : ℕ) (a : Value) → w ≤ 32 → fits w a ≡ true → length (shown a) ≤ length (decimal (largest w))
 unfolding shown
-shown-fits w (Known n) h f = decimal-mono n (largest w) (below-largest w n h (fits→< w n f))
-shown-fits w Unknown h f = decimal-some (largest w)
+decimal-fits w (Known n) h f = decimal-mono n (largest w) (below-largest w n h (fits→< w n f))
+decimal-fits w Unknown h f = decimal-some (largest w)
 
-pub value-fits : (widths names : List ℕ) (a : Value) (v : ℕ) → getD widths v 0 ≤ 32 → fits (getD widths v 0) a ≡ true
-    → length (shown a) ≤ columnWidth widths names v
+figured-fits : (base k : ℕ) (a : Value) → length (figured base k a) ≤ longer 1 k
+unfolding figured
+figured-fits base k (Known n) = omega (arith, length-figures base k n, longer-≥ 1 k .1)
+figured-fits base k Unknown = longer-≥ 1 k .0
+
+shown-fits : (base w : ℕ) (a : Value) → w ≤ 32 → fits w a ≡ true → length (shownIn base w a) ≤ places base w
+unfolding shownIn places
+shown-fits base w a h f = by (eqb base 16) (eqb base 2)
+  where
+    by : (x y : Bool)
+        → length (pick x (figured 16 ((w + 3) / 4) a) (pick y (figured 2 w a) (shown a)))
+        ≤ pick x (longer 1 ((w + 3) / 4)) (pick y (longer 1 w) (length (decimal (largest w))))
+    by true y = figured-fits 16 ((w + 3) / 4) a
+    by false true = figured-fits 2 w a
+    by false false = decimal-fits w a h f
+
+pub value-fits : (base : ℕ) (widths names : List ℕ) (a : Value) (v : ℕ) → getD widths v 0 ≤ 32 → fits (getD widths v 0) a ≡ true
+    → length (shownIn base (getD widths v 0) a) ≤ columnWidth base widths names v
 unfolding columnWidth
-value-fits widths names a v h f =
-    let l = shown-fits (getD widths v 0) a h f in
-    let k = longer-≥ (length (nameOf names v)) (length (decimal (largest (getD widths v 0)))) .1 in
+value-fits base widths names a v h f =
+    let l = shown-fits base (getD widths v 0) a h f in
+    let k = longer-≥ (length (nameOf names v)) (places base (getD widths v 0)) .1 in
     omega arith
 
--- ---- texts of equal lengths
+-- ---- columns of equal lengths
 
-length-texts : (f g : ℕ → List ℕ) (n v : ℕ) → ((u : ℕ) → length (f u) ≡ length (g u))
-    → length (texts f n v) ≡ length (texts g n v)
-unfolding texts
-length-texts f g zero v same = refl
-length-texts f g (suc n) v same =
-    length-append (f v) (texts f n (v + 1))
-    ∙ rw (same v, length-texts f g n (v + 1) same) (sym (length-append (g v) (texts g n (v + 1))))
+length-columns : (f g : ℕ → List ℕ) (vs : List ℕ) → ((u : ℕ) → length (f u) ≡ length (g u)) → length (columns f vs) ≡ length (columns g vs)
+unfolding columns
+length-columns f g [] same = refl
+length-columns f g (v ∷ vs) same =
+    length-append (f v) (columns f vs) ∙ rw (same v, length-columns f g vs same) (sym (length-append (g v) (columns g vs)))
 
--- The row of values that fit is as long as the row of titles: every column stands under its title.
-pub rows-align : (widths names : List ℕ) (new : ℕ → Value) (from count : ℕ)
+-- In a table without commas the values that fit are as long as the titles: every column stands under its title, in every base.
+pub columns-align : (form : Form) (widths names : List ℕ) (new : ℕ → Value) (vs : List ℕ) → form .csv ≡ false
     → ((v : ℕ) → getD widths v 0 ≤ 32) → ((v : ℕ) → fits (getD widths v 0) (new v) ≡ true)
-    → length (entries widths names new from count) ≡ length (titles widths names from count)
-unfolding titles entries title entry
-rows-align widths names new from count narrow fit =
-    length-texts (λ v. cell (columnWidth widths names v) (shown (new v)))
-    (λ v. cell (columnWidth widths names v) (nameOf names v)) (within (from + count) - from) from
-    (λ v. length-cell (columnWidth widths names v) (shown (new v)) (value-fits widths names (new v) v (narrow v) (fit v))
-    ∙ sym (length-cell (columnWidth widths names v) (nameOf names v) (name-fits widths names v)))
+    → length (columns (entry form widths names new) vs) ≡ length (columns (title form widths names) vs)
+unfolding title entry
+columns-align form widths names new vs plain narrow fit =
+    length-columns (λ v. cell (form .csv) (columnWidth (form .base) widths names v) (shownIn (form .base) (getD widths v 0) (new v)))
+    (λ v. cell (form .csv) (columnWidth (form .base) widths names v) (nameOf names v)) vs
+    (λ v. rw plain (length-cell (columnWidth (form .base) widths names v) (shownIn (form .base) (getD widths v 0) (new v))
+    (value-fits (form .base) widths names (new v) v (narrow v) (fit v))
+    ∙ sym (length-cell (columnWidth (form .base) widths names v) (nameOf names v) (name-fits (form .base) widths names v))))

@@ -1,24 +1,46 @@
--- A run as a table of text: a row a cycle, a column a variable, right-aligned, two blanks before each.
-use Prim.Native.Nat.{ℕ, _+_, _-_, _^_}
+-- A run as a table of text: a line a cycle, a column a variable. The columns are right-aligned with two blanks before each, or stand
+-- behind commas.
+use Prim.Native.Nat.{ℕ, zero, suc, _+_, _-_, _/_, _%_, _^_}
+use mathlib.Core.Bool.{Bool, true, false}
 use mathlib.Core.List.{List, [], _∷_, _++_}
 use lib.ListN.{length, getD, replicate}
-use lib.Dec.{ltb}
+use lib.Dec.{ltb, eqb}
 use Rattle.values.specs.declared.Value.{Value}
 use Rattle.values.specs.declared.Value.the-variants.{Known, Unknown}
-use Rattle.values.specs.Values.{pick}
+use Rattle.values.specs.Values.{pick, _is_then_else_}
 use Rattle.writing.specs.Ascii.{ascii, byte}
 use Rattle.writing.specs.Numbers.{decimal}
-use Rattle.naming.specs.Naming.{nameOf, within, texts}
+use Rattle.naming.specs.Naming.{nameOf}
+use Rattle.tabulate.specs.declared.Form.{Form}
 
--- ---- aligned: a text at the right of n places; a longer one stands as it is
+-- ---- shown: a number in decimal, x as x
 
-unfoldable pub aligned : ℕ → List ℕ → List ℕ
-aligned n t = replicate (n - length t) (byte " ") ++ t
+unfoldable pub shown : Value → List ℕ
+shown (Known n) = decimal n
+shown Unknown = byte "x" ∷ []
 
-unfoldable pub cell : ℕ → List ℕ → List ℕ
-cell n t = ascii "  " ++ aligned n t
+-- ---- shownIn: in base 16 and in base 2 all figures of a variable of so many bits, zeros in front; else in decimal
 
--- ---- columnWidth: the longer of the name and the largest value that fits
+-- 0 to 9, a to f.
+unfoldable pub figure : ℕ → ℕ
+figure n = pick (ltb n 10) (byte "0" + n) (87 + n)
+
+-- The last k figures of a number.
+unfoldable pub figures : ℕ → ℕ → ℕ → List ℕ
+figures base zero n = []
+figures base (suc k) n = figures base k (n / base) ++ (figure (n % base) ∷ [])
+
+unfoldable pub figured : ℕ → ℕ → Value → List ℕ
+figured base k (Known n) = figures base k n
+figured base k Unknown = byte "x" ∷ []
+
+unfoldable pub shownIn : ℕ → ℕ → Value → List ℕ
+shownIn base w a =
+    base is 16 then figured 16 ((w + 3) / 4) a else
+    base is 2 then figured 2 w a else
+    shown a
+
+-- ---- columnWidth: the longer of the name and the largest value that fits; x takes one place
 
 -- The largest number of a width; widths end at 32.
 unfoldable pub largest : ℕ → ℕ
@@ -27,34 +49,58 @@ largest w = pick (ltb w 32) (2 ^ w - 1) (2 ^ 32 - 1)
 unfoldable pub longer : ℕ → ℕ → ℕ
 longer a b = pick (ltb a b) b a
 
-unfoldable pub columnWidth : List ℕ → List ℕ → ℕ → ℕ
-columnWidth widths names v = longer (length (nameOf names v)) (length (decimal (largest (getD widths v 0))))
+unfoldable pub places : ℕ → ℕ → ℕ
+places base w =
+    base is 16 then longer 1 ((w + 3) / 4) else
+    base is 2 then longer 1 w else
+    length (decimal (largest w))
 
--- ---- shown: a number in decimal, x as x
+unfoldable pub columnWidth : ℕ → List ℕ → List ℕ → ℕ → ℕ
+columnWidth base widths names v = longer (length (nameOf names v)) (places base (getD widths v 0))
 
-unfoldable pub shown : Value → List ℕ
-shown (Known n) = decimal n
-shown Unknown = byte "x" ∷ []
+-- ---- cell: a text behind a comma, or behind two blanks at the right of n places, where a longer one stands as it is
 
--- ---- the first column: the cycle, 8 wide
+unfoldable pub aligned : ℕ → List ℕ → List ℕ
+aligned n t = replicate (n - length t) (byte " ") ++ t
 
-unfoldable pub cycleTitle : List ℕ
-cycleTitle = aligned 8 (ascii "cycle")
+-- What stands in front of a text of k bytes.
+unfoldable pub gap : Bool → ℕ → ℕ → List ℕ
+gap csv n k = pick csv (ascii ",") (ascii "  " ++ replicate (n - k) (byte " "))
 
-unfoldable pub cycleCell : ℕ → List ℕ
-cycleCell n = aligned 8 (decimal n)
+unfoldable pub cell : Bool → ℕ → List ℕ → List ℕ
+cell csv n t = gap csv n (length t) ++ t
 
--- ---- the columns of `count` variables from variable `from` on, as far as there are rows for names
+-- ---- the first column: the cycle in decimal, 8 places wide
 
-unfoldable pub title : List ℕ → List ℕ → ℕ → List ℕ
-title widths names v = cell (columnWidth widths names v) (nameOf names v)
+unfoldable pub cycleTitle : Bool → List ℕ
+cycleTitle csv = pick csv (ascii "cycle") (ascii "   cycle")
 
-unfoldable pub titles : List ℕ → List ℕ → ℕ → ℕ → List ℕ
-titles widths names from count = texts (title widths names) (within (from + count) - from) from
+unfoldable pub cycleCell : Bool → ℕ → List ℕ
+cycleCell csv n = pick csv (decimal n) (aligned 8 (decimal n))
 
--- `new` has the values of the variables.
-unfoldable pub entry : List ℕ → List ℕ → (ℕ → Value) → ℕ → List ℕ
-entry widths names new v = cell (columnWidth widths names v) (shown (new v))
+-- ---- the columns of a list of variables. `new` has their values.
 
-unfoldable pub entries : List ℕ → List ℕ → (ℕ → Value) → ℕ → ℕ → List ℕ
-entries widths names new from count = texts (entry widths names new) (within (from + count) - from) from
+unfoldable pub title : Form → List ℕ → List ℕ → ℕ → List ℕ
+title form widths names v = cell (form .csv) (columnWidth (form .base) widths names v) (nameOf names v)
+
+unfoldable pub entry : Form → List ℕ → List ℕ → (ℕ → Value) → ℕ → List ℕ
+entry form widths names new v =
+    cell (form .csv) (columnWidth (form .base) widths names v) (shownIn (form .base) (getD widths v 0) (new v))
+
+unfoldable pub columns : (ℕ → List ℕ) → List ℕ → List ℕ
+columns column [] = []
+columns column (v ∷ vs) = column v ++ columns column vs
+
+-- ---- headLine: the titles; line: cycle n
+
+unfoldable pub headLine : Form → List ℕ → List ℕ → List ℕ → List ℕ
+headLine form widths names vs = cycleTitle (form .csv) ++ (columns (title form widths names) vs ++ ascii "\n")
+
+unfoldable pub line : Form → List ℕ → List ℕ → List ℕ → ℕ → (ℕ → Value) → List ℕ
+line form widths names vs n new = cycleCell (form .csv) n ++ (columns (entry form widths names new) vs ++ ascii "\n")
+
+-- ---- isChosen: the cycles from one to another, every so many; every 0 is every one
+
+unfoldable pub isChosen : ℕ → ℕ → ℕ → ℕ → Bool
+isChosen from to every n =
+    pick (ltb n from) false (pick (ltb to n) false (every is 0 then true else eqb ((n - from) % every) 0))

@@ -1,4 +1,4 @@
-// A run as a table of text, put into a lent buffer piece by piece: titles, cycles and values.
+// A run as a table of text, put into a lent buffer line by line: titles, cycles and values.
 use sheet::byte_at;
 use trace_row::value_in;
 use values::Value;
@@ -7,16 +7,28 @@ use writing::put_decimal;
 use writing::put_many;
 use writing::put_word;
 ghost use mathlib.Core.Path.{_≡_};
-ghost use Prim.Native.Nat.{_+_, _-_};
-ghost use lib.ListN.{length};
+ghost use Prim.Native.Nat.{_-_, _<_, _≤_};
+ghost use lib.ListN.{length, getD};
 ghost use Rattle.cells.specs.Cells.{cellAt};
 ghost use Rattle.writing.specs.Numbers.{decimal};
 ghost use Rattle.writing.specs.Buffer.{filled, puts};
-ghost use Rattle.naming.specs.Naming.{within};
-ghost use Rattle.tabulate.specs.Tabulate.{cell, largest, longer, columnWidth, shown};
-ghost use Rattle.tabulate.specs.Tabulate.{cycleTitle, cycleCell, title, titles, entries};
+ghost use Rattle.tabulate.specs.Tabulate.{shown, figure, figures, figured, shownIn, largest, longer, places, columnWidth};
+ghost use Rattle.tabulate.specs.Tabulate.{gap, cell, cycleTitle, cycleCell, title, entry, columns, headLine, line, isChosen};
+
+// How a table is written: the base of its numbers (16, 2, else 10), and commas in place of columns.
+pub struct Form {
+    pub base: u8,
+    pub csv: bool,
+}
 
 // ---- widths of columns
+
+// A byte as a variable.
+fn wide(b: u8) -> usize
+    ensures { λ r. ⌜ r ≡ b ⌝ }
+{
+    b as usize
+}
 
 // How many places are left of a width.
 fn left_of(width: usize, n: usize) -> usize
@@ -56,100 +68,62 @@ fn longer(a: usize, b: usize) -> usize
     if a < b { b } else { a }
 }
 
+// How many places the values of a width take.
+fn places(base: u8, width: u8) -> usize
+    ensures { λ r. ⌜ r ≡ places base width ⌝ }
+{
+    if base == 16 {
+        return longer(1, (width as usize + 3) / 4);
+    }
+    if base == 2 {
+        return longer(1, width as usize);
+    }
+    digit_count(largest(width))
+}
+
 // The width of a variable's column.
-fn column_width(widths: &[u8], names: &[u8; 2560], v: usize) -> usize
-    ensures { λ r. ⌜ r ≡ columnWidth (now (widths .entry)) (now (names .entry)) v ⌝ }
+fn column_width(base: u8, widths: &[u8], names: &[u8; 2560], v: usize) -> usize
+    ensures { λ r. ⌜ r ≡ columnWidth base (now (widths .entry)) (now (names .entry)) v ⌝ }
 {
     let n = naming::name_length(names, v);
-    let d = digit_count(largest(byte_at(widths, v)));
+    let d = places(base, byte_at(widths, v));
     longer(n, d)
 }
 
-// The place behind the last of `count` variables from `from` on that has a row.
-fn last_of(from: usize, count: usize) -> usize
-    ensures { λ r. ⌜ r ≡ within (from + count) ⌝ }
+// ---- numbers
+
+// A figure.
+fn figure(n: u8) -> u8
+    requires { ⌜ n < 16 ⌝ }
+    ensures { λ r. ⌜ r ≡ figure n ⌝ }
 {
-    if 80 <= from {
-        return 80;
+    if n < 10 { 48 + n } else { 87 + n }
+}
+
+// The last so many figures of a number, in base 16 or 2.
+fn put_figures(base: u32, count: usize, n: u32, text: &mut [u8; 65536], pos: usize) -> usize
+    requires { ⌜ (2 ≤ base) × (base ≤ 16) ⌝ }
+    ensures { λ r. ⌜ filled (now (text .exit)) r ≡ puts (filled (now (text .entry)) pos) (figures base count n) ⌝ }
+{
+    if count == 0 {
+        return pos;
     }
-    if 80 - from <= count {
-        return 80;
-    }
-    from + count
+    let p = put_figures(base, count - 1, n / base, text, pos);
+    put_byte(figure((n % base) as u8), text, p)
 }
 
-// ---- the cycle's column
-
-// The title of the cycles.
-pub fn print_cycle_title(text: &mut [u8; 65536], pos: usize) -> usize
-    ensures { λ r. ⌜ filled (now (text .exit)) r ≡ puts (filled (now (text .entry)) pos) cycleTitle ⌝ }
-{
-    put_word(b"   cycle", text, pos)
-}
-
-// The number of a cycle.
-pub fn print_cycle(n: usize, text: &mut [u8; 65536], pos: usize) -> usize
-    ensures { λ r. ⌜ filled (now (text .exit)) r ≡ puts (filled (now (text .entry)) pos) (cycleCell n) ⌝ }
-{
-    let p = put_many(b' ', left_of(8, digit_count(n)), text, pos);
-    put_decimal(n, text, p)
-}
-
-// ---- titles
-
-// The title of a variable's column.
-fn put_title(
-    widths: &[u8],
-    names: &[u8; 2560],
-    v: usize,
-    text: &mut [u8; 65536],
-    pos: usize,
-) -> usize
-    ensures { λ r. ⌜ filled (now (text .exit)) r ≡ puts (filled (now (text .entry)) pos)
-        (title (now (widths .entry)) (now (names .entry)) v) ⌝ }
-{
-    let width = column_width(widths, names, v);
-    let n = naming::name_length(names, v);
-    let p = put_word(b"  ", text, pos);
-    let q = put_many(b' ', left_of(width, n), text, p);
-    naming::put_name(names, v, text, q)
-}
-
-// The titles of `count` variables from `from` on.
-pub fn print_titles(
-    widths: &[u8],
-    names: &[u8; 2560],
-    from: usize,
-    count: usize,
-    text: &mut [u8; 65536],
-    pos: usize,
-) -> usize
-    ensures { λ r. ⌜ filled (now (text .exit)) r ≡ puts (filled (now (text .entry)) pos)
-        (titles (now (widths .entry)) (now (names .entry)) from count) ⌝ }
-{
-    let end = last_of(from, count);
-    let mut p = pos;
-    let mut v = from;
-    while v < end {
-        p = put_title(widths, names, v, text, p);
-        v += 1;
-    }
-    p
-}
-
-// ---- values
-
-// How long a value is as text.
-fn shown_length(a: Value) -> usize
-    ensures { λ r. ⌜ r ≡ length (shown a) ⌝ }
+// A value by so many figures.
+fn put_figured(base: u32, count: usize, a: Value, text: &mut [u8; 65536], pos: usize) -> usize
+    requires { ⌜ (2 ≤ base) × (base ≤ 16) ⌝ }
+    ensures { λ r. ⌜ filled (now (text .exit)) r ≡ puts (filled (now (text .entry)) pos) (figured base count a) ⌝ }
 {
     match a {
-        Value::Known(n) => digit_count(n as usize),
-        Value::Unknown => 1,
+        Value::Known(n) => put_figures(base, count, n, text, pos),
+        Value::Unknown => put_byte(b'x', text, pos),
     }
 }
 
-// A value as text.
+// A value in decimal.
 pub fn put_shown(a: Value, text: &mut [u8; 65536], pos: usize) -> usize
     ensures { λ r. ⌜ filled (now (text .exit)) r ≡ puts (filled (now (text .entry)) pos) (shown a) ⌝ }
 {
@@ -159,37 +133,220 @@ pub fn put_shown(a: Value, text: &mut [u8; 65536], pos: usize) -> usize
     }
 }
 
-// A value in a column of a width.
-fn put_cell(width: usize, a: Value, text: &mut [u8; 65536], pos: usize) -> usize
-    ensures { λ r. ⌜ filled (now (text .exit)) r ≡ puts (filled (now (text .entry)) pos) (cell width (shown a)) ⌝ }
+// A value in a base.
+fn put_value(base: u8, width: u8, a: Value, text: &mut [u8; 65536], pos: usize) -> usize
+    ensures { λ r. ⌜ filled (now (text .exit)) r ≡ puts (filled (now (text .entry)) pos) (shownIn base width a) ⌝ }
 {
-    let n = shown_length(a);
-    let p = put_word(b"  ", text, pos);
-    let q = put_many(b' ', left_of(width, n), text, p);
-    put_shown(a, text, q)
+    if base == 16 {
+        return put_figured(16, (width as usize + 3) / 4, a, text, pos);
+    }
+    if base == 2 {
+        return put_figured(2, width as usize, a, text, pos);
+    }
+    put_shown(a, text, pos)
 }
 
-// The values that a row of a trace has of `count` variables from `from` on.
-pub fn print_values(
+// How long a value is in decimal.
+fn shown_length(a: Value) -> usize
+    ensures { λ r. ⌜ r ≡ length (shown a) ⌝ }
+{
+    match a {
+        Value::Known(n) => digit_count(n as usize),
+        Value::Unknown => 1,
+    }
+}
+
+// How long a value of so many figures is.
+fn figured_length(base: u8, count: usize, a: Value) -> usize
+    ensures { λ r. ⌜ r ≡ length (figured base count a) ⌝ }
+{
+    match a {
+        Value::Known(_) => count,
+        Value::Unknown => 1,
+    }
+}
+
+// How long a value is in a base.
+fn value_length(base: u8, width: u8, a: Value) -> usize
+    ensures { λ r. ⌜ r ≡ length (shownIn base width a) ⌝ }
+{
+    if base == 16 {
+        return figured_length(16, (width as usize + 3) / 4, a);
+    }
+    if base == 2 {
+        return figured_length(2, width as usize, a);
+    }
+    shown_length(a)
+}
+
+// ---- cells
+
+// What stands in front of a text of so many bytes in its cell: a comma, or blanks.
+fn put_gap(csv: bool, width: usize, n: usize, text: &mut [u8; 65536], pos: usize) -> usize
+    ensures { λ r. ⌜ filled (now (text .exit)) r ≡ puts (filled (now (text .entry)) pos) (gap csv width n) ⌝ }
+{
+    if csv {
+        return put_word(b",", text, pos);
+    }
+    let p = put_word(b"  ", text, pos);
+    put_many(b' ', left_of(width, n), text, p)
+}
+
+// The title of a variable's column.
+fn put_title(
+    form: Form,
     widths: &[u8],
     names: &[u8; 2560],
-    from: usize,
-    count: usize,
+    v: usize,
+    text: &mut [u8; 65536],
+    pos: usize,
+) -> usize
+    ensures { λ r. ⌜ filled (now (text .exit)) r ≡ puts (filled (now (text .entry)) pos)
+        (title form (now (widths .entry)) (now (names .entry)) v) ⌝ }
+{
+    let width = column_width(form.base, widths, names, v);
+    let n = naming::name_length(names, v);
+    let p = put_gap(form.csv, width, n, text, pos);
+    naming::put_name(names, v, text, p)
+}
+
+// A variable's value in its column.
+fn put_entry(
+    form: Form,
+    widths: &[u8],
+    names: &[u8; 2560],
+    v: usize,
+    a: Value,
+    text: &mut [u8; 65536],
+    pos: usize,
+) -> usize
+    ensures { λ r. ⌜ filled (now (text .exit)) r ≡ puts (filled (now (text .entry)) pos)
+        (cell (form .csv) (columnWidth (form .base) (now (widths .entry)) (now (names .entry)) v)
+        (shownIn (form .base) (getD (now (widths .entry)) v 0) a)) ⌝ }
+{
+    let width = column_width(form.base, widths, names, v);
+    let bits = byte_at(widths, v);
+    let n = value_length(form.base, bits, a);
+    let p = put_gap(form.csv, width, n, text, pos);
+    put_value(form.base, bits, a, text, p)
+}
+
+// ---- lines
+
+// The title of the cycles.
+fn put_cycle_title(csv: bool, text: &mut [u8; 65536], pos: usize) -> usize
+    ensures { λ r. ⌜ filled (now (text .exit)) r ≡ puts (filled (now (text .entry)) pos) (cycleTitle csv) ⌝ }
+{
+    if csv {
+        return put_word(b"cycle", text, pos);
+    }
+    put_word(b"   cycle", text, pos)
+}
+
+// The number of a cycle.
+fn put_cycle(csv: bool, n: usize, text: &mut [u8; 65536], pos: usize) -> usize
+    ensures { λ r. ⌜ filled (now (text .exit)) r ≡ puts (filled (now (text .entry)) pos) (cycleCell csv n) ⌝ }
+{
+    if csv {
+        return put_decimal(n, text, pos);
+    }
+    let p = put_many(b' ', left_of(8, digit_count(n)), text, pos);
+    put_decimal(n, text, p)
+}
+
+// The titles of a list of variables.
+fn put_titles(
+    form: Form,
+    widths: &[u8],
+    names: &[u8; 2560],
+    vs: &[u8],
+    text: &mut [u8; 65536],
+    pos: usize,
+) -> usize
+    ensures { λ r. ⌜ filled (now (text .exit)) r ≡ puts (filled (now (text .entry)) pos)
+        (columns (title form (now (widths .entry)) (now (names .entry))) (now (vs .entry))) ⌝ }
+{
+    let mut p = pos;
+    let mut i: usize = 0;
+    while i < vs.len() {
+        p = put_title(form, widths, names, wide(vs[i]), text, p);
+        i += 1;
+    }
+    p
+}
+
+// The values that a row of a trace has of a list of variables.
+fn put_entries(
+    form: Form,
+    widths: &[u8],
+    names: &[u8; 2560],
+    vs: &[u8],
     row: &[u64],
     text: &mut [u8; 65536],
     pos: usize,
 ) -> usize
     ensures { λ r. ⌜ filled (now (text .exit)) r ≡ puts (filled (now (text .entry)) pos)
-        (entries (now (widths .entry)) (now (names .entry)) (cellAt (now (row .entry))) from count) ⌝ }
+        (columns (entry form (now (widths .entry)) (now (names .entry)) (cellAt (now (row .entry)))) (now (vs .entry))) ⌝ }
 {
-    let end = last_of(from, count);
     let mut p = pos;
-    let mut v = from;
-    while v < end {
-        let width = column_width(widths, names, v);
+    let mut i: usize = 0;
+    while i < vs.len() {
+        let v = wide(vs[i]);
         let a = value_in(row, v);
-        p = put_cell(width, a, text, p);
-        v += 1;
+        p = put_entry(form, widths, names, v, a, text, p);
+        i += 1;
     }
     p
+}
+
+// The line of titles.
+pub fn print_head(
+    form: Form,
+    widths: &[u8],
+    names: &[u8; 2560],
+    vs: &[u8],
+    text: &mut [u8; 65536],
+    pos: usize,
+) -> usize
+    ensures { λ r. ⌜ filled (now (text .exit)) r ≡ puts (filled (now (text .entry)) pos)
+        (headLine form (now (widths .entry)) (now (names .entry)) (now (vs .entry))) ⌝ }
+{
+    let p = put_cycle_title(form.csv, text, pos);
+    let q = put_titles(form, widths, names, vs, text, p);
+    put_word(b"\n", text, q)
+}
+
+// The line of a cycle, from its row of a trace.
+pub fn print_line(
+    form: Form,
+    widths: &[u8],
+    names: &[u8; 2560],
+    vs: &[u8],
+    n: usize,
+    row: &[u64],
+    text: &mut [u8; 65536],
+    pos: usize,
+) -> usize
+    ensures { λ r. ⌜ filled (now (text .exit)) r ≡ puts (filled (now (text .entry)) pos)
+        (line form (now (widths .entry)) (now (names .entry)) (now (vs .entry)) n (cellAt (now (row .entry)))) ⌝ }
+{
+    let p = put_cycle(form.csv, n, text, pos);
+    let q = put_entries(form, widths, names, vs, row, text, p);
+    put_word(b"\n", text, q)
+}
+
+// Is a cycle shown, from one to another and every so many?
+pub fn is_chosen(from: usize, to: usize, every: usize, n: usize) -> bool
+    ensures { λ r. ⌜ r ≡ isChosen from to every n ⌝ }
+{
+    if n < from {
+        return false;
+    }
+    if to < n {
+        return false;
+    }
+    if every == 0 {
+        return true;
+    }
+    (n - from) % every == 0
 }

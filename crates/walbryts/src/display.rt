@@ -1,7 +1,9 @@
 // What is shown of a run: a line of the table a cycle, and the waveform.
 use crate::machine::Plan;
+use crate::report;
+use options::Shape;
+use tabulate::Form;
 use trace_row::row_of;
-use writing::put_byte;
 
 // How many variables there are.
 pub fn variables(p: Plan) -> usize {
@@ -10,26 +12,129 @@ pub fn variables(p: Plan) -> usize {
 
 // ---- the table
 
-// How many columns: the registers, and the wires where they are asked for.
-fn columns(p: Plan) -> usize {
-    if p.shown {
-        p.registers as usize + p.wires as usize
-    } else {
-        p.registers as usize
+// What the table shows: its form, the variables of its columns and which part of them, and the cycles from one to another, every so many.
+pub struct View {
+    pub form: Form,
+    pub places: [u8; 80],
+    pub first: usize,
+    pub behind: usize,
+    pub from: usize,
+    pub to: usize,
+    pub every: usize,
+}
+
+// The view of all columns in the sheet's order.
+pub fn view_of(p: Plan, o: Shape) -> View {
+    let mut places = [0u8; 80];
+    columns::put_in_order(&mut places);
+    let form = Form {
+        base: o.base,
+        csv: o.csv,
+    };
+    View {
+        form,
+        places,
+        first: columns::first_of(o.inputs, p.inputs),
+        behind: columns::behind_of(o.wires, p.inputs, p.registers, p.wires),
+        from: o.from,
+        to: o.to,
+        every: o.every,
     }
 }
 
+// The view of the variables that a word names; where one is not there, says so.
+pub fn view_by(p: Plan, o: Shape, index: usize, names: &[u8; 2560]) -> Viewed {
+    let mut v = view_of(p, o);
+    let mut places = [0u8; 80];
+    let mut word = io::buffer();
+    let n = os::arg(index, &mut word);
+    let c = columns::choose(names, count_of(p), &word[..n], &mut places);
+    if c.error != 0 {
+        report::wrong_columns(index, c.column, c.error);
+    }
+    v.places = places;
+    v.first = 0;
+    v.behind = c.count;
+    Viewed {
+        good: c.error == 0,
+        view: v,
+    }
+}
+
+// A view, and whether it is right.
+pub struct Viewed {
+    pub good: bool,
+    pub view: View,
+}
+
+// How many variables there are; a sheet has 80 at most.
+fn count_of(p: Plan) -> u8 {
+    let n = variables(p);
+    if n < 256 { n as u8 } else { 255 }
+}
+
+// Is a cycle shown?
+pub fn is_chosen(v: View, cycle: usize) -> bool {
+    tabulate::is_chosen(v.from, v.to, v.every, cycle)
+}
+
+// The titles of a part of the places.
+fn put_head(
+    v: View,
+    widths: &[u8],
+    names: &[u8; 2560],
+    places: &[u8],
+    text: &mut [u8; 65536],
+) -> usize {
+    let form = v.form;
+    let first = v.first;
+    let behind = v.behind;
+    if first > behind || behind > places.len() {
+        return 0;
+    }
+    tabulate::print_head(form, widths, names, &places[first..behind], text, 0)
+}
+
 // The titles.
-pub fn put_titles(p: Plan, names: &[u8; 2560], text: &mut [u8; 65536]) -> usize {
+pub fn put_titles(p: Plan, v: View, names: &[u8; 2560], text: &mut [u8; 65536]) -> usize {
     let widths = p.widths;
-    let q = tabulate::print_cycle_title(text, 0);
-    let r = tabulate::print_titles(&widths, names, p.inputs as usize, columns(p), text, q);
-    put_byte(b'\n', text, r)
+    let places = v.places;
+    put_head(v, &widths, names, &places, text)
+}
+
+// A line of a part of the places.
+fn put_line(
+    v: View,
+    widths: &[u8],
+    names: &[u8; 2560],
+    places: &[u8],
+    cycle: usize,
+    row: &[u64],
+    text: &mut [u8; 65536],
+    pos: usize,
+) -> usize {
+    let form = v.form;
+    let first = v.first;
+    let behind = v.behind;
+    if first > behind || behind > places.len() {
+        return pos;
+    }
+    tabulate::print_line(
+        form,
+        widths,
+        names,
+        &places[first..behind],
+        cycle,
+        row,
+        text,
+        pos,
+    )
 }
 
 // A cycle's line, from its second row.
 pub fn put_row(
     p: Plan,
+    v: View,
     names: &[u8; 2560],
     cycle: usize,
     rows: &[u64; 176],
@@ -37,10 +142,9 @@ pub fn put_row(
     pos: usize,
 ) -> usize {
     let widths = p.widths;
+    let places = v.places;
     let row = row_of(rows, 1);
-    let q = tabulate::print_cycle(cycle, text, pos);
-    let r = tabulate::print_values(&widths, names, p.inputs as usize, columns(p), row, text, q);
-    put_byte(b'\n', text, r)
+    put_line(v, &widths, names, &places, cycle, row, text, pos)
 }
 
 // ---- the waveform

@@ -115,7 +115,7 @@ pub fn read_more(index: usize, fd: i32, buffer: &mut [u8], at: usize) -> Got {
 }
 
 // Reads up to the file's end or the buffer's.
-fn read_on(index: usize, fd: i32, buffer: &mut [u8]) -> Got {
+pub fn read_on(index: usize, fd: i32, buffer: &mut [u8]) -> Got {
     let mut at = 0;
     let mut turns = u64::MAX;
     while turns > 0 {

@@ -3,6 +3,7 @@
 // what they give.
 mod comparing;
 mod display;
+mod expecting;
 mod feed;
 mod files;
 mod machine;
@@ -31,10 +32,18 @@ fn help() -> Outcome {
   walbryts list FILE              its pseudo-code
   walbryts check FILE             what it holds, and whether extraction accepts it
   walbryts run FILE INPUTS        its clock cycles, a line each
-      --wires                     show the wires too
+      --wires, --inputs           show the wires too, the inputs too
+      --only A,B                  show these variables, by their names
+      --hex, --binary             numbers in hexadecimal, in binary
+      --csv                       commas in place of columns
+      --from N, --to N            show the cycles from N on, up to N
+      --every N                   show every Nth of them
+      --expect FILE               hold the table to a file, and say the first difference
+      --user N                    whose choices they are, 0 to 3
+      --allowance A,B,C,D         how many choices each user has
       --seed N                    choices drawn by a seed in place of the plain run
       --by-expressions            by the extracted expressions in place of events
-      --last                      only the last cycle
+      --last                      show only the last cycle of all
       --vcd FILE                  write a waveform
       --progress                  say how far it has come, on standard error
       --any-order                 say nothing where the result depends on the order

@@ -14,13 +14,13 @@ fn say_fault(fault: u8) {
         2 => {
             io::write_all(
                 STDERR_FILENO,
-                b": no such option: --wires, --seed N, --by-expressions, --last, --vcd FILE, --progress, --any-order, --dot, --names FILE, --verilog, --help and --version are allowed\n",
+                b": no such option: --wires, --inputs, --only A,B, --hex, --binary, --csv, --from N, --to N, --every N, --expect FILE, --seed N, --user N, --allowance A,B,C,D, --by-expressions, --last, --vcd FILE, --progress, --any-order, --dot, --names FILE, --verilog, --help and --version are allowed\n",
             );
         }
         3 => {
             io::write_all(
                 STDERR_FILENO,
-                b": no seed: a decimal number from 0 to 4294967295 is allowed\n",
+                b": no such number: a decimal number from 0, for --every from 1, to 4294967295 is allowed\n",
             );
         }
         4 => {
@@ -40,6 +40,9 @@ fn say_fault(fault: u8) {
                 STDERR_FILENO,
                 b": the table goes to standard output, a waveform to a file of its own\n",
             );
+        }
+        9 => {
+            io::write_all(STDERR_FILENO, b": does not go with --hex\n");
         }
         _ => {
             io::write_all(STDERR_FILENO, b": a word is to follow it\n");

@@ -62,6 +62,26 @@ pub fn wrong_names(index: usize, line: usize, column: usize, error: u8) {
     flush(STDERR_FILENO, &text, p);
 }
 
+// Something wrong with the names of columns.
+pub fn wrong_columns(index: usize, column: usize, error: u8) {
+    say_file(STDERR_FILENO, index);
+    if error == 1 {
+        say(
+            STDERR_FILENO,
+            b":#: no such variable: names of the module with commas between them are allowed\n",
+            column,
+            0,
+        );
+        return;
+    }
+    say(
+        STDERR_FILENO,
+        b":#: one name too many: 80 columns are allowed\n",
+        column,
+        0,
+    );
+}
+
 // Something wrong with a file as a whole, or in a cycle.
 pub fn wrong_with(index: usize, reason: &[u8], cycle: usize) {
     say_file(STDERR_FILENO, index);

@@ -1,5 +1,9 @@
 // `run`: clock cycles as a table, and as a waveform where one is asked for.
 use crate::display;
+use crate::display::View;
+use crate::display::Viewed;
+use crate::expecting;
+use crate::expecting::Expected;
 use crate::feed;
 use crate::feed::Feed;
 use crate::feed::Row;
@@ -14,6 +18,7 @@ use crate::say::say;
 use crate::showing::extracted;
 use crate::wave;
 use crate::wave::Wave;
+use allowances::Allowances;
 use clock_nodes::RowTable;
 use clock_steps::RowNumbers;
 use driving::Ending;
@@ -26,8 +31,8 @@ use plan::PlanTable;
 use sheet::Layout;
 
 // Where a run has come to: whether it goes on, how it ends, the cycles done, how much of the table waits, what the inputs have left, the
-// line that was wrong (its error, 0 for none, and its column), the waveform; a cycle that is to be shown or none, the rows of the one before,
-// and where the run stands.
+// line that was wrong (its error, 0 for none, and its column), the waveform, what the table shows and what it is held to; a cycle that is to be shown or none, the
+// rows of the one before, and where the run stands.
 struct Course {
     on: bool,
     outcome: Outcome,
@@ -37,6 +42,8 @@ struct Course {
     error: u8,
     column: usize,
     wave: Wave,
+    view: View,
+    expected: Expected,
     fresh: bool,
     before: [u64; 176],
     stand: Stand,
@@ -48,6 +55,8 @@ fn stopped(c: Course, outcome: Outcome) -> Course {
     let before = c.before;
     let stand = c.stand;
     let wave = c.wave;
+    let view = c.view;
+    let expected = c.expected;
     Course {
         on: false,
         outcome,
@@ -57,6 +66,8 @@ fn stopped(c: Course, outcome: Outcome) -> Course {
         error: c.error,
         column: c.column,
         wave,
+        view,
+        expected,
         fresh: c.fresh,
         before,
         stand,
@@ -89,7 +100,10 @@ fn end_line(p: Plan, cycle: usize) {
 // The table so far goes out; where it cannot be written, the run stops.
 fn spill_table(c: Course, text: &[u8; 65536]) -> Course {
     let good = flush(STDOUT_FILENO, text, c.pos);
+    let before = c.expected;
+    let expected = expecting::met(before, text, c.pos);
     let mut e = c;
+    e.expected = expected;
     e.pos = 0;
     if good {
         return e;
@@ -211,10 +225,11 @@ fn waved(p: Plan, c: Course, waves: &mut [u8; 65536]) -> Course {
 fn tabled(p: Plan, names: &[u8; 2560], c: Course, text: &mut [u8; 65536]) -> Course {
     let stand = c.stand;
     let rows = stand.rows;
-    let pos = if p.last {
-        c.pos
+    let view = c.view;
+    let pos = if !p.last && display::is_chosen(view, c.cycle) {
+        display::put_row(p, view, names, c.cycle, &rows, text, c.pos)
     } else {
-        display::put_row(p, names, c.cycle, &rows, text, c.pos)
+        c.pos
     };
     let cycle = stimulus::counted(c.cycle);
     if cycle % 10000 == 0 {
@@ -289,7 +304,8 @@ fn opened(
 ) -> Course {
     tell(p, 0);
     let mut e = c;
-    e.pos = display::put_titles(p, names, text);
+    let view = c.view;
+    e.pos = display::put_titles(p, view, names, text);
     if !p.waved {
         return e;
     }
@@ -324,7 +340,8 @@ fn finish(
     let before = c.before;
     let mut d = c;
     if p.last && c.cycle > 0 {
-        d.pos = display::put_row(p, names, c.cycle - 1, &before, text, c.pos);
+        let view = c.view;
+        d.pos = display::put_row(p, view, names, c.cycle - 1, &before, text, c.pos);
     }
     let outcome = c.outcome;
     let e = spill_wave(d, path, text, waves);
@@ -333,7 +350,9 @@ fn finish(
     say_end(p, c);
     let last = e.outcome;
     let w = e.wave;
-    wave::closed(w, path, options::joined(outcome, last))
+    let x = e.expected;
+    let met = expecting::ended(x);
+    options::joined(wave::closed(w, path, options::joined(outcome, last)), met)
 }
 
 // What kept the run from its end: a line that is wrong, or a cycle that did not come to rest.
@@ -372,7 +391,7 @@ fn outcome_of(rest: Rest) -> Outcome {
 }
 
 // Before the first cycle.
-fn course_of(p: Plan, fd: i32, stand: Stand, wave: Wave) -> Course {
+fn course_of(p: Plan, fd: i32, stand: Stand, wave: Wave, view: View, expected: Expected) -> Course {
     let before = stand.rows;
     Course {
         on: true,
@@ -383,6 +402,8 @@ fn course_of(p: Plan, fd: i32, stand: Stand, wave: Wave) -> Course {
         error: 0,
         column: 0,
         wave,
+        view,
+        expected,
         fresh: false,
         before,
         stand,
@@ -431,6 +452,16 @@ pub fn tabled_out(
     laid_out(sheet, &nodes, &rows, plan, lent, table, numbers)
 }
 
+// What the table shows.
+fn viewed(p: Plan, o: RunOptions, names: &[u8; 2560]) -> Viewed {
+    let shape = o.shape;
+    if shape.only != 0 {
+        return display::view_by(p, shape, shape.only, names);
+    }
+    let view = display::view_of(p, shape);
+    Viewed { good: true, view }
+}
+
 // The run, from its start state and the expressions on.
 fn run_on(
     o: RunOptions,
@@ -457,17 +488,25 @@ fn run_on(
             return Outcome::Refused;
         }
     }
+    let seen = viewed(p, o, names);
+    let expected = expecting::opened(o.expect);
+    let known = expected.outcome;
+    if !seen.good || options::status_of(known) != 0 {
+        return Outcome::Mistaken;
+    }
     let w = wave::made(target, path);
     if !w.good {
         return Outcome::Mistaken;
     }
-    let c = course_of(p, fd, stand, w);
+    let view = seen.view;
+    let c = course_of(p, fd, stand, w, view, expected);
     turns(p, &plan, &lent, &table, &numbers, names, path, c)
 }
 
 // What a run goes by.
-fn plan_of(o: RunOptions, layout: Layout, sheet: &[u8]) -> Plan {
+fn plan_of(o: RunOptions, layout: Layout, sheet: &[u8], allowances: [u32; 4]) -> Plan {
     let widths = machine::widths_of(sheet);
+    let shape = o.shape;
     Plan {
         inputs: layout.inputs,
         registers: layout.registers,
@@ -476,13 +515,26 @@ fn plan_of(o: RunOptions, layout: Layout, sheet: &[u8]) -> Plan {
         widths,
         sheet: o.sheet,
         index: o.inputs,
-        shown: o.wires,
-        last: o.last,
+        shown: shape.wires,
+        last: shape.last,
         told: o.progress,
         waved: o.vcd != 0,
-        user: 0,
-        allowances: [allowances::MOST; 4],
+        user: allowances::user_of(o.user),
+        allowances,
     }
+}
+
+// How many choices each user has, by the word that says it.
+fn allowances_at(index: usize) -> Allowances {
+    if index == 0 {
+        return Allowances {
+            good: true,
+            each: [allowances::MOST; 4],
+        };
+    }
+    let mut word = io::buffer();
+    let n = os::arg(index, &mut word);
+    allowances::allowances_of(&word[..n])
 }
 
 // The run, by the name of its waveform from a place on.
@@ -524,6 +576,15 @@ pub fn run(
     layout: Layout,
     names: &[u8; 2560],
 ) -> Outcome {
+    let a = allowances_at(o.allowance);
+    if !a.good {
+        report::wrong_with(
+            o.allowance,
+            b": no allowances: four numbers from 0 to 4294967295 with commas between them are allowed\n",
+            0,
+        );
+        return Outcome::Mistaken;
+    }
     let fd = open_input(o.inputs);
     if fd < 0 {
         return Outcome::Mistaken;
@@ -533,9 +594,10 @@ pub fn run(
     if !target.good {
         return Outcome::Mistaken;
     }
+    let each = a.each;
     run_to(
         o,
-        plan_of(o, layout, sheet),
+        plan_of(o, layout, sheet, each),
         sheet,
         names,
         fd,

@@ -1,7 +1,7 @@
 -- `options::noted` meets its contract. Assumes nothing.
-use borrow.Author.Needs.{needs}
 use borrow.Author.Tests.{lt-ltb, le-ltb}
 use Rattle.options.specs.Options.{noted}
+use borrow.Author.Needs.{needs}
 use Rattle.options.proofs.noted.Statement.{statement}
 use Rattle.options.proofs.noted.Tie as tie
 
@@ -11,7 +11,7 @@ returns c = rw (le-ltb _ _ (c .if1 .taken))
 
 returns-2 : tie.Need-returns-2
 unfolding noted
-returns-2 c = rw (lt-ltb _ _ (c .before .if1 .left))
+returns-2 c = rw (lt-ltb _ _ (c .before .before .if1 .left))
 
 pub noted-spec : {M : Type 1} → statement M
 noted-spec =

@@ -6,20 +6,17 @@ use Rattle.tabulate.proofs.column_width.Tie as tie
 
 returns : tie.Need-returns
 unfolding columnWidth
-returns c =
-    rw (
-      c .longer .ensures,
-      c .before .before .before .before .name-length .ensures,
-      c .before .digit-count .ensures,
-      c .before .before .largest .ensures,
-      c .before .before .before .byte-at .ensures,
-    )
+returns c = rw (
+  c .longer .ensures,
+  c .before .before .before .name-length .ensures,
+  c .before .places .ensures,
+  c .before .before .byte-at .ensures,
+)
 
 pub column-width-spec : {M : Type 1} → statement M
 column-width-spec =
     tie.close
     (tie.spec
-    (λ c κs. search needs)
     (λ c κs. search needs)
     (λ c κs. search needs)
     (λ c κs. search needs)

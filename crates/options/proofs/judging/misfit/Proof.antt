@@ -13,7 +13,7 @@ abbrev Inv-loop : tie.InvT-loop
 Inv-loop command at k₀ k = misfit command k (drop k at) ≡ misfit command 0 at
 
 abbrev μ-loop : tie.MeasureT-loop
-μ-loop command at k₀ k = 32 - k
+μ-loop command at k₀ k = 40 - k
 
 loop-holds : tie.Need-loop-holds Inv-loop μ-loop
 loop-holds c = refl
@@ -23,7 +23,7 @@ returns c =
     let at-test = c .before .before in
     let at-loop = at-test .before in
     let start = at-loop .before in
-    let g : length (start .args .t2) ≡ 32 = start .good .1 .0 .1 .0 .1 in
+    let g : length (start .args .t2) ≡ 40 = start .good .1 .0 .1 .0 .1 in
     sym (misfit-found (start .args .command) (start .args .t2) (at-loop .loop .k) (omega (arith, at-test .loop-test .taken))
     (sym (c .before .is-misfit .ensures) ∙ c .if1 .taken)) ∙ at-loop .loop .inv
 
@@ -32,7 +32,7 @@ loop-again c =
     let at-test = c .before .before in
     let at-loop = at-test .before in
     let start = at-loop .before in
-    let g : length (start .args .t2) ≡ 32 = start .good .1 .0 .1 .0 .1 in
+    let g : length (start .args .t2) ≡ 40 = start .good .1 .0 .1 .0 .1 in
     sym (misfit-more (start .args .command) (start .args .t2) (at-loop .loop .k) (omega (arith, at-test .loop-test .taken))
     (sym (c .before .is-misfit .ensures) ∙ c .if1 .left)) ∙ at-loop .loop .inv
 
@@ -40,7 +40,7 @@ returns-2 : tie.Need-returns-2 Inv-loop μ-loop
 returns-2 c =
     let at-loop = c .before in
     let start = at-loop .before in
-    let g : length (start .args .t2) ≡ 32 = start .good .1 .0 .1 .0 .1 in
+    let g : length (start .args .t2) ≡ 40 = start .good .1 .0 .1 .0 .1 in
     sym (misfit-none (start .args .command) (start .args .t2) (at-loop .loop .k) (omega (arith, c .loop-test .left))) ∙ at-loop .loop .inv
 
 pub misfit-spec : {M : Type 1} → statement M

@@ -1,7 +1,7 @@
 -- `options::judging::way_of` meets its contract. Assumes nothing.
-use borrow.Author.Needs.{needs}
 use mathlib.Core.Path.{sym, _∙_}
 use Rattle.options.specs.Requests.{wayOf}
+use borrow.Author.Needs.{needs}
 use Rattle.options.proofs.judging.way_of.Statement.{statement}
 use Rattle.options.proofs.judging.way_of.Tie as tie
 
@@ -11,15 +11,18 @@ returns c = rw (sym (c .before .is-given .ensures) ∙ c .if1 .taken)
 
 returns-2 : tie.Need-returns-2
 unfolding wayOf
-returns-2 c =
-    let at-first = c .before .before in
-    rw (sym (at-first .before .is-given .ensures) ∙ at-first .if1 .left, sym (c .before .is-given2 .ensures) ∙ c .if2 .taken)
+returns-2 c = rw (
+  sym (c .before .before .before .before .is-given .ensures) ∙ c .before .before .before .if1 .left,
+  sym (c .before .before .is-given2 .ensures) ∙ c .before .if2 .taken,
+  c .number-at .ensures,
+)
 
 returns-3 : tie.Need-returns-3
 unfolding wayOf
-returns-3 c =
-    let at-first = c .before .before in
-    rw (sym (at-first .before .is-given .ensures) ∙ at-first .if1 .left, sym (c .before .is-given2 .ensures) ∙ c .if2 .left)
+returns-3 c = rw (
+  sym (c .before .before .before .is-given .ensures) ∙ c .before .before .if1 .left,
+  sym (c .before .is-given2 .ensures) ∙ c .if2 .left,
+)
 
 pub way-of-spec : {M : Type 1} → statement M
 way-of-spec =
@@ -27,6 +30,7 @@ way-of-spec =
     (tie.spec
     (λ c κs. search needs)
     returns
+    (λ c κs. search needs)
     (λ c κs. search needs)
     returns-2
     returns-3)

@@ -1,104 +1,13 @@
--- `options::tables::lone_option` meets its contract, word by word. Assumes nothing.
-use borrow.Author.Needs.{needs}
-use mathlib.Core.Path.{sym, _∙_}
+-- `options::tables::lone_option` meets its contract. Assumes nothing.
 use Rattle.writing.specs.Ascii.{ascii}
-use Rattle.options.specs.Tables.{loneOption}
+use Rattle.options.specs.Tables.{among, loneOption}
+use borrow.Author.Needs.{needs}
 use Rattle.options.proofs.tables.lone_option.Statement.{statement}
 use Rattle.options.proofs.tables.lone_option.Tie as tie
 
 returns : tie.Need-returns
-unfolding ascii loneOption
-returns c =
-    let at1 = c in
-    rw (sym (at1 .before .is-word .ensures) ∙ at1 .if1 .taken)
-
-returns-2 : tie.Need-returns-2
-unfolding ascii loneOption
-returns-2 c =
-    let at2 = c in
-    let at1 = at2 .before .before .before in
-    rw (
-      sym (at1 .before .is-word .ensures) ∙ at1 .if1 .left,
-      sym (at2 .before .is-word2 .ensures) ∙ at2 .if2 .taken,
-    )
-
-returns-3 : tie.Need-returns-3
-unfolding ascii loneOption
-returns-3 c =
-    let at3 = c in
-    let at2 = at3 .before .before .before in
-    let at1 = at2 .before .before .before in
-    rw (
-      sym (at1 .before .is-word .ensures) ∙ at1 .if1 .left,
-      sym (at2 .before .is-word2 .ensures) ∙ at2 .if2 .left,
-      sym (at3 .before .is-word3 .ensures) ∙ at3 .if3 .taken,
-    )
-
-returns-4 : tie.Need-returns-4
-unfolding ascii loneOption
-returns-4 c =
-    let at4 = c in
-    let at3 = at4 .before .before .before in
-    let at2 = at3 .before .before .before in
-    let at1 = at2 .before .before .before in
-    rw (
-      sym (at1 .before .is-word .ensures) ∙ at1 .if1 .left,
-      sym (at2 .before .is-word2 .ensures) ∙ at2 .if2 .left,
-      sym (at3 .before .is-word3 .ensures) ∙ at3 .if3 .left,
-      sym (at4 .before .is-word4 .ensures) ∙ at4 .if4 .taken,
-    )
-
-returns-5 : tie.Need-returns-5
-unfolding ascii loneOption
-returns-5 c =
-    let at5 = c in
-    let at4 = at5 .before .before .before in
-    let at3 = at4 .before .before .before in
-    let at2 = at3 .before .before .before in
-    let at1 = at2 .before .before .before in
-    rw (
-      sym (at1 .before .is-word .ensures) ∙ at1 .if1 .left,
-      sym (at2 .before .is-word2 .ensures) ∙ at2 .if2 .left,
-      sym (at3 .before .is-word3 .ensures) ∙ at3 .if3 .left,
-      sym (at4 .before .is-word4 .ensures) ∙ at4 .if4 .left,
-      sym (at5 .before .is-word5 .ensures) ∙ at5 .if5 .taken,
-    )
-
-returns-6 : tie.Need-returns-6
-unfolding ascii loneOption
-returns-6 c =
-    let at6 = c in
-    let at5 = at6 .before .before .before in
-    let at4 = at5 .before .before .before in
-    let at3 = at4 .before .before .before in
-    let at2 = at3 .before .before .before in
-    let at1 = at2 .before .before .before in
-    rw (
-      sym (at1 .before .is-word .ensures) ∙ at1 .if1 .left,
-      sym (at2 .before .is-word2 .ensures) ∙ at2 .if2 .left,
-      sym (at3 .before .is-word3 .ensures) ∙ at3 .if3 .left,
-      sym (at4 .before .is-word4 .ensures) ∙ at4 .if4 .left,
-      sym (at5 .before .is-word5 .ensures) ∙ at5 .if5 .left,
-      sym (at6 .before .is-word6 .ensures) ∙ at6 .if6 .taken,
-    )
-
-returns-7 : tie.Need-returns-7
-unfolding ascii loneOption
-returns-7 c =
-    let at6 = c in
-    let at5 = at6 .before .before .before in
-    let at4 = at5 .before .before .before in
-    let at3 = at4 .before .before .before in
-    let at2 = at3 .before .before .before in
-    let at1 = at2 .before .before .before in
-    rw (
-      sym (at1 .before .is-word .ensures) ∙ at1 .if1 .left,
-      sym (at2 .before .is-word2 .ensures) ∙ at2 .if2 .left,
-      sym (at3 .before .is-word3 .ensures) ∙ at3 .if3 .left,
-      sym (at4 .before .is-word4 .ensures) ∙ at4 .if4 .left,
-      sym (at5 .before .is-word5 .ensures) ∙ at5 .if5 .left,
-      sym (at6 .before .is-word6 .ensures) ∙ at6 .if6 .left,
-    )
+unfolding among ascii loneOption
+returns c = c .among .ensures
 
 pub lone-option-spec : {M : Type 1} → statement M
 lone-option-spec =
@@ -106,20 +15,4 @@ lone-option-spec =
     (tie.spec
     (λ c. search needs)
     (λ c κs. search needs)
-    returns
-    (λ c. search needs)
-    (λ c κs. search needs)
-    returns-2
-    (λ c. search needs)
-    (λ c κs. search needs)
-    returns-3
-    (λ c. search needs)
-    (λ c κs. search needs)
-    returns-4
-    (λ c. search needs)
-    (λ c κs. search needs)
-    returns-5
-    (λ c. search needs)
-    (λ c κs. search needs)
-    returns-6
-    returns-7)
+    returns)

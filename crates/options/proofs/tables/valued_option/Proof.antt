@@ -1,50 +1,13 @@
--- `options::tables::valued_option` meets its contract, word by word. Assumes nothing.
-use borrow.Author.Needs.{needs}
-use mathlib.Core.Path.{sym, _∙_}
+-- `options::tables::valued_option` meets its contract. Assumes nothing.
 use Rattle.writing.specs.Ascii.{ascii}
-use Rattle.options.specs.Tables.{valuedOption}
+use Rattle.options.specs.Tables.{among, valuedOption}
+use borrow.Author.Needs.{needs}
 use Rattle.options.proofs.tables.valued_option.Statement.{statement}
 use Rattle.options.proofs.tables.valued_option.Tie as tie
 
 returns : tie.Need-returns
-unfolding ascii valuedOption
-returns c =
-    let at1 = c in
-    rw (sym (at1 .before .is-word .ensures) ∙ at1 .if1 .taken)
-
-returns-2 : tie.Need-returns-2
-unfolding ascii valuedOption
-returns-2 c =
-    let at2 = c in
-    let at1 = at2 .before .before .before in
-    rw (
-      sym (at1 .before .is-word .ensures) ∙ at1 .if1 .left,
-      sym (at2 .before .is-word2 .ensures) ∙ at2 .if2 .taken,
-    )
-
-returns-3 : tie.Need-returns-3
-unfolding ascii valuedOption
-returns-3 c =
-    let at3 = c in
-    let at2 = at3 .before .before .before in
-    let at1 = at2 .before .before .before in
-    rw (
-      sym (at1 .before .is-word .ensures) ∙ at1 .if1 .left,
-      sym (at2 .before .is-word2 .ensures) ∙ at2 .if2 .left,
-      sym (at3 .before .is-word3 .ensures) ∙ at3 .if3 .taken,
-    )
-
-returns-4 : tie.Need-returns-4
-unfolding ascii valuedOption
-returns-4 c =
-    let at3 = c in
-    let at2 = at3 .before .before .before in
-    let at1 = at2 .before .before .before in
-    rw (
-      sym (at1 .before .is-word .ensures) ∙ at1 .if1 .left,
-      sym (at2 .before .is-word2 .ensures) ∙ at2 .if2 .left,
-      sym (at3 .before .is-word3 .ensures) ∙ at3 .if3 .left,
-    )
+unfolding among ascii valuedOption
+returns c = c .among .ensures
 
 pub valued-option-spec : {M : Type 1} → statement M
 valued-option-spec =
@@ -52,11 +15,4 @@ valued-option-spec =
     (tie.spec
     (λ c. search needs)
     (λ c κs. search needs)
-    returns
-    (λ c. search needs)
-    (λ c κs. search needs)
-    returns-2
-    (λ c. search needs)
-    (λ c κs. search needs)
-    returns-3
-    returns-4)
+    returns)
