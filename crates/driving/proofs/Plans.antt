@@ -66,8 +66,8 @@ module _ (q : Plan) (r : Rest) (u : ℕ) (ns : List ℕ) (xs : List Bool) (w : L
   traced-none h = (rw (lt-ltb (length ns) 16 h) refl, rw (lt-ltb (length ns) 16 h) refl)
 
   pub traced-run : 16 ≤ length ns → (t : Bool) → t ≡ isDrawn (r .way) → (d : Driven) (v : List ℕ)
-      → d ≡ driveAt q t (r .seed) (r .state) u ns xs w → v ≡ drivenAt q t (r .seed) (r .state) u ns xs w → (e : Rest) → e ≡ restOf u (r .way) d
-      → Answers (traced (d .phases) e) v
+      → d ≡ driveAt q t (r .seed) (r .state) u ns xs w → v ≡ drivenAt q t (r .seed) (r .state) u ns xs w → (e : Rest)
+      → e ≡ restOf u (r .way) d → Answers (traced (d .phases) e) v
   unfolding tracedAt rowsAt
   traced-run h t c d v f g e k =
       let f' = f ∙ ap (λ (b : Bool). driveAt q b (r .seed) (r .state) u ns xs w) c in

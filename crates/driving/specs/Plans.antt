@@ -1,5 +1,6 @@
 -- A module driven through clock cycles on its plan by one user, by the way of the run: from the start to rest, and rows of inputs, two
--- instants each, each run to rest (`prepared_cycles`). Defined for plans of any contents; specs/Claims says what they are on an accepted sheet.
+-- instants each, each run to rest (`prepared_cycles`). Defined for plans of any contents; specs/Claims says what they are on an accepted
+-- sheet.
 use mathlib.Core.Bool.{Bool, true, false}
 use mathlib.Core.List.{List}
 use Prim.Native.Nat.{ℕ, _+_}

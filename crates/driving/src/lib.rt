@@ -24,7 +24,8 @@ const DRAWN_MOST: usize = 4000000;
 // The number of a choice whose user's allowance is used up.
 const USED_UP: u8 = 47;
 
-// A state, and how it is run: by which way, the number that refused a call or stopped a run, whether it came to rest, and the generator's next seed.
+// A state, and how it is run: by which way, the number that refused a call or stopped a run, whether it came to rest, and the generator's
+// next seed.
 pub struct Rest {
     pub way: Way,
     pub number: u8,
