@@ -145,6 +145,19 @@ module _ {A : Type 0} (s : List ℕ) (st : State) (u : ℕ) (bad : ℕ → A) (g
       by (called k q) true h = run-called k (ltb-true u users h) (q ∙ (rw h refl))
       by (called k q) false h = run-refused (a-user k (ltb-false u users h)) (q ∙ (rw h refl))
 
+-- "for either run's one user, after 31": a sheet or a state that is refused is refused whoever the user is.
+pub runList-refused : (s : List ℕ) (st : State) (u : ℕ) (cs : List ℕ) (n : ℕ) → Refuses s st n →
+    runList s st u cs ≡ record { accepted = 0; number = n; state = st }
+unfolding runList judged
+runList-refused s st u cs n (a-sheet e) = rw e
+runList-refused s st u cs n (a-state e f) = rw (e, f)
+
+pub runPlain-refused : (s : List ℕ) (st : State) (u k n : ℕ) → Refuses s st n →
+    runPlain s st u k ≡ record { accepted = 0; verdict = Refused n; state = st }
+unfolding runPlain judged
+runPlain-refused s st u k n (a-sheet e) = rw e
+runPlain-refused s st u k n (a-state e f) = rw (e, f)
+
 list-run : (s : List ℕ) (st : State) (u : ℕ) (cs : List ℕ) → Shaped st → ListRun s st u cs (runList s st u cs)
 unfolding runList
 list-run s st u cs shaped = by (judged-run s st u bad (λ m. runIn m u cs st))

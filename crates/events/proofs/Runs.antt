@@ -1,6 +1,7 @@
 -- Laws of the two runs (document 01: "A run over a list of choices ends at the first refused one and returns the number
 -- accepted. The plain run .. takes the lowest enabled item, else the commit. It says quiet exactly when the state reached is
--- quiet, spent exactly when N choices ran and it isn't, and otherwise gives 36, met before the Nth", 47 "where 36 stood"), each of one user:
+-- quiet, spent exactly when N choices ran and it isn't, and otherwise gives 36, met before the Nth", 47 "where 36 stood"),
+-- each of one user:
 --   runIn-append, runIn-stopped   a run over two lists, one after the other;
 --   chain-runIn, chain-runBy      the accepted choices, each a step from the state that the one before it left;
 --   runIn-choicesBy               a run that picks its choices is the run over the list of those that it took;

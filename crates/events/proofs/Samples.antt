@@ -128,6 +128,32 @@ pub posedge-fires :
 unfolding fits same level moves fires valueAt numberOf isUnknown size eval reads translate threadCode withPlanes withSlots withPlaces withMarks withCounters valueOf withValue pendingOf withPending withoutPending placeOf withPlace isDue withDue variables codeOf instrAt current wireExpr wireVariable anyBelow allBelow isWait threadEnabled items enabled anyEnabled isSome anyPending quiet changed termsFire waitFires fireBelow touched markBelow react runInstr runThread runWire storeOne storePending commit storeInputs feed dueBelow started widthOf countOf allowanceOf answer spendTime spend byUser countedBy counted timed refusal performed chooseIn onward runIn inputOf inputsFit instantRefusal instantIn
 posedge-fires = (refl, refl, refl, refl, refl, refl)
 
+-- ---- the numbers of a choice in their order: 22, 46, 33 to 35, 47. User 1's allowance is 0; thread 1 of `fives` is at its wait.
+
+pub no-item-first : refusal fives (begun 1) 4 200 ≡ 22
+unfolding same level moves fires valueAt numberOf isUnknown size eval reads translate threadCode valueOf pendingOf placeOf isDue variables codeOf instrAt current wireExpr wireVariable anyBelow isWait threadEnabled items enabled anyEnabled isSome anyPending dueBelow started countOf allowanceOf spend byUser refusal
+no-item-first = refl
+
+pub no-user-next :
+    (refusal fives (begun 1) 4 0 ≡ 46) × (refusal fives (begun 1) 4 1 ≡ 46) × (refusal fives (begun 1) 4 255 ≡ 46)
+unfolding same level moves fires valueAt numberOf isUnknown size eval reads translate threadCode valueOf pendingOf placeOf isDue variables codeOf instrAt current wireExpr wireVariable anyBelow isWait threadEnabled items enabled anyEnabled isSome anyPending dueBelow started countOf allowanceOf spend byUser refusal
+no-user-next = (refl, refl, refl)
+
+pub not-enabled-next : (refusal fives (begun 1) 1 1 ≡ 33) × (refusal fives (begun 1) 1 255 ≡ 34)
+unfolding same level moves fires valueAt numberOf isUnknown size eval reads translate threadCode valueOf pendingOf placeOf isDue variables codeOf instrAt current wireExpr wireVariable anyBelow isWait threadEnabled items enabled anyEnabled isSome anyPending dueBelow started countOf allowanceOf spend byUser refusal
+not-enabled-next = (refl, refl)
+
+pub used-up-last :
+    (refusal fives (begun 1) 1 0 ≡ 47) × (refusal fives (begun 1) 1 2 ≡ 47) × (refusal fives (begun 1) 0 0 ≡ 0)
+unfolding same level moves fires valueAt numberOf isUnknown size eval reads translate threadCode valueOf pendingOf placeOf isDue variables codeOf instrAt current wireExpr wireVariable anyBelow isWait threadEnabled items enabled anyEnabled isSome anyPending dueBelow started countOf allowanceOf spend byUser refusal
+used-up-last = (refl, refl, refl)
+
+-- "is counted for that user alone"
+pub counted-alone :
+    (countOf (counted 2 (begun 0)) 2 ≡ 1) × (countOf (counted 2 (begun 0)) 0 ≡ 0) × (allowanceOf (counted 2 (begun 0)) 0 ≡ 9)
+unfolding dueBelow started withCounters countOf allowanceOf countedBy counted
+counted-alone = (refl, refl, refl)
+
 -- ---- 25: rows that aren't filled, flags that are too few or too many
 
 pub whole-rows :

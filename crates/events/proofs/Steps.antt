@@ -317,7 +317,8 @@ module _ (m : Module Expr) (w : Sound m) (old : State) (s : Shaped old) (who : �
       rw (performed-commit m old who w)
       (record {
         values = λ r b. value (m .scope .inputs + r)
-            ∙ value-storePending m n c shaped-c (omega (arith, w .inputs-most, w .registers-most)) r b ∙ (rw (pending-counted who old r, value-counted who old (m .scope .inputs + r)) refl);
+            ∙ value-storePending m n c shaped-c (omega (arith, w .inputs-most, w .registers-most)) r b
+            ∙ (rw (pending-counted who old r, value-counted who old (m .scope .inputs + r)) refl);
         others = λ v d. value v ∙ value-storePending-other m n c v (λ r b e. d (omega arith, omega arith)) ∙ value-counted who old v;
         emptied = λ r b. pending-react m (valueOf old) u r ∙ pending-storePending m n c shaped-c (w .registers-most) r b;
         rest = λ r d. pending-react m (valueOf old) u r ∙ pending-storePending-above m n c r (above r d) ∙ pending-counted who old r;
@@ -705,7 +706,8 @@ module _ (m : Module Expr) (w : Sound m) (old new : State) where
   -- ---- (d): an instant is the one that its inputs make
 
   pub refusal-instant :
-      (a : Inputs) → inputsFit m a ≡ true → Instant m old new (inputOf a) → Allowed (instantRefusal m old a) 36 (old .counters .time ≢ full)
+      (a : Inputs) → inputsFit m a ≡ true → Instant m old new (inputOf a) →
+      Allowed (instantRefusal m old a) 36 (old .counters .time ≢ full)
   refusal-instant a f h = allowed-spendTime (instantRefusal m old a) old (refusal-quiet m old a f (h .rest))
 
   pub alike-feed : Shaped old → (a : ℕ → Value) → Instant m old new a → Alike m (feed m a (timed old)) new

@@ -120,7 +120,9 @@ pub record ShutOut (R : Reading) : Type 0 where
   pub rests : quiet m (final s calls (start s allowances .state)) ≡ true
   pub variable : ℕ
   pub within : variable < variables m
-  pub differs : valueOf (final s calls (start s allowances .state)) variable ≢ R m T (instants s calls (start s allowances .state)) .values variable
+  pub differs :
+      valueOf (final s calls (start s allowances .state)) variable
+      ≢ R m T (instants s calls (start s allowances .state)) .values variable
 
 pub record Misreadings : Type 0 where
   pub branch : ShutOut conditionalForBranch

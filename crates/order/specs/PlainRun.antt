@@ -13,8 +13,8 @@ use Rattle.events.specs.Calls.{stateFits, runBy, plainChoice, runPlain}
 use Rattle.nextstate.specs.Extraction.{extract}
 use Rattle.settling.specs.Plain.{StoresOnce}
 
--- The plain run of at most n choices of one user, from any state that fits: between two stores of one wire some choice changes an input or a
--- register. A state is Shaped where its arrays have their lengths, which every state passed by value has.
+-- The plain run of at most n choices of one user, from any state that fits: between two stores of one wire some choice changes an
+-- input or a register. A state is Shaped where its arrays have their lengths, which every state passed by value has.
 pub record PlainOnce (s : List ℕ) (u : ℕ) (st : State) (n : ℕ) : Type 0 where
   pub m : Module Expr
   pub reads : read s ≡ ok m

@@ -1,5 +1,5 @@
 -- Four users on one simulator (document 02, [7]): "From the start, each call handed the state the last gave back, the four counts together
--- equal the choices accepted", and each user's count that user's. For every sheet, extractable or not. proofs/List proves it.
+-- equal the choices accepted", and each user's count that user's. For every sheet, extractable or not. proofs/Users proves it.
 use Prim.Native.Nat.{ℕ, _+_, _≤_, _<_}
 use mathlib.Core.Path.{_≡_}
 use mathlib.Core.List.{List}
