@@ -19,7 +19,8 @@ use Rattle.events.specs.declared.Verdict.the-variants.{Refused}
 use Rattle.events.specs.declared.Rested.{Rested}
 use Rattle.events.specs.Verdict.{numberOfVerdict}
 use Rattle.events.specs.Cycle.{items, quiet, feed}
-use Rattle.events.specs.Calls.{stateFits, inputOf, inputsFit, spendTime, answer, timed, byUser, refusal, chooseIn, runIn, runBy, plainChoice}
+use Rattle.events.specs.Calls.{stateFits, inputOf, inputsFit, spendTime, answer, timed, byUser, refusal}
+use Rattle.events.specs.Calls.{chooseIn, runIn, runBy, plainChoice}
 use Rattle.events.specs.Calls.{instantRefusal, instantIn}
 use Rattle.events.proofs.Choices.{chooseIn-refused, counters-feed}
 use Rattle.events.proofs.Fits.{Fits, fits-state}
@@ -102,7 +103,8 @@ module _ {m : Module Expr} {q : Plan} (w : PlanOf m q) where
           by true f true l =
               let v = ltb-true u users l in
               let t = take-shows w st (kept f) u v (roomIn (st .counters) u) (room v f) (unpacked q st) (shown f) c in
-              let p = packed-shows (t .left) (raised (accepted (takeChoice q (roomIn (st .counters) u) c (unpacked q st) .number)) u (st .counters))
+              let p = packed-shows (t .left)
+              (raised (accepted (takeChoice q (roomIn (st .counters) u) c (unpacked q st) .number)) u (st .counters))
               (counters-choice u v m (w .sound) st h (fit f) c
               ∙ ap (λ (n : ℕ). raised (accepted n) u (st .counters)) (sym (t .number))) in
               λ i. record { number = t .number i; state = p i }
@@ -119,7 +121,8 @@ module _ {m : Module Expr} {q : Plan} (w : PlanOf m q) where
           by : (t : Bool) → stateFits m st ≡ t → (s : Bool) → ltb u users ≡ s →
               let x = runList q cs (roomIn (st .counters) u) (unpacked q st) in
               pick {A = Ran} t
-              (pick s (record { accepted = x .accepted; number = x .number; state = packed (x .left) (raised (x .accepted) u (st .counters)) })
+              (pick s
+              (record { accepted = x .accepted; number = x .number; state = packed (x .left) (raised (x .accepted) u (st .counters)) })
               (record { accepted = 0; number = 46; state = st }))
               (record { accepted = 0; number = 31; state = st })
               ≡ pick t (pick s (runIn m u cs st) (record { accepted = 0; number = 46; state = st }))

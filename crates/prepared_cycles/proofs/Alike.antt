@@ -36,8 +36,8 @@ use Rattle.prepared_cycles.specs.Phases.{Moment, moment, roomAt, stateAt
 use Rattle.prepared_cycles.specs.Traces.{written}
 use Rattle.prepared_cycles.specs.Drives.{Going, going, Drive, driven, Calls, onSheet, onPlan, drawnMost, isQuiet, nextSeed}
 use Rattle.prepared_cycles.specs.Drives.{drawnChoice, draw, drawn, plainly, toRest, drive, drives, rows, told, arrived}
-use Rattle.prepared_cycles.proofs.Courses.{Stood, packed-stood, room-stood, instant-fits, plain-fits, fed, fed-shaped, fed-fits, fed-shows}
-use Rattle.prepared_cycles.proofs.Courses.{fed-counters, refusal-stood}
+use Rattle.prepared_cycles.proofs.Courses.{Stood, packed-stood, room-stood, instant-fits, plain-fits}
+use Rattle.prepared_cycles.proofs.Courses.{fed, fed-shaped, fed-fits, fed-shows, fed-counters, refusal-stood}
 
 -- ---- the same goes on a state and on how it lies
 
@@ -84,7 +84,8 @@ module _ (s : List ℕ) {m : Module Expr} {q : Plan} (w : PlanOf m q) (inputs-fi
         takes : Takes m (chooseIn m st u c) t
         takes = take-shows w st (fits-kept (z .shaped) (z .fit)) u user (roomAt o) (room-stood z user) (o .left) (z .shows) c
 
-        choice-stood : Stood m u (chooseIn m st u c .state) (moment (t .left) (raised (accepted (t .number)) (o .user) (o .counters)) (o .user))
+        choice-stood : Stood m u (chooseIn m st u c .state)
+            (moment (t .left) (raised (accepted (t .number)) (o .user) (o .counters)) (o .user))
         choice-stood =
             record {
               shaped = shaped-chooseIn m st u c (z .shaped);
@@ -147,7 +148,8 @@ module _ (s : List ℕ) {m : Module Expr} {q : Plan} (w : PlanOf m q) (inputs-fi
             (sym (takes st o z c .number))
             (like 0 (eqb (chooseIn m st u c .number) 35) (nextSeed seed) (choice-stood st o z c)))
 
-    over : {g g' : Going State} {h h' : Going Moment} → Like m u g h → Like m u g' h' → Like m u (pick (g .rested) g g') (pick (h .rested) h h')
+    over : {g g' : Going State} {h h' : Going Moment} → Like m u g h → Like m u g' h'
+        → Like m u (pick (g .rested) g g') (pick (h .rested) h h')
     over (like n true seed z) y = like n true seed z
     over (like n false seed z) y = y
 

@@ -61,7 +61,8 @@ module _ (s : List ℕ) {m : Module Expr} {q : Plan} (k : PlanOf m q) (inputs-fi
               (cycled 0 46 false st))
               (cycled 0 31 false st)
               ≡ pick t
-              (pick v (pick g (phases s u (rowInputs (m .scope .inputs) ns xs) rounds 0 st) (cycled 0 25 false st)) (cycled 0 46 false st))
+              (pick v (pick g (phases s u (rowInputs (m .scope .inputs) ns xs) rounds 0 st) (cycled 0 25 false st))
+              (cycled 0 46 false st))
               (cycled 0 31 false st)
           by false f v l g = refl
           by true f false l g = refl

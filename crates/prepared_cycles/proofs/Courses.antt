@@ -20,7 +20,8 @@ use Rattle.events.specs.declared.Rested.{Rested}
 use Rattle.events.specs.Verdict.{numberOfVerdict}
 use Rattle.events.specs.Cycle.{quiet}
 use Rattle.events.specs.Cycle as cycle
-use Rattle.events.specs.Calls.{judged, spendTime, timed, widthOf, inputOf, inputsFit, instantRefusal, instantIn, instant, plainChoice, runBy}
+use Rattle.events.specs.Calls.{judged, spendTime, timed, widthOf, inputOf, inputsFit, instantRefusal, instantIn, instant}
+use Rattle.events.specs.Calls.{plainChoice, runBy}
 use Rattle.events.specs.Calls as calls
 use Rattle.events.proofs.Choices.{accepted-instant, instantIn-accepted, instantIn-refused, counters-feed, count-feed, allowance-feed}
 use Rattle.events.proofs.Choices.{shaped-timed, shaped-feed}

@@ -62,7 +62,8 @@ module _ (s : List ℕ) {m : Module Expr} {q : Plan} (k : PlanOf m q) (inputs-fi
               plain-fits s k inputs-fit e u user (fed s k inputs-fit e u user st a) (fed-fits s k inputs-fit e u user st o z a x) 65535,
               y,
             )
-            (ap (traceFromAt q inputs n (p + 1) (after q a o)) (ap (λ (x : State). written p x w) (packed-stood (after-stood s k inputs-fit e u user st o z a x))) ∙ h)
+            (ap (traceFromAt q inputs n (p + 1) (after q a o))
+            (ap (λ (x : State). written p x w) (packed-stood (after-stood s k inputs-fit e u user st o z a x))) ∙ h)
 
         halted : (number-after st p ≡ 0 → ⊥) → Same (suc n) p st o w
         unfolding traceFromAt traceFrom

@@ -6,7 +6,9 @@ use Rattle.prepared.proofs.room_in.Statement.{statement}
 use Rattle.prepared.proofs.room_in.Tie as tie
 
 returns : tie.Need-returns
-returns c = room-none (c .before .args .c) (c .before .args .user) (search needs) (search needs) (omega arith)
+returns c =
+    let at-start = c .before in
+    room-none (at-start .args .c) (at-start .args .user) (search needs) (search needs) (omega arith)
 
 pub room-in-spec : {M : Type 1} → statement M
 room-in-spec =

@@ -6,13 +6,22 @@ use Rattle.prepared.proofs.userless.Statement.{statement}
 use Rattle.prepared.proofs.userless.Tie as tie
 
 returns : tie.Need-returns
-returns c = userless-item _ _ (omega (arith, c .before .wires .ensures, c .before .before .threads .ensures))
+returns c =
+    let at-wires = c .before in
+    let at-threads = at-wires .before in
+    userless-item _ _ (omega (arith, at-wires .wires .ensures, at-threads .threads .ensures))
 
 returns-2 : tie.Need-returns-2
-returns-2 c = userless-commit _ _ (omega (arith, c .before .before .wires .ensures, c .before .before .before .threads .ensures)) (c .if2 .taken)
+returns-2 c =
+    let at-wires = c .before .before in
+    let at-threads = at-wires .before in
+    userless-commit _ _ (omega (arith, at-wires .wires .ensures, at-threads .threads .ensures)) (c .if2 .taken)
 
 returns-3 : tie.Need-returns-3
-returns-3 c = userless-none _ _ (omega (arith, c .before .before .wires .ensures, c .before .before .before .threads .ensures)) (c .if2 .left)
+returns-3 c =
+    let at-wires = c .before .before in
+    let at-threads = at-wires .before in
+    userless-none _ _ (omega (arith, at-wires .wires .ensures, at-threads .threads .ensures)) (c .if2 .left)
 
 pub userless-spec : {M : Type 1} → statement M
 userless-spec =

@@ -10,26 +10,46 @@ use Rattle.prepared_cycles.proofs.run_cycles.Statement.{statement}
 use Rattle.prepared_cycles.proofs.run_cycles.Tie as tie
 
 returns : tie.Need-returns
-returns c = c .refused-with .ensures ∙ cycles-unfit _ _ _ _ _ (sym (c .before .before .state-fits .ensures) ∙ not-true _ (c .before .if1 .taken))
+returns c =
+    let at-if1 = c .before in
+    let at-state-fits = at-if1 .before in
+    c .refused-with .ensures ∙ cycles-unfit _ _ _ _ _ (sym (at-state-fits .state-fits .ensures) ∙ not-true _ (at-if1 .if1 .taken))
 
 returns-2 : tie.Need-returns-2
 returns-2 c =
+    let at-if2 = c .before in
+    let at-if1 = at-if2 .before in
+    let at-state-fits = at-if1 .before in
     c .refused-with2 .ensures
-    ∙ cycles-userless _ _ _ _ _ (sym (c .before .before .before .state-fits .ensures) ∙ not-false _ (c .before .before .if1 .left)) (omega (arith, c .before .if2 .taken))
+    ∙ cycles-userless _ _ _ _ _ (sym (at-state-fits .state-fits .ensures) ∙ not-false _ (at-if1 .if1 .left))
+    (omega (arith, at-if2 .if2 .taken))
 
 returns-3 : tie.Need-returns-3
 returns-3 c =
+    let at-if3 = c .before in
+    let at-rows-whole = at-if3 .before in
+    let at-if2 = at-rows-whole .before in
+    let at-if1 = at-if2 .before in
+    let at-state-fits = at-if1 .before in
     c .refused-with3 .ensures
-    ∙ cycles-ragged _ _ _ _ _ (sym (c .before .before .before .before .before .state-fits .ensures) ∙ not-false _ (c .before .before .before .before .if1 .left)) (omega (arith, c .before .before .before .if2 .left))
-    (sym (c .before .before .rows-whole .ensures) ∙ not-true _ (c .before .if3 .taken))
+    ∙ cycles-ragged _ _ _ _ _ (sym (at-state-fits .state-fits .ensures) ∙ not-false _ (at-if1 .if1 .left))
+    (omega (arith, at-if2 .if2 .left))
+    (sym (at-rows-whole .rows-whole .ensures) ∙ not-true _ (at-if3 .if3 .taken))
 
 run-phases-requires : tie.Need-run-phases-requires
-run-phases-requires c κs = whole-lengths _ _ (sym (c .before .rows-whole .ensures) ∙ not-false _ (c .if3 .left))
+run-phases-requires c κs =
+    let at-rows-whole = c .before in
+    whole-lengths _ _ (sym (at-rows-whole .rows-whole .ensures) ∙ not-false _ (c .if3 .left))
 
 returns-4 : tie.Need-returns-4
 returns-4 c =
-    cycles-run _ _ _ _ _ (sym (c .before .before .before .before .before .state-fits .ensures) ∙ not-false _ (c .before .before .before .before .if1 .left)) (omega (arith, c .before .before .before .if2 .left))
-    (sym (c .before .before .rows-whole .ensures) ∙ not-false _ (c .before .if3 .left)) _ (c .run-phases .ensures)
+    let at-if3 = c .before in
+    let at-rows-whole = at-if3 .before in
+    let at-if2 = at-rows-whole .before in
+    let at-if1 = at-if2 .before in
+    let at-state-fits = at-if1 .before in
+    cycles-run _ _ _ _ _ (sym (at-state-fits .state-fits .ensures) ∙ not-false _ (at-if1 .if1 .left)) (omega (arith, at-if2 .if2 .left))
+    (sym (at-rows-whole .rows-whole .ensures) ∙ not-false _ (at-if3 .if3 .left)) _ (c .run-phases .ensures)
 
 pub run-cycles-spec : {M : Type 1} → statement M
 run-cycles-spec =

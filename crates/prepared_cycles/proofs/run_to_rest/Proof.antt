@@ -11,12 +11,16 @@ use Rattle.prepared_cycles.proofs.run_to_rest.Tie as tie
 
 returns : tie.Need-returns
 returns c =
-    let a = c .before .before .before .before .before .before .before .before .before .before .before .before .before .before .before .args in
+    let at-to-rest = c .before .before .before in
+    let at-slots-of = at-to-rest .before .before .before .before .before .before in
+    let at-unpack = at-slots-of .before .before .before .before in
+    let at-start = at-unpack .before .before in
+    let a = at-start .args in
     let q = planOf (a .plan .now) in
-    let z = laid-out q (a .t2) (a .user) _ _ _ (c .before .before .before .before .before .before .before .before .before .slots-of .ensures) (c .before .before .before .before .before .before .before .before .before .before .before .before .before .unpack .ensures) in
+    let z = laid-out q (a .t2) (a .user) _ _ _ (at-slots-of .slots-of .ensures) (at-unpack .unpack .ensures) in
     c .arrived .ensures
     ∙ ap (λ (g : Going Moment). arrived stateAt (driven 0 g))
-    (c .before .before .before .to-rest .ensures ∙ ap (λ (o : Moment). toRest (onPlan q) (a .drawn) (going 0 false (a .seed) o)) z)
+    (at-to-rest .to-rest .ensures ∙ ap (λ (o : Moment). toRest (onPlan q) (a .drawn) (going 0 false (a .seed) o)) z)
 
 pub run-to-rest-spec : {M : Type 1} → statement M
 run-to-rest-spec =

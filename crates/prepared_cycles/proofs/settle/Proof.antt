@@ -8,16 +8,27 @@ use Rattle.prepared_cycles.proofs.settle.Statement.{statement}
 use Rattle.prepared_cycles.proofs.settle.Tie as tie
 
 returns : tie.Need-returns
-returns c = settled-unfit _ _ _ _ _ (sym (c .before .before .state-fits .ensures) ∙ not-true _ (c .before .if1 .taken)) _ (c .undriven .ensures)
+returns c =
+    let at-if1 = c .before in
+    let at-state-fits = at-if1 .before in
+    settled-unfit _ _ _ _ _ (sym (at-state-fits .state-fits .ensures) ∙ not-true _ (at-if1 .if1 .taken)) _ (c .undriven .ensures)
 
 returns-2 : tie.Need-returns-2
 returns-2 c =
-    settled-userless _ _ _ _ _ (sym (c .before .before .before .state-fits .ensures) ∙ not-false _ (c .before .before .if1 .left)) (omega (arith, c .before .if2 .taken)) _
+    let at-if2 = c .before in
+    let at-if1 = at-if2 .before in
+    let at-state-fits = at-if1 .before in
+    settled-userless _ _ _ _ _ (sym (at-state-fits .state-fits .ensures) ∙ not-false _ (at-if1 .if1 .left))
+    (omega (arith, at-if2 .if2 .taken)) _
     (c .undriven2 .ensures)
 
 returns-3 : tie.Need-returns-3
 returns-3 c =
-    settled-run _ _ _ _ _ (sym (c .before .before .before .state-fits .ensures) ∙ not-false _ (c .before .before .if1 .left)) (omega (arith, c .before .if2 .left)) _
+    let at-if2 = c .before in
+    let at-if1 = at-if2 .before in
+    let at-state-fits = at-if1 .before in
+    settled-run _ _ _ _ _ (sym (at-state-fits .state-fits .ensures) ∙ not-false _ (at-if1 .if1 .left))
+    (omega (arith, at-if2 .if2 .left)) _
     (c .run-to-rest .ensures)
 
 pub settle-spec : {M : Type 1} → statement M

@@ -8,10 +8,19 @@ use Rattle.prepared_cycles.proofs.drives.draw.Tie as tie
 
 returns : tie.Need-returns
 returns c =
-    let a = c .before .before .before .before .before .before .before .before .before .before .before .before .before .before .before .args in
+    let at-raised = c .before in
+    let at-accepted = at-raised .before in
+    let at-take-choice = at-accepted .before .before in
+    let at-room-in = at-take-choice .before .before .before .before in
+    let at-drawn-choice = at-room-in .before in
+    let at-items = at-drawn-choice .before in
+    let at-next-seed = at-items .before in
+    let at-start = at-next-seed .before .before .before .before in
+    let a = at-start .args in
     draw-is (planOf (a .plan .now)) (goingOf (a .cells .now) (a .pending .now) (a .places .now) (a .g)) _ _ _ _
-    (c .before .before .before .before .before .before .before .before .before .before .before .next-seed .ensures) (c .before .before .before .before .before .before .before .before .before .before .items .ensures) (c .before .before .before .before .before .before .before .before .before .drawn-choice .ensures) (c .before .before .before .before .before .before .before .before .room-in .ensures) _ _ (c .before .before .before .before .take-choice .ensures) _
-    (c .before .before .accepted .ensures) _ (c .before .raised .ensures)
+    (at-next-seed .next-seed .ensures) (at-items .items .ensures) (at-drawn-choice .drawn-choice .ensures)
+    (at-room-in .room-in .ensures) _ _ (at-take-choice .take-choice .ensures) _
+    (at-accepted .accepted .ensures) _ (at-raised .raised .ensures)
 
 pub draw-spec : {M : Type 1} → statement M
 draw-spec =

@@ -11,28 +11,39 @@ use Rattle.prepared_cycles.proofs.drives.drive.Tie as tie
 
 returns : tie.Need-returns
 returns c =
-    let a = c .before .before .before .before .before .args in
+    let at-refusal = c .before in
+    let at-start = at-refusal .before .before .before .before in
+    let a = at-start .args in
     let k = a .g .standing .counters in
     drive-off (planOf (a .plan .now)) (goingOf (a .cells .now) (a .pending .now) (a .places .now) (a .g)) (a .drawn) (a .t7) _
-    (c .before .refusal .ensures (a .cells .now) (a .pending .now) (a .places .now) (k .counts) (k .allowances) (a .g .standing .user))
+    (at-refusal .refusal .ensures (a .cells .now) (a .pending .now) (a .places .now) (k .counts) (k .allowances) (a .g .standing .user))
     (c .if1 .taken)
 
 later-requires : tie.Need-later-requires
 later-requires c κs =
-    let a = c .before .before .before .before .before .before .before .before .before .before .before .before .args in
+    let at-if1 = c .before .before .before .before .before .before .before in
+    let at-refusal = at-if1 .before in
+    let at-start = at-refusal .before .before .before .before in
+    let a = at-start .args in
     let k = a .g .standing .counters in
-    let e = c .before .before .before .before .before .before .before .before .refusal .ensures (a .cells .now) (a .pending .now) (a .places .now) (k .counts) (k .allowances) (a .g .standing .user) in
-    time-room _ _ _ (sym e ∙ c .before .before .before .before .before .before .before .if1 .left)
+    let e = at-refusal .refusal .ensures (a .cells .now) (a .pending .now) (a .places .now) (k .counts) (k .allowances)
+    (a .g .standing .user) in
+    time-room _ _ _ (sym e ∙ at-if1 .if1 .left)
 
 returns-2 : tie.Need-returns-2
 unfolding inputOf
 returns-2 c =
-    let a = c .before .before .before .before .before .before .before .before .before .before .before .before .before .before .before .before .before .args in
+    let at-later = c .before .before .before .before in
+    let at-feed = at-later .before in
+    let at-if1 = at-feed .before .before .before .before .before .before .before in
+    let at-refusal = at-if1 .before in
+    let at-start = at-refusal .before .before .before .before in
+    let a = at-start .args in
     let k = a .g .standing .counters in
     c .to-rest .ensures
     ∙ drive-on (planOf (a .plan .now)) (goingOf (a .cells .now) (a .pending .now) (a .places .now) (a .g)) (a .drawn) (a .t7) _
-    (c .before .before .before .before .before .before .before .before .before .before .before .before .before .refusal .ensures (a .cells .now) (a .pending .now) (a .places .now) (k .counts) (k .allowances) (a .g .standing .user))
-    (c .before .before .before .before .before .before .before .before .before .before .before .before .if1 .left) _ (c .before .before .before .before .before .feed .ensures) _ (c .before .before .before .before .later .ensures)
+    (at-refusal .refusal .ensures (a .cells .now) (a .pending .now) (a .places .now) (k .counts) (k .allowances) (a .g .standing .user))
+    (at-if1 .if1 .left) _ (at-feed .feed .ensures) _ (at-later .later .ensures)
 
 pub drive-spec : {M : Type 1} → statement M
 drive-spec =

@@ -8,9 +8,14 @@ use Rattle.prepared_cycles.proofs.drives.plainly.Tie as tie
 
 returns : tie.Need-returns
 returns c =
-    let a = c .before .before .before .before .before .before .before .before .before .before .before .before .args in
-    plainly-is (planOf (a .plan .now)) (goingOf (a .cells .now) (a .pending .now) (a .places .now) (a .g)) _ (c .before .before .before .before .before .before .before .before .room-in .ensures) _ _ _
-    (c .before .before .before .before .run-plain .ensures) _ (c .busy .ensures _ _ _) _ (c .before .raised .ensures)
+    let at-raised = c .before in
+    let at-run-plain = at-raised .before .before .before in
+    let at-room-in = at-run-plain .before .before .before .before in
+    let at-start = at-room-in .before .before .before .before in
+    let a = at-start .args in
+    plainly-is (planOf (a .plan .now)) (goingOf (a .cells .now) (a .pending .now) (a .places .now) (a .g)) _
+    (at-room-in .room-in .ensures) _ _ _
+    (at-run-plain .run-plain .ensures) _ (c .busy .ensures _ _ _) _ (at-raised .raised .ensures)
 
 pub plainly-spec : {M : Type 1} → statement M
 plainly-spec =
