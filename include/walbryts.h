@@ -33,8 +33,10 @@ extern "C" {
 #define WALBRYTS_STACK 8388608 /* bytes of stack that reading a text needs at most */
 
 #define WALBRYTS_TEXT 65536  /* bytes of the buffer for a listing; no listing is longer */
-#define WALBRYTS_STATE 649   /* bytes of a saved state */
-#define WALBRYTS_STATE_1 641 /* bytes of one that an older release saved, in form 1 */
+#define WALBRYTS_USERS 4     /* users that step one state */
+#define WALBRYTS_STATE 689   /* bytes of a saved state */
+#define WALBRYTS_STATE_2 649 /* bytes of one that an older release saved, in form 2 */
+#define WALBRYTS_STATE_1 641 /* and in form 1 */
 #define WALBRYTS_INPUTS 16   /* inputs in a row */
 #define WALBRYTS_REGISTERS 32
 #define WALBRYTS_WIRES 32
@@ -42,7 +44,7 @@ extern "C" {
 #define WALBRYTS_NODE_WORDS 16384 /* words of the node table: 4,096 nodes of four */
 #define WALBRYTS_ROW_WORDS 1056   /* words of the row table: 32 rows of 33 */
 
-/* ---- where a saved state has what. Multi-byte numbers are low byte first. Byte 0 names the form and is 2. */
+/* ---- where a saved state has what. Multi-byte numbers are low byte first. Byte 0 names the form and is 3. */
 
 /* Value v: a byte, 1 for x or 0 for a known number, then four bytes of number. */
 #define WALBRYTS_VALUE_AT(v) (1 + 5 * (size_t)(v))
@@ -52,10 +54,12 @@ extern "C" {
 #define WALBRYTS_PLACE_AT(t) (593 + (size_t)(t))
 /* Wire w is due: a byte, 0 or 1. */
 #define WALBRYTS_DUE_AT(w) (601 + (size_t)(w))
-/* The instants and the choices accepted: eight bytes each. (In form 1, whose byte 0 is 1, four bytes each, at 633 and
- * 637; all before them is the same.) */
+/* The instants accepted: eight bytes. The choices of user u that were accepted: eight bytes. How many may be: four. (Forms
+ * 1 and 2 have one count: in form 1, whose byte 0 is 1, time and count have four bytes each, at 633 and 637; in form 2
+ * eight, at 633 and 641. All before them is the same.) */
 #define WALBRYTS_TIME_AT 633
-#define WALBRYTS_COUNT_AT 641
+#define WALBRYTS_COUNT_AT(u) (641 + 8 * (size_t)(u))
+#define WALBRYTS_ALLOWANCE_AT(u) (673 + 4 * (size_t)(u))
 
 /* ---- numbers and words */
 
@@ -98,36 +102,39 @@ uint8_t walbryts_list(const uint8_t *sheet, size_t sheet_len, uint8_t *text, siz
 
 /* ---- events. A state lies as its saved bytes in state[WALBRYTS_STATE] and becomes the one that the call gives back;
  * keeping a copy of the bytes saves it, copying them back loads it. Bytes that are no saved state are refused as a state
- * that doesn't fit the sheet, with 31, after the sheet's own numbers.
+ * that doesn't fit the sheet, with 31, after the sheet's own numbers; so is a count above its allowance. Up to four users
+ * step one state: each choice and each run names its user, 0 to 3 (else 46), and is counted for that user alone, as far
+ * as that user's allowance reaches (then 47).
  * All but the first two prepare the sheet on the stack: 180 KB at most. (Measured: 150 KB for a usual sheet, 171 KB for
  * one that nests as deep as it may.) */
 
-/* Are the bytes a saved state: WALBRYTS_STATE of them in this form, or WALBRYTS_STATE_1 in form 1, every flag and mark
- * 0 or 1? */
+/* Are the bytes a saved state: WALBRYTS_STATE of them in this form, every flag and mark 0 or 1? */
 bool walbryts_is_state(const uint8_t *bytes, size_t bytes_len);
 
-/* Brings a saved state over: of old_len bytes in form 1, or in this one, into state[WALBRYTS_STATE], with the same two
- * counters and all else as it was. Gives 0, or 31 where the old bytes are no saved state; then `state` stays. */
-uint8_t walbryts_bring_over(const uint8_t *old, size_t old_len, uint8_t *state);
+/* Brings a saved state over: of old_len bytes in form 1 or 2 into state[WALBRYTS_STATE], with its count as user 0's, 0 for
+ * the others, these allowances[WALBRYTS_USERS], and all else as it was. One in this form is taken as it stands. Gives 0,
+ * or 31 where the old bytes are no saved state or the count is above allowances[0]; then `state` stays. */
+uint8_t walbryts_bring_over(const uint8_t *old, size_t old_len, const uint32_t *allowances, uint8_t *state);
 
-/* The start state: all is x, places and counters 0, every wire due. The bytes in `state` may be any. Gives 0, or 1 to
- * 11. */
-uint8_t walbryts_start(const uint8_t *sheet, size_t sheet_len, uint8_t *state);
+/* The start state: all is x, places and counters 0, every wire due; allowances[WALBRYTS_USERS] say how many choices each
+ * user has, for good. The bytes in `state` may be any. Gives 0, or 1 to 11. */
+uint8_t walbryts_start(const uint8_t *sheet, size_t sheet_len, const uint32_t *allowances, uint8_t *state);
 
-/* One choice: an item, whose instruction or wire is run, or WALBRYTS_COMMIT. Gives 0, or 1 to 11, 31, 22, 33, 34, 35,
- * 36. */
-uint8_t walbryts_choose(const uint8_t *sheet, size_t sheet_len, uint8_t *state, uint8_t choice);
+/* One choice of a user: an item, whose instruction or wire is run, or WALBRYTS_COMMIT. Gives 0, or 1 to 11, 31, 22, 46,
+ * 33, 34, 35, 47. */
+uint8_t walbryts_choose(const uint8_t *sheet, size_t sheet_len, uint8_t *state, uint8_t user, uint8_t choice);
 
-/* The choices one after the other, up to the first that is refused. *accepted takes how many were accepted. Gives 0
- * where all were, else the number that stopped it, and the state is the one reached; numbers up to 11 and 31 are a
- * refused call. */
-uint8_t walbryts_run(const uint8_t *sheet, size_t sheet_len, uint8_t *state, const uint8_t *choices, size_t choices_len,
-                     size_t *accepted);
+/* The choices of a user one after the other, up to the first that is refused. *accepted takes how many were accepted.
+ * Gives 0 where all were, else the number that stopped it, and the state is the one reached; numbers up to 11, 31 and 46
+ * are a refused call. */
+uint8_t walbryts_run(const uint8_t *sheet, size_t sheet_len, uint8_t *state, uint8_t user, const uint8_t *choices,
+                     size_t choices_len, size_t *accepted);
 
-/* The plain run of at most `limit` choices: the lowest enabled item, else the commit. *accepted takes how many were
- * accepted, *word how it ended. Gives 0 where it ended quiet or spent, 36 where it was stopped, else 1 to 11, 31. */
-uint8_t walbryts_run_plain(const uint8_t *sheet, size_t sheet_len, uint8_t *state, uint16_t limit, uint16_t *accepted,
-                           uint8_t *word);
+/* The plain run of at most `limit` choices of a user: the lowest enabled item, else the commit. *accepted takes how many
+ * were accepted, *word how it ended. Gives 0 where it ended quiet or spent, 47 where it was stopped, else 1 to 11, 31,
+ * 46. */
+uint8_t walbryts_run_plain(const uint8_t *sheet, size_t sheet_len, uint8_t *state, uint8_t user, uint16_t limit,
+                           uint16_t *accepted, uint8_t *word);
 
 /* An instant: sets all inputs, the clock first, as one change. The state must be quiet; the start state is after a
  * plain run. value[16] and unknown[16] hold them, an x as a raised flag; `count` is how many there are. Gives 0, or 1
@@ -136,12 +143,12 @@ uint8_t walbryts_instant(const uint8_t *sheet, size_t sheet_len, uint8_t *state,
                          const bool *unknown);
 
 /* Clock cycles: for each 16 values a row, with two instants, the clock low with the row's inputs and the clock high
- * with nothing else changed, and a plain run of at most 65,535 choices after each. The state must be quiet at first. A
+ * with nothing else changed, and a plain run of at most 65,535 choices of the user after each. The state must be quiet at first. A
  * row's item 0, the clock's, isn't looked at. *phases takes how many instants were done with the run after them;
  * *running whether it was the run after an instant, and not the instant, that had the number. Gives 0 where all were,
- * else the number that stopped it, and the state is the one reached. A refused call gives 1 to 11, 31, or 25 where
- * value_len is no multiple of 16 or unknown_len is another length. */
-uint8_t walbryts_run_cycles(const uint8_t *sheet, size_t sheet_len, uint8_t *state, const uint32_t *value,
+ * else the number that stopped it, and the state is the one reached. A refused call gives 1 to 11, 31,
+ * 46, or 25 where value_len is no multiple of 16 or unknown_len is another length. */
+uint8_t walbryts_run_cycles(const uint8_t *sheet, size_t sheet_len, uint8_t *state, uint8_t user, const uint32_t *value,
                             size_t value_len, const bool *unknown, size_t unknown_len, size_t *phases, bool *running);
 
 /* ---- expressions */

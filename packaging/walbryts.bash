@@ -10,13 +10,13 @@ _walbryts() {
         mapfile -t COMPREPLY < <(compgen -f -- "$word")
         return
         ;;
-    --seed | --from | --to | --every | --only) return ;;
+    --seed | --user | --allowance | --from | --to | --every | --only) return ;;
     esac
     local options=--verilog
     case $command in
     run)
         options="$options --wires --inputs --only --hex --binary --csv --from --to --every --last --expect"
-        options="$options --seed --by-expressions --vcd --progress --any-order --names"
+        options="$options --seed --user --allowance --by-expressions --vcd --progress --any-order --names"
         ;;
     compare) options="$options --names" ;;
     extract) options="$options --dot --names" ;;

@@ -15,6 +15,8 @@ complete -c walbryts -n "__fish_seen_subcommand_from run" -l to -x -d "the last 
 complete -c walbryts -n "__fish_seen_subcommand_from run" -l every -x -d "every so many cycles"
 complete -c walbryts -n "__fish_seen_subcommand_from run" -l expect -r -F -d "hold the table to a file"
 complete -c walbryts -n "__fish_seen_subcommand_from run" -l seed -x -d "draw the choices"
+complete -c walbryts -n "__fish_seen_subcommand_from run" -l user -x -d "whose choices they are"
+complete -c walbryts -n "__fish_seen_subcommand_from run" -l allowance -x -d "how many choices each user has"
 complete -c walbryts -n "__fish_seen_subcommand_from run" -l by-expressions -d "by the extracted expressions"
 complete -c walbryts -n "__fish_seen_subcommand_from run" -l last -d "only the last cycle"
 complete -c walbryts -n "__fish_seen_subcommand_from run" -l vcd -r -d "write a waveform"

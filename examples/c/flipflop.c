@@ -14,6 +14,9 @@
 static const uint8_t sheet[] = {0x02, 0x01, 0x00, 0x01, 0x01, 0x08, 0x08, 0x0C,
                                 0x10, 0x01, 0x01, 0x00, 0x23, 0x02, 0x02, 0x01};
 enum { INPUTS = 2, REGISTER = 2 };
+/* How many choices each user may take, and the user whose choices they are here. */
+static const uint32_t allowances[WALBRYTS_USERS] = {1000, 20, 0, 0};
+enum { USER = 0, OTHER = 1 };
 
 /* Ends the program where a call was refused that shouldn't have been. */
 static void accepted(const char *call, uint8_t number) {
@@ -44,7 +47,7 @@ static void print_value(uint32_t number, bool unknown) {
 static void print_state(const uint8_t *state) {
     size_t at = WALBRYTS_VALUE_AT(REGISTER);
     printf("time %" PRIu64 " count %" PRIu64 " place %u register ", counter_at(state, WALBRYTS_TIME_AT),
-           counter_at(state, WALBRYTS_COUNT_AT), state[WALBRYTS_PLACE_AT(0)]);
+           counter_at(state, WALBRYTS_COUNT_AT(USER)), state[WALBRYTS_PLACE_AT(0)]);
     print_value(number_at(state, at + 1), state[at] == 1);
     printf("\n");
 }
@@ -69,22 +72,35 @@ static void cycle_by_events(uint8_t *state, uint32_t number, bool unknown) {
         uint16_t choices;
         uint8_t word;
         accepted("instant", walbryts_instant(sheet, sizeof sheet, state, INPUTS, value, flags));
-        accepted("run_plain", walbryts_run_plain(sheet, sizeof sheet, state, 1000, &choices, &word));
+        accepted("run_plain", walbryts_run_plain(sheet, sizeof sheet, state, USER, 1000, &choices, &word));
     }
     print_state(state);
 }
 
+/* The clock low and high, and then a choice of a user without an allowance; another user takes it. */
+static uint8_t used_up(uint8_t *state) {
+    uint32_t value[WALBRYTS_INPUTS] = {0, 9};
+    bool flags[WALBRYTS_INPUTS] = {false};
+    accepted("instant", walbryts_instant(sheet, sizeof sheet, state, INPUTS, value, flags));
+    value[0] = 1;
+    accepted("instant", walbryts_instant(sheet, sizeof sheet, state, INPUTS, value, flags));
+    uint8_t number = walbryts_choose(sheet, sizeof sheet, state, 3, 0);
+    accepted("choose", walbryts_choose(sheet, sizeof sheet, state, OTHER, 0));
+    return number;
+}
+
 static void by_events(void) {
     uint8_t state[WALBRYTS_STATE], kept[WALBRYTS_STATE];
-    accepted("start", walbryts_start(sheet, sizeof sheet, state));
+    accepted("start", walbryts_start(sheet, sizeof sheet, allowances, state));
     print_state(state);
     cycle_by_events(state, 5, false);
     memcpy(kept, state, sizeof kept);
     cycle_by_events(state, 0, true);
     cycle_by_events(kept, 200, false);
-    printf("commit: refused %u\n", walbryts_choose(sheet, sizeof sheet, state, WALBRYTS_COMMIT));
+    printf("commit: refused %u\n", walbryts_choose(sheet, sizeof sheet, state, USER, WALBRYTS_COMMIT));
+    printf("user 3: %u, user 4: %u\n", used_up(state), walbryts_choose(sheet, sizeof sheet, state, 4, WALBRYTS_COMMIT));
     kept[0] = 7;
-    printf("no saved state: %u\n", walbryts_choose(sheet, sizeof sheet, kept, WALBRYTS_COMMIT));
+    printf("no saved state: %u\n", walbryts_choose(sheet, sizeof sheet, kept, USER, WALBRYTS_COMMIT));
 }
 
 /* Three rows; the third is too wide. */
@@ -97,8 +113,8 @@ static void by_rows(void) {
     value[1] = 17;
     value[WALBRYTS_INPUTS + 1] = 18;
     value[2 * WALBRYTS_INPUTS + 1] = 256;
-    accepted("start", walbryts_start(sheet, sizeof sheet, state));
-    uint8_t number = walbryts_run_cycles(sheet, sizeof sheet, state, value, 3 * WALBRYTS_INPUTS, unknown,
+    accepted("start", walbryts_start(sheet, sizeof sheet, allowances, state));
+    uint8_t number = walbryts_run_cycles(sheet, sizeof sheet, state, USER, value, 3 * WALBRYTS_INPUTS, unknown,
                                          3 * WALBRYTS_INPUTS, &phases, &running);
     printf("%zu instants, then %u from the %s; ", phases, number, running ? "run after it" : "next");
     print_state(state);

@@ -5,7 +5,7 @@
 
 use std::error::Error;
 
-use walbryts::{Record, Rows, Sheet, State, dispatch};
+use walbryts::{Record, Rows, Sheet, State, USERS, dispatch};
 
 /// A module, its state and the inputs of the cycles that it has yet to run, the next one last.
 struct Module {
@@ -20,8 +20,8 @@ impl Module {
         let bytes: Result<Vec<u8>, _> =
             hex.split_whitespace().map(|digits| u8::from_str_radix(digits, 16)).collect();
         let sheet = Sheet::read(&bytes?)?;
-        let mut state = sheet.start();
-        sheet.run_plain(&mut state, u16::MAX)?;
+        let mut state = sheet.start([u32::MAX; USERS]);
+        sheet.run_plain(&mut state, 0, u16::MAX)?;
         let cycles = cycles.iter().rev().map(|inputs| inputs.to_vec()).collect();
         Ok(Module { name, sheet, state, cycles })
     }
@@ -30,7 +30,7 @@ impl Module {
     fn turn(&mut self) -> Result<(), Box<dyn Error>> {
         let mut rows = Rows::new(&self.sheet);
         rows.push(self.cycles.pop().unwrap_or_default())?;
-        match self.sheet.run_cycles(&mut self.state, &rows)?.stopped {
+        match self.sheet.run_cycles(&mut self.state, 0, &rows)?.stopped {
             None => Ok(()),
             Some(refusal) => Err(refusal.into()),
         }

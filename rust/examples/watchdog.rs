@@ -5,7 +5,7 @@
 
 use std::error::Error;
 
-use walbryts::{Inputs, Registers, Rows, Sheet, State, Value};
+use walbryts::{Inputs, Registers, Rows, Sheet, State, USERS, Value};
 
 const WATCHDOG: &str = include_str!("../../tests/data/watchdog.hex");
 /// Registers of the watchdog: the count of repeated readings, and whether it has tripped.
@@ -17,19 +17,19 @@ fn main() -> Result<(), Box<dyn Error>> {
         WATCHDOG.split_whitespace().map(|digits| u8::from_str_radix(digits, 16)).collect();
     let sheet = Sheet::read(&bytes?)?;
     let tables = sheet.extract()?;
-    let mut state = sheet.start();
-    sheet.run_plain(&mut state, u16::MAX)?;
+    let mut state = sheet.start([u32::MAX; USERS]);
+    sheet.run_plain(&mut state, 0, u16::MAX)?;
     let mut registers = Registers::start();
     println!("cycle reading counted tripped choices");
     for (cycle, reading) in [0, 7, 7, 7, 7, 7, 7].into_iter().enumerate() {
         // Reset, reading, limit, acknowledged.
         let inputs = [u32::from(cycle == 0), reading, 3, 0];
-        let before = state.count();
+        let before = state.count(0);
         by_events(&sheet, &mut state, inputs)?;
         sheet.cycle(&tables, &mut registers, &Inputs::from(inputs))?;
         assert_eq!(registers, Registers::of(&sheet, &state));
         let [counted, tripped]: [Value; 2] = [COUNTED, TRIPPED].map(|r| registers.value(r));
-        let choices = state.count() - before;
+        let choices = state.count(0) - before;
         println!("{cycle:>5} {reading:>7} {counted:>7} {tripped:>7} {choices:>7}");
     }
     Ok(())
@@ -39,7 +39,7 @@ fn main() -> Result<(), Box<dyn Error>> {
 fn by_events(sheet: &Sheet, state: &mut State, inputs: [u32; 4]) -> Result<(), Box<dyn Error>> {
     let mut rows = Rows::new(sheet);
     rows.push(inputs)?;
-    match sheet.run_cycles(state, &rows)?.stopped {
+    match sheet.run_cycles(state, 0, &rows)?.stopped {
         None => Ok(()),
         Some(refusal) => Err(refusal.into()),
     }

@@ -7,23 +7,24 @@
 //!
 //! - by events: [`Sheet::start`] gives a [`State`]; [`Sheet::choose`], [`Sheet::run`],
 //!   [`Sheet::run_plain`] and [`Sheet::instant`] take it further, [`Sheet::run_cycles`] whole
-//!   clock cycles at once; [`State::save`] and [`State::load`] keep it;
+//!   clock cycles at once; up to four users step one state, each counted for itself;
+//!   [`State::save`] and [`State::load`] keep it;
 //! - by expressions: [`Sheet::extract`] gives [`Tables`] of what every register becomes at a
 //!   clock edge, with which [`Sheet::cycle`] and [`Sheet::cycles`] run clock cycles.
 //!
 //! The flip-flop, by events and by expressions:
 //!
 //! ```
-//! use walbryts::{Inputs, Registers, Sheet, Value, Verdict};
+//! use walbryts::{Inputs, Registers, Sheet, USERS, Value, Verdict};
 //!
 //! let sheet = Sheet::read(&[2, 1, 0, 1, 1, 8, 8, 0x0C, 0x10, 1, 1, 0, 0x23, 2, 2, 1])?;
 //! assert_eq!(sheet.list(), "threads 1\n0 0 wait 1 0\n0 1 later 2 v1\n0 2 go 0\n");
 //!
-//! let mut state = sheet.start();
-//! sheet.run_plain(&mut state, 1000)?; // every wire is due at the start
+//! let mut state = sheet.start([u32::MAX; USERS]); // how many choices each user may take
+//! sheet.run_plain(&mut state, 0, 1000)?; // every wire is due at the start; user 0 runs
 //! for clock in [0, 1] {
 //!     sheet.instant(&mut state, &Inputs::from([clock, 5]))?;
-//!     assert_eq!(sheet.run_plain(&mut state, 1000)?.verdict, Verdict::Quiet);
+//!     assert_eq!(sheet.run_plain(&mut state, 0, 1000)?.verdict, Verdict::Quiet);
 //! }
 //! assert_eq!(state.value(sheet.register(0)), Value::Known(5));
 //!
@@ -55,6 +56,6 @@ pub use inputs::{Inputs, Rows};
 pub use refusal::{Reason, Refusal};
 pub use sheet::{Sheet, list};
 pub use simulation::{COMMIT, CycleRuns, PlainRun, Run, Verdict};
-pub use state::{NotSaved, SAVED, State};
+pub use state::{NotSaved, SAVED, State, USERS};
 pub use text::{MOST_TEXT, names};
 pub use value::Value;

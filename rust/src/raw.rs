@@ -27,17 +27,27 @@ unsafe extern "C" {
         length: *mut usize,
     ) -> u8;
 
-    #[cfg(test)]
     pub fn walbryts_is_state(bytes: *const u8, bytes_len: usize) -> bool;
 
-    pub fn walbryts_bring_over(old: *const u8, old_len: usize, state: *mut u8) -> u8;
+    pub fn walbryts_bring_over(
+        old: *const u8,
+        old_len: usize,
+        allowances: *const u32,
+        state: *mut u8,
+    ) -> u8;
 
-    pub fn walbryts_start(sheet: *const u8, sheet_len: usize, state: *mut u8) -> u8;
+    pub fn walbryts_start(
+        sheet: *const u8,
+        sheet_len: usize,
+        allowances: *const u32,
+        state: *mut u8,
+    ) -> u8;
 
     pub fn walbryts_choose(
         sheet: *const u8,
         sheet_len: usize,
         state: *mut u8,
+        user: u8,
         choice: u8,
     ) -> u8;
 
@@ -45,6 +55,7 @@ unsafe extern "C" {
         sheet: *const u8,
         sheet_len: usize,
         state: *mut u8,
+        user: u8,
         choices: *const u8,
         choices_len: usize,
         accepted: *mut usize,
@@ -54,6 +65,7 @@ unsafe extern "C" {
         sheet: *const u8,
         sheet_len: usize,
         state: *mut u8,
+        user: u8,
         limit: u16,
         accepted: *mut u16,
         word: *mut u8,
@@ -72,6 +84,7 @@ unsafe extern "C" {
         sheet: *const u8,
         sheet_len: usize,
         state: *mut u8,
+        user: u8,
         value: *const u32,
         value_len: usize,
         unknown: *const bool,
@@ -143,12 +156,16 @@ mod tests {
 
     const FLIP_FLOP: [u8; 16] = [2, 1, 0, 1, 1, 8, 8, 0x0C, 0x10, 1, 1, 0, 0x23, 2, 2, 1];
     const SHORT: [u8; 9] = [2, 1, 0, 1, 1, 8, 8, 0x0C, 0x10];
-    const STATE: usize = 649;
+    const STATE: usize = 689;
+    const MOST: [u32; 4] = [u32::MAX; 4];
 
     fn started() -> [u8; STATE] {
         let mut state = [0; STATE];
-        // Safety: pointer and length are those of one slice, the state has its length.
-        let number = unsafe { walbryts_start(FLIP_FLOP.as_ptr(), 16, state.as_mut_ptr()) };
+        // Safety: pointer and length are those of one slice, the state and the allowances have
+        // their length.
+        let number = unsafe {
+            walbryts_start(FLIP_FLOP.as_ptr(), 16, MOST.as_ptr(), state.as_mut_ptr())
+        };
         assert_eq!(number, 0);
         state
     }
@@ -164,14 +181,15 @@ mod tests {
         // Safety: pointers and lengths are those of one slice each, the rest are locals'.
         let numbers = unsafe {
             [
-                walbryts_choose(at, len, lent, 0),
-                walbryts_run(at, len, lent, [0].as_ptr(), 1, &mut accepted),
-                walbryts_run_plain(at, len, lent, 9, &mut few, &mut word),
+                walbryts_choose(at, len, lent, 0, 0),
+                walbryts_run(at, len, lent, 0, [0].as_ptr(), 1, &mut accepted),
+                walbryts_run_plain(at, len, lent, 0, 9, &mut few, &mut word),
                 walbryts_instant(at, len, lent, 2, numbers, flags),
                 walbryts_run_cycles(
                     at,
                     len,
                     lent,
+                    0,
                     numbers,
                     16,
                     flags,
@@ -188,7 +206,7 @@ mod tests {
 
     #[test]
     fn no_saved_state_is_31_after_the_sheet() {
-        for (at, byte) in [(0, 0), (0, 1), (0, 255), (1, 2), (401, 2), (601, 7)] {
+        for (at, byte) in [(0, 0), (0, 1), (0, 2), (0, 255), (1, 2), (401, 2), (601, 7)] {
             let mut bytes = started();
             bytes[at] = byte;
             // Safety: as above.
@@ -199,17 +217,18 @@ mod tests {
         refused(&SHORT, started(), 2);
     }
 
-    /// 641 bytes of form 1 are brought over; one byte less, or another form, leaves what is lent.
+    /// 641 bytes of form 1 are brought over; one byte less, another form or a count above the
+    /// allowance leaves what is lent.
     #[test]
     fn a_refused_bringing_leaves_the_bytes() {
         let state = started();
         let mut old = [&state[..633], &[2, 1, 0, 0, 3, 0, 0, 0]].concat();
         old[0] = 1;
-        let bring = |old: &[u8]| {
+        let bring = |old: &[u8], allowances: [u32; 4]| {
             let mut lent = [0xA5; STATE];
+            let (at, len, allowed) = (old.as_ptr(), old.len(), allowances.as_ptr());
             // Safety: as above, and the lent bytes have the length of a saved state.
-            let number =
-                unsafe { walbryts_bring_over(old.as_ptr(), old.len(), lent.as_mut_ptr()) };
+            let number = unsafe { walbryts_bring_over(at, len, allowed, lent.as_mut_ptr()) };
             (number, lent)
         };
         let mut expected = state;
@@ -217,19 +236,22 @@ mod tests {
         expected[634] = 1;
         expected[641] = 3;
         // Safety: as above.
-        assert!(unsafe { walbryts_is_state(old.as_ptr(), old.len()) });
-        assert_eq!(bring(&old), (0, expected));
-        assert_eq!(bring(&expected), (0, expected));
-        assert_eq!(bring(&old[..640]), (31, [0xA5; STATE]));
+        assert!(!unsafe { walbryts_is_state(old.as_ptr(), old.len()) });
+        assert_eq!(bring(&old, MOST), (0, expected));
+        assert_eq!(bring(&expected, [0; 4]), (0, expected));
+        assert_eq!(bring(&old, [2, 9, 9, 9]), (31, [0xA5; STATE]));
+        assert_eq!(bring(&old[..640], MOST), (31, [0xA5; STATE]));
         old[0] = 2;
-        assert_eq!(bring(&old), (31, [0xA5; STATE]));
+        assert_eq!(bring(&old, MOST), (31, [0xA5; STATE]));
     }
 
     #[test]
     fn a_refused_start_leaves_the_bytes() {
         let mut state = [0xA5; STATE];
         // Safety: as above.
-        let number = unsafe { walbryts_start(SHORT.as_ptr(), SHORT.len(), state.as_mut_ptr()) };
+        let number = unsafe {
+            walbryts_start(SHORT.as_ptr(), SHORT.len(), MOST.as_ptr(), state.as_mut_ptr())
+        };
         assert_eq!((number, state), (2, [0xA5; STATE]));
     }
 
@@ -257,6 +279,7 @@ mod tests {
                     FLIP_FLOP.as_ptr(),
                     16,
                     state.as_mut_ptr(),
+                    0,
                     value.as_ptr(),
                     values,
                     unknown.as_ptr(),

@@ -117,10 +117,12 @@ reasons! {
     NotEnabled = 33, "the item isn't enabled";
     CommitTooEarly = 34, "a commit while an item is enabled";
     NothingPending = 35, "a commit with nothing pending";
-    Full = 36, "the time, the count or a module's turns are full";
+    Full = 36, "the time or a module's turns are full";
     TextTooLong = 41, "the text has over 16,384 bytes";
     NotDerived = 42, "the text isn't a module of the forms that are read";
     Names = 43, "a name is undeclared or declared twice, or a wire hasn't exactly one assign";
+    NoUser = 46, "there are the users 0 to 3";
+    UsedUp = 47, "the user's allowance of choices is used up";
     ListLength = 48, "the list has no record, or more than eight";
     LastServed = 49, "the last-served number is outside the list";
 }

@@ -4,7 +4,7 @@ use crate::inputs::{Inputs, Rows};
 use crate::raw;
 use crate::refusal::{Reason, Refusal};
 use crate::sheet::Sheet;
-use crate::state::{SAVED, State};
+use crate::state::{SAVED, State, USERS};
 
 /// The choice that commits all pending values.
 pub const COMMIT: u8 = 255;
@@ -34,7 +34,7 @@ pub enum Verdict {
     Quiet,
     /// As many choices ran as were allowed, and it isn't quiet.
     Spent,
-    /// The count is full (36).
+    /// The user's allowance is used up (47).
     Full,
 }
 
@@ -50,28 +50,29 @@ pub struct CycleRuns {
 }
 
 impl Sheet {
-    /// The start state: all is x, places and counters 0, every wire due. It is quiet, as an instant
-    /// needs it, after a plain run.
+    /// The start state: all is x, places and counters 0, every wire due; the allowances say how many
+    /// choices each user may take, for good. It is quiet, as an instant needs it, after a plain run.
     #[must_use]
-    pub fn start(&self) -> State {
+    pub fn start(&self, allowances: [u32; USERS]) -> State {
         let (sheet, len) = self.raw();
         let mut bytes = [0; SAVED];
-        // Safety: pointer and length are those of one slice, the state has its length.
-        unsafe { raw::walbryts_start(sheet, len, bytes.as_mut_ptr()) };
+        // Safety: pointer and length are those of one slice, the state and the allowances have
+        // their length.
+        unsafe { raw::walbryts_start(sheet, len, allowances.as_ptr(), bytes.as_mut_ptr()) };
         State { bytes }
     }
 
     /// Runs one instruction of a thread, or one due wire, or the commit ([`COMMIT`]): threads,
-    /// then wires, are numbered from 0.
+    /// then wires, are numbered from 0. The choice is counted for the user, 0 to 3, alone.
     ///
     /// # Errors
     ///
-    /// 31, 22, 33, 34, 35, 36. The state stays.
-    pub fn choose(&self, state: &mut State, choice: u8) -> Result<(), Refusal> {
+    /// 31, 22, 46, 33, 34, 35, 47. The state stays.
+    pub fn choose(&self, state: &mut State, user: u8, choice: u8) -> Result<(), Refusal> {
         let (sheet, len) = self.raw();
         // Safety: as in `start`.
         let number =
-            unsafe { raw::walbryts_choose(sheet, len, state.bytes.as_mut_ptr(), choice) };
+            unsafe { raw::walbryts_choose(sheet, len, state.bytes.as_mut_ptr(), user, choice) };
         Refusal::judge(number)
     }
 
@@ -80,7 +81,7 @@ impl Sheet {
     /// # Errors
     ///
     /// 31. The state stays.
-    pub fn run(&self, state: &mut State, choices: &[u8]) -> Result<Run, Refusal> {
+    pub fn run(&self, state: &mut State, user: u8, choices: &[u8]) -> Result<Run, Refusal> {
         let (sheet, len) = self.raw();
         let mut accepted = 0;
         // Safety: as in `start`, with pointer and length of one more slice; the number is a
@@ -90,21 +91,27 @@ impl Sheet {
                 sheet,
                 len,
                 state.bytes.as_mut_ptr(),
+                user,
                 choices.as_ptr(),
                 choices.len(),
                 &mut accepted,
             )
         };
-        Ok(Run { accepted, stopped: unless_unfit(Refusal::stop(number))? })
+        Ok(Run { accepted, stopped: unless_refused(Refusal::stop(number))? })
     }
 
-    /// The plain run of at most so many choices: always the lowest enabled item, else the
+    /// The plain run of at most so many choices of a user: always the lowest enabled item, else the
     /// commit.
     ///
     /// # Errors
     ///
-    /// 31. The state stays.
-    pub fn run_plain(&self, state: &mut State, limit: u16) -> Result<PlainRun, Refusal> {
+    /// 31, 46. The state stays.
+    pub fn run_plain(
+        &self,
+        state: &mut State,
+        user: u8,
+        limit: u16,
+    ) -> Result<PlainRun, Refusal> {
         let (sheet, len) = self.raw();
         let (mut accepted, mut word) = (0, 0);
         // Safety: as in `start`; number and word are locals'.
@@ -113,6 +120,7 @@ impl Sheet {
                 sheet,
                 len,
                 state.bytes.as_mut_ptr(),
+                user,
                 limit,
                 &mut accepted,
                 &mut word,
@@ -149,14 +157,19 @@ impl Sheet {
     }
 
     /// Clock cycles by events. For each row two instants, the clock low with the row's inputs
-    /// and the clock high with nothing else changed, with a plain run of at most 65,535 choices
-    /// after each; up to the first that is refused or stopped. The state must be quiet at first. It
+    /// and the clock high with nothing else changed, with a plain run of at most 65,535 choices of
+    /// the user after each; up to the first that is refused or stopped. The state must be quiet at first. It
     /// gives what the single calls give, and is much faster.
     ///
     /// # Errors
     ///
-    /// 31. The state stays.
-    pub fn run_cycles(&self, state: &mut State, rows: &Rows) -> Result<CycleRuns, Refusal> {
+    /// 31, 46. The state stays.
+    pub fn run_cycles(
+        &self,
+        state: &mut State,
+        user: u8,
+        rows: &Rows,
+    ) -> Result<CycleRuns, Refusal> {
         let (sheet, len) = self.raw();
         let (value, unknown) = rows.lent(self);
         let (mut phases, mut running) = (0, false);
@@ -167,6 +180,7 @@ impl Sheet {
                 sheet,
                 len,
                 state.bytes.as_mut_ptr(),
+                user,
                 value.as_ptr(),
                 value.len(),
                 unknown.as_ptr(),
@@ -175,14 +189,16 @@ impl Sheet {
                 &mut running,
             )
         };
-        Ok(CycleRuns { phases, stopped: unless_unfit(rows.stop(self, number))?, running })
+        Ok(CycleRuns { phases, stopped: unless_refused(rows.stop(self, number))?, running })
     }
 }
 
-/// A state that doesn't fit is a refused call, and no stop.
-fn unless_unfit(stop: Option<Refusal>) -> Result<Option<Refusal>, Refusal> {
+/// A state that doesn't fit, or a user that there isn't, is a refused call, and no stop.
+fn unless_refused(stop: Option<Refusal>) -> Result<Option<Refusal>, Refusal> {
     match stop {
-        Some(refusal) if refusal.reason() == Reason::Unfit => Err(refusal),
+        Some(refusal) if matches!(refusal.reason(), Reason::Unfit | Reason::NoUser) => {
+            Err(refusal)
+        }
         _ => Ok(stop),
     }
 }

@@ -2,10 +2,14 @@ use std::error::Error;
 use std::fmt;
 
 use crate::raw;
+use crate::refusal::Refusal;
 use crate::value::Value;
 
 /// The bytes of a saved state.
-pub const SAVED: usize = 649;
+pub const SAVED: usize = 689;
+
+/// How many users step one state.
+pub const USERS: usize = 4;
 
 /// What a state holds.
 const VALUES: usize = 80;
@@ -14,13 +18,14 @@ const PLACES: usize = 8;
 const MARKS: usize = 32;
 
 /// Where a saved state has what: the form's byte, then 80 values of 5 bytes, 32 slots of 6,
-/// 8 places, 32 marks, time and count.
+/// 8 places, 32 marks, time, four counts, four allowances.
 const VALUES_AT: usize = 1;
 const SLOTS_AT: usize = VALUES_AT + 5 * VALUES;
 const PLACES_AT: usize = SLOTS_AT + 6 * SLOTS;
 const MARKS_AT: usize = PLACES_AT + PLACES;
 const TIME_AT: usize = MARKS_AT + MARKS;
-const COUNT_AT: usize = TIME_AT + 8;
+const COUNTS_AT: usize = TIME_AT + 8;
+const ALLOWANCES_AT: usize = COUNTS_AT + 8 * USERS;
 
 /// A state of the simulation. It is kept in its saved form, so that saving it costs nothing;
 /// whether it fits a sheet is judged by the calls, which refuse it with 31 otherwise.
@@ -29,9 +34,9 @@ const COUNT_AT: usize = TIME_AT + 8;
 /// # let bytes = [2, 1, 0, 1, 1, 8, 8, 0x0C, 0x10, 1, 1, 0, 0x23, 2, 2, 1];
 /// use walbryts::{Sheet, State, Value};
 /// let sheet = Sheet::read(&bytes)?;
-/// let state = sheet.start();
+/// let state = sheet.start([100, 20, 0, 0]);
 /// assert_eq!(state.value(sheet.register(0)), Value::X);
-/// assert_eq!((state.time(), state.count()), (0, 0));
+/// assert_eq!((state.time(), state.count(1), state.allowance(1)), (0, 0, 20));
 /// assert_eq!(State::load(state.save()), Ok(state));
 /// # Ok::<(), walbryts::Refusal>(())
 /// ```
@@ -41,44 +46,60 @@ pub struct State {
 }
 
 impl State {
-    /// The saved form: a byte 2, which names the form, then 80 values (1 for x or 0, and the
+    /// The saved form: a byte 3, which names the form, then 80 values (1 for x or 0, and the
     /// number, low byte first), 32 pending slots (1 for held or 0, and a value), 8 places, 32
-    /// marks of wires that are due, time and count (8 bytes each).
+    /// marks of wires that are due, time and four counts (8 bytes each), four allowances (4 bytes
+    /// each).
     #[must_use]
     pub fn save(&self) -> &[u8; SAVED] {
         &self.bytes
     }
 
-    /// The state that was saved. One that an older release saved, in form 1 with time and count
-    /// of 4 bytes each, is brought over with the same two numbers and all else as it was:
-    ///
-    /// ```
-    /// # let bytes = [2, 1, 0, 1, 1, 8, 8, 0x0C, 0x10, 1, 1, 0, 0x23, 2, 2, 1];
-    /// use walbryts::{Sheet, State};
-    /// let start = Sheet::read(&bytes)?.start();
-    /// let mut old = start.save()[..633].to_vec();
-    /// old[0] = 1;
-    /// old.extend(258_u32.to_le_bytes());
-    /// old.extend(3_u32.to_le_bytes());
-    /// let state = State::load(&old).expect("a saved state of form 1");
-    /// assert_eq!((state.time(), state.count()), (258, 3));
-    /// assert_eq!(state.save()[..633], start.save()[..633]);
-    /// # Ok::<(), walbryts::Refusal>(())
-    /// ```
+    /// The state that was saved. [`State::bring_over`] takes one that an older release saved.
     ///
     /// # Errors
     ///
     /// Bytes of another length or form, or with a flag other than 0 and 1, are no saved state.
     pub fn load(saved: &[u8]) -> Result<State, NotSaved> {
-        let mut bytes = [0; SAVED];
-        // The proved library judges the bytes.
-        // Safety: pointer and length are those of one slice, and a saved state has so many bytes.
-        match unsafe {
-            raw::walbryts_bring_over(saved.as_ptr(), saved.len(), bytes.as_mut_ptr())
-        } {
-            0 => Ok(State { bytes }),
-            _ => Err(NotSaved),
+        // An older form has other bytes.
+        let bytes = saved.try_into().map_err(|_| NotSaved)?;
+        // The proved library judges them.
+        // Safety: pointer and length are those of one slice.
+        match unsafe { raw::walbryts_is_state(saved.as_ptr(), saved.len()) } {
+            true => Ok(State { bytes }),
+            false => Err(NotSaved),
         }
+    }
+
+    /// The state that an older release saved, in form 1 with time and count of 4 bytes each or in
+    /// form 2 with 8: the count becomes user 0's, the others' are 0, the allowances are these, and
+    /// all else is as it was. One of the form that [`State::save`] gives is taken as it stands.
+    ///
+    /// ```
+    /// # let bytes = [2, 1, 0, 1, 1, 8, 8, 0x0C, 0x10, 1, 1, 0, 0x23, 2, 2, 1];
+    /// use walbryts::{Sheet, State};
+    /// let start = Sheet::read(&bytes)?.start([0; 4]);
+    /// let mut old = start.save()[..633].to_vec();
+    /// old[0] = 1;
+    /// old.extend(258_u32.to_le_bytes());
+    /// old.extend(3_u32.to_le_bytes());
+    /// let state = State::bring_over(&old, [100, 20, 0, 0])?;
+    /// assert_eq!((state.time(), state.count(0), state.allowance(1)), (258, 3, 20));
+    /// assert_eq!(state.save()[1..633], start.save()[1..633]);
+    /// assert_eq!(State::bring_over(&old, [2, 20, 0, 0]).unwrap_err().number(), 31);
+    /// # Ok::<(), walbryts::Refusal>(())
+    /// ```
+    ///
+    /// # Errors
+    ///
+    /// 31 where the bytes are no saved state, or their one count is above user 0's allowance.
+    pub fn bring_over(saved: &[u8], allowances: [u32; USERS]) -> Result<State, Refusal> {
+        let mut bytes = [0; SAVED];
+        let (old, len, lent) = (saved.as_ptr(), saved.len(), bytes.as_mut_ptr());
+        // Safety: pointer and length are those of one slice, a saved state has so many bytes, and
+        // there are four allowances.
+        let number = unsafe { raw::walbryts_bring_over(old, len, allowances.as_ptr(), lent) };
+        Refusal::judge(number).map(|()| State { bytes })
     }
 
     /// A variable's value.
@@ -146,10 +167,26 @@ impl State {
         self.counter_at(TIME_AT)
     }
 
-    /// How many choices were accepted.
+    /// How many choices of a user were accepted.
+    ///
+    /// # Panics
+    ///
+    /// From user 4 on, which there isn't.
     #[must_use]
-    pub fn count(&self) -> u64 {
-        self.counter_at(COUNT_AT)
+    pub fn count(&self, user: usize) -> u64 {
+        assert!(user < USERS, "there are {USERS} users");
+        self.counter_at(COUNTS_AT + 8 * user)
+    }
+
+    /// How many choices of a user may be accepted.
+    ///
+    /// # Panics
+    ///
+    /// From user 4 on, which there isn't.
+    #[must_use]
+    pub fn allowance(&self, user: usize) -> u32 {
+        assert!(user < USERS, "there are {USERS} users");
+        self.number_at(ALLOWANCES_AT + 4 * user)
     }
 
     fn value_at(&self, at: usize) -> Value {
@@ -170,13 +207,16 @@ impl fmt::Debug for State {
         let values: Vec<Value> = (0..VALUES).map(|v| self.value(v)).collect();
         let pending: Vec<Option<Value>> = (0..SLOTS).map(|r| self.pending(r)).collect();
         let due: Vec<usize> = (0..MARKS).filter(|&w| self.due(w)).collect();
+        let counts: Vec<u64> = (0..USERS).map(|user| self.count(user)).collect();
+        let allowances: Vec<u32> = (0..USERS).map(|user| self.allowance(user)).collect();
         f.debug_struct("State")
             .field("values", &values)
             .field("pending", &pending)
             .field("places", &&self.bytes[PLACES_AT..MARKS_AT])
             .field("due", &due)
             .field("time", &self.time())
-            .field("count", &self.count())
+            .field("counts", &counts)
+            .field("allowances", &allowances)
             .finish()
     }
 }

@@ -3,7 +3,7 @@
 mod common;
 
 use common::{
-    FLIP_FLOP, Part, flip_flop, later, list, repeat, set, sheet, variable, wait, when,
+    FLIP_FLOP, MOST, Part, flip_flop, later, list, repeat, set, sheet, variable, wait, when,
 };
 use walbryts::{
     COMMIT, Inputs, Reason, Refusal, Registers, Rows, Sheet, State, Tables, Value, Verdict,
@@ -85,29 +85,41 @@ fn of_extraction() {
     }
 }
 
-// ---- 22, 25 and 31 to 36: the simulation
+// ---- 22, 25, 31 to 36, 46 and 47: the simulation
 
 /// The flip-flop with its clock just risen: the thread is enabled.
 fn risen() -> State {
     let sheet = flip_flop();
-    let mut state = sheet.start();
+    let mut state = sheet.start(MOST);
     sheet.instant(&mut state, &Inputs::from([0, 5])).unwrap();
     sheet.instant(&mut state, &Inputs::from([1, 5])).unwrap();
     state
 }
 
-/// A state with all ones for its time or its count.
-fn full(state: &State, at: usize) -> State {
+/// A state with all ones for its time.
+fn late(state: &State) -> State {
     let mut bytes = *state.save();
-    bytes[at..at + 8].fill(0xFF);
+    bytes[633..641].fill(0xFF);
     State::load(&bytes).unwrap()
+}
+
+/// A state with another number for user 0's count, which has eight bytes.
+fn counted(state: &State, count: u64) -> State {
+    let mut bytes = *state.save();
+    bytes[641..649].copy_from_slice(&count.to_le_bytes());
+    State::load(&bytes).unwrap()
+}
+
+/// A state in which user 0's allowance is used up.
+fn used_up(state: &State) -> State {
+    counted(state, u32::MAX.into())
 }
 
 fn choosing(state: &State, choice: u8) -> Reason {
     let mut left = state.clone();
-    let refusal = flip_flop().choose(&mut left, choice).unwrap_err();
+    let refusal = flip_flop().choose(&mut left, 0, choice).unwrap_err();
     assert_eq!(&left, state);
-    let run = flip_flop().run(&mut left, &[choice, 0]).map(|run| run.stopped.unwrap());
+    let run = flip_flop().run(&mut left, 0, &[choice, 0]).map(|run| run.stopped.unwrap());
     assert_eq!(run.unwrap_or_else(|refused| refused), refusal);
     assert_eq!(&left, state);
     refusal.reason()
@@ -122,53 +134,54 @@ fn entering(state: &State, inputs: impl Into<Inputs>) -> Reason {
 
 #[test]
 fn of_the_simulation() {
-    let quiet = flip_flop().start();
+    let quiet = flip_flop().start(MOST);
     let mut unfit = quiet.clone();
     unfit.set_value(2, Value::Known(256));
     assert_eq!(choosing(&quiet, 1), Reason::NoItem);
     assert_eq!(choosing(&quiet, 0), Reason::NotEnabled);
     assert_eq!(choosing(&quiet, COMMIT), Reason::NothingPending);
     assert_eq!(choosing(&risen(), COMMIT), Reason::CommitTooEarly);
-    assert_eq!(choosing(&full(&risen(), 641), 0), Reason::Full);
+    assert_eq!(choosing(&used_up(&risen()), 0), Reason::UsedUp);
+    assert_eq!(choosing(&counted(&risen(), 1 << 32), 0), Reason::Unfit);
     assert_eq!(choosing(&unfit, 0), Reason::Unfit);
     assert_eq!(entering(&quiet, [0]), Reason::Inputs);
     assert_eq!(entering(&quiet, [0; 300]), Reason::Inputs);
     assert_eq!(entering(&quiet, [0, 256]), Reason::Inputs);
     assert_eq!(entering(&risen(), [0, 5]), Reason::NotQuiet);
-    assert_eq!(entering(&full(&quiet, 633), [0, 5]), Reason::Full);
+    assert_eq!(entering(&late(&quiet), [0, 5]), Reason::Full);
     assert_eq!(entering(&unfit, [0, 5]), Reason::Unfit);
 }
 
 #[test]
 fn of_plain_runs_and_rows() {
     let sheet = flip_flop();
-    let run = sheet.run_plain(&mut full(&risen(), 641), 9).unwrap();
+    let run = sheet.run_plain(&mut used_up(&risen()), 0, 9).unwrap();
     assert_eq!((run.accepted, run.verdict), (0, Verdict::Full));
-    let mut unfit = sheet.start();
+    let mut unfit = sheet.start(MOST);
     unfit.set_value(2, Value::Known(256));
     let reason = |refusal: Refusal| refusal.reason();
     let kept = unfit.clone();
-    assert_eq!(sheet.run_plain(&mut unfit, 9).map_err(reason), Err(Reason::Unfit));
+    assert_eq!(sheet.run_plain(&mut unfit, 0, 9).map_err(reason), Err(Reason::Unfit));
 
     let mut rows = Rows::new(&sheet);
     rows.push([5]).unwrap();
     rows.push([256]).unwrap();
     assert_eq!(rows.push([1, 2]).map_err(reason), Err(Reason::Inputs));
     assert_eq!(rows.len(), 2);
-    assert_eq!(sheet.run_cycles(&mut unfit, &rows).map_err(reason), Err(Reason::Unfit));
+    assert_eq!(sheet.run_cycles(&mut unfit, 0, &rows).map_err(reason), Err(Reason::Unfit));
     assert_eq!(unfit, kept);
-    let run = sheet.run_cycles(&mut sheet.start(), &rows).unwrap();
+    let run = sheet.run_cycles(&mut sheet.start(MOST), 0, &rows).unwrap();
     assert_eq!((run.phases, run.stopped.map(reason)), (2, Some(Reason::Inputs)));
     assert!(!run.running);
-    let mut late = full(&sheet.start(), 641);
-    let run = sheet.run_cycles(&mut late, &rows).unwrap();
+    let mut stopped = used_up(&sheet.start(MOST));
+    let run = sheet.run_cycles(&mut stopped, 0, &rows).unwrap();
     assert_eq!(
         (run.phases, run.stopped.map(reason), run.running),
-        (1, Some(Reason::Full), true)
+        (1, Some(Reason::UsedUp), true)
     );
-    assert_eq!(late.time(), 2);
+    assert_eq!(stopped.time(), 2);
     let other = common::of_hex(common::WATCHDOG);
-    let run = other.run_cycles(&mut other.start(), &rows).unwrap();
+    let run = other.run_cycles(&mut other.start(MOST), 0, &rows).unwrap();
     assert_eq!((run.phases, run.stopped.map(reason)), (0, Some(Reason::Inputs)));
 }
 
@@ -213,12 +226,12 @@ fn of_cycles_by_expressions() {
 fn in_words() {
     let refusal = Sheet::read(&changed(9, 0)).unwrap_err();
     assert_eq!(refusal.to_string(), "refused 6 at byte 9: a field is out of range");
-    let refusal = flip_flop().choose(&mut risen(), COMMIT).unwrap_err();
+    let refusal = flip_flop().choose(&mut risen(), 0, COMMIT).unwrap_err();
     assert_eq!(refusal.to_string(), "refused 34: a commit while an item is enabled");
     let numbers: Vec<u8> = Reason::ALL.iter().map(|reason| reason.number()).collect();
     assert_eq!(
         numbers,
-        (1..=25).chain(31..=36).chain(41..=43).chain(48..=49).collect::<Vec<u8>>()
+        (1..=25).chain(31..=36).chain(41..=43).chain(46..=49).collect::<Vec<u8>>()
     );
     for &reason in Reason::ALL {
         assert_eq!(Reason::of_number(reason.number()), Some(reason));

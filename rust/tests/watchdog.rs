@@ -3,7 +3,7 @@
 
 mod common;
 
-use common::{WATCHDOG, of_hex};
+use common::{MOST, WATCHDOG, of_hex};
 use walbryts::{Inputs, Registers, Rows, Sheet, Value};
 
 /// Reset, reading, limit, acknowledged.
@@ -14,8 +14,8 @@ const TRIPPED: usize = 2;
 /// Whether it has tripped after each cycle, by events; the expressions must say the same.
 fn trips(sheet: &Sheet, cycles: &[Cycle]) -> Vec<Value> {
     let tables = sheet.extract().expect("extractable");
-    let mut state = sheet.start();
-    sheet.run_plain(&mut state, u16::MAX).expect("the start state fits");
+    let mut state = sheet.start(MOST);
+    sheet.run_plain(&mut state, 0, u16::MAX).expect("the start state fits");
     let mut registers = Registers::start();
     cycles.iter().map(|&cycle| one(sheet, &tables, &mut state, &mut registers, cycle)).collect()
 }
@@ -29,7 +29,7 @@ fn one(
 ) -> Value {
     let mut rows = Rows::new(sheet);
     rows.push(cycle).unwrap();
-    assert_eq!(sheet.run_cycles(state, &rows).unwrap().stopped, None);
+    assert_eq!(sheet.run_cycles(state, 0, &rows).unwrap().stopped, None);
     let wires = sheet.cycle(tables, registers, &Inputs::from(cycle)).unwrap();
     assert_eq!(*registers, Registers::of(sheet, state));
     for wire in 0..sheet.wires() {
@@ -65,16 +65,16 @@ fn a_live_gauge_does_not() {
 #[test]
 fn a_repeated_reading_is_no_event() {
     let sheet = of_hex(WATCHDOG);
-    let mut state = sheet.start();
+    let mut state = sheet.start(MOST);
     let low = Inputs::from([0, 0, 7, 3, 0]);
     sheet.instant(&mut state, &low).expect_err("wires are due at the start");
-    sheet.run_plain(&mut state, u16::MAX).unwrap();
+    sheet.run_plain(&mut state, 0, u16::MAX).unwrap();
     sheet.instant(&mut state, &low).unwrap();
-    sheet.run_plain(&mut state, u16::MAX).unwrap();
-    let (time, count) = (state.time(), state.count());
+    sheet.run_plain(&mut state, 0, u16::MAX).unwrap();
+    let (time, count) = (state.time(), state.count(0));
     sheet.instant(&mut state, &low).unwrap();
-    assert_eq!(sheet.run_plain(&mut state, u16::MAX).unwrap().accepted, 0);
-    assert_eq!((state.time(), state.count()), (time + 1, count));
+    assert_eq!(sheet.run_plain(&mut state, 0, u16::MAX).unwrap().accepted, 0);
+    assert_eq!((state.time(), state.count(0)), (time + 1, count));
 }
 
 #[test]

@@ -31,6 +31,7 @@ static const Sheet unread[] = {
     {bad_map, sizeof bad_map, 5}, {flip_flop, 17, 10},
 };
 static const Sheet good = {flip_flop, 16, 0};
+static const uint32_t allowances[WALBRYTS_USERS] = {9, 9, 9, 9};
 static const Sheet unextracted[] = {{clock_read, sizeof clock_read, 18}, {late_wait, sizeof late_wait, 16}};
 
 #define COUNT(a) (sizeof(a) / sizeof *(a))
@@ -87,7 +88,7 @@ static void lend(void) {
         lent.value[i] = (uint32_t)i;
         lent.unknown[i] = i % 2 == 0;
     }
-    if (walbryts_start(good.bytes, good.len, lent.state) != 0 ||
+    if (walbryts_start(good.bytes, good.len, allowances, lent.state) != 0 ||
         walbryts_extract(good.bytes, good.len, lent.nodes, WALBRYTS_NODE_WORDS, lent.rows, WALBRYTS_ROW_WORDS) != 0) {
         failed++;
         printf("FAILED the flip-flop isn't read and extracted\n");
@@ -104,22 +105,29 @@ static void list(Sheet s, uint8_t expected) {
 }
 
 static void start(Sheet s, uint8_t expected) {
-    hold("start", walbryts_start(s.bytes, s.len, lent.state), expected, true);
+    hold("start", walbryts_start(s.bytes, s.len, allowances, lent.state), expected, true);
+}
+
+/* The user of the calls that follow. */
+static uint8_t user;
+
+static void run(Sheet s, const uint8_t *choices, size_t count, uint8_t expected) {
+    size_t accepted = 77;
+    uint8_t number = walbryts_run(s.bytes, s.len, lent.state, user, choices, count, &accepted);
+    hold("run", number, expected, accepted == 0);
 }
 
 /* A choice, and a run that it opens. */
 static void choose(Sheet s, uint8_t choice, uint8_t expected) {
     const uint8_t choices[] = {choice, 0};
-    size_t accepted = 77;
-    hold("choose", walbryts_choose(s.bytes, s.len, lent.state, choice), expected, true);
-    uint8_t number = walbryts_run(s.bytes, s.len, lent.state, choices, sizeof choices, &accepted);
-    hold("run", number, expected, accepted == 0);
+    hold("choose", walbryts_choose(s.bytes, s.len, lent.state, user, choice), expected, true);
+    run(s, choices, sizeof choices, expected);
 }
 
 static void run_plain(Sheet s, uint8_t expected, uint8_t expected_word) {
     uint16_t accepted = 77;
     uint8_t word = 77;
-    uint8_t number = walbryts_run_plain(s.bytes, s.len, lent.state, 9, &accepted, &word);
+    uint8_t number = walbryts_run_plain(s.bytes, s.len, lent.state, user, 9, &accepted, &word);
     hold("run_plain", number, expected, accepted == 0 && word == expected_word);
 }
 
@@ -132,7 +140,8 @@ static void run_cycles(Sheet s, size_t values, size_t flags, uint8_t expected) {
     size_t phases = 77;
     bool running = true;
     uint8_t number =
-        walbryts_run_cycles(s.bytes, s.len, lent.state, lent.inputs, values, lent.inputs_unknown, flags, &phases, &running);
+        walbryts_run_cycles(s.bytes, s.len, lent.state, user, lent.inputs, values, lent.inputs_unknown, flags, &phases,
+                            &running);
     hold("run_cycles", number, expected, phases == 0 && !running);
 }
 
@@ -184,7 +193,7 @@ static void sheets(void) {
 /* ---- 31: bytes that are no saved state, and a state that doesn't fit */
 
 static void bring_over(const uint8_t *old, size_t old_len) {
-    hold("bring_over", walbryts_bring_over(old, old_len, lent.state), 31, true);
+    hold("bring_over", walbryts_bring_over(old, old_len, allowances, lent.state), 31, true);
 }
 
 static void no_state(size_t at, uint8_t byte, bool saved) {
@@ -212,39 +221,59 @@ static void no_state(size_t at, uint8_t byte, bool saved) {
 
 static void states(void) {
     no_state(0, 1, false);
-    no_state(0, 3, false);
+    no_state(0, 2, false);
     no_state(WALBRYTS_VALUE_AT(79), 2, false);
     no_state(WALBRYTS_PENDING_AT(0), 255, false);
     no_state(WALBRYTS_DUE_AT(31), 2, false);
     no_state(WALBRYTS_PLACE_AT(0), 3, true);
     no_state(WALBRYTS_DUE_AT(0), 1, true);
+    for (size_t u = 0; u < WALBRYTS_USERS; u++) {
+        no_state(WALBRYTS_COUNT_AT(u), 10, true); /* above its allowance */
+        no_state(WALBRYTS_COUNT_AT(u) + 7, 1, true);
+    }
+    user = 4; /* which is judged after the state */
+    no_state(WALBRYTS_PLACE_AT(0), 3, true);
+    user = 0;
     if (walbryts_is_state(lent.state, WALBRYTS_STATE - 1) || walbryts_is_state(lent.text, WALBRYTS_STATE)) {
         failed++;
         printf("FAILED is_state on other bytes\n");
     }
     bring_over(lent.text, 0);
     bring_over(lent.text, WALBRYTS_STATE_1);
+    bring_over(lent.text, WALBRYTS_STATE_2);
     bring_over(lent.text, WALBRYTS_STATE);
 }
 
-/* A state of form 1 is brought over, into lent bytes that were any. */
-static void brought_over(void) {
-    uint8_t old[WALBRYTS_STATE_1], expected[WALBRYTS_STATE];
+/* A state with one count, in form 1 or 2, is brought over with these allowances, into lent bytes that were any; a count above
+ * user 0's is refused. */
+static void brought_from(uint8_t form, size_t old_len) {
+    static const uint32_t reach[WALBRYTS_USERS] = {7, 8, 0, 0xFFFFFFFFu}, less[WALBRYTS_USERS] = {6, 8, 0, 0xFFFFFFFFu};
+    size_t width = form == 1 ? 4 : 8;
+    uint8_t old[WALBRYTS_STATE_2] = {0}, expected[WALBRYTS_STATE] = {0};
     lend();
-    memcpy(expected, lent.state, sizeof expected);
+    memcpy(expected, lent.state, WALBRYTS_TIME_AT);
     memcpy(old, lent.state, WALBRYTS_TIME_AT);
-    old[0] = 1;
+    old[0] = form;
     memset(old + WALBRYTS_TIME_AT, 0xFF, 4);
-    memset(old + WALBRYTS_TIME_AT + 4, 7, 4);
-    memset(expected + WALBRYTS_TIME_AT, 0, 16);
+    old[WALBRYTS_TIME_AT + width] = 7;
     memset(expected + WALBRYTS_TIME_AT, 0xFF, 4);
-    memset(expected + WALBRYTS_COUNT_AT, 7, 4);
+    expected[WALBRYTS_COUNT_AT(0)] = 7;
+    expected[WALBRYTS_ALLOWANCE_AT(0)] = 7;
+    expected[WALBRYTS_ALLOWANCE_AT(1)] = 8;
+    memset(expected + WALBRYTS_ALLOWANCE_AT(3), 0xFF, 4);
     memset(lent.state, 0xA5, sizeof lent.state);
-    if (!walbryts_is_state(old, sizeof old) || walbryts_bring_over(old, sizeof old, lent.state) != 0 ||
+    keep();
+    hold("bring_over", walbryts_bring_over(old, old_len, less, lent.state), 31, true);
+    if (walbryts_is_state(old, old_len) || walbryts_bring_over(old, old_len, reach, lent.state) != 0 ||
         memcmp(lent.state, expected, sizeof expected) != 0) {
         failed++;
-        printf("FAILED bring_over of a state in form 1\n");
+        printf("FAILED bring_over of a state in form %u\n", form);
     }
+}
+
+static void brought_over(void) {
+    brought_from(1, WALBRYTS_STATE_1);
+    brought_from(2, WALBRYTS_STATE_2);
 }
 
 /* ---- choices and instants */
@@ -259,9 +288,22 @@ static void drive(uint32_t clock) {
     keep();
 }
 
-static void full(size_t at) {
-    memset(lent.state + at, 0xFF, 8);
+static void full_time(void) {
+    memset(lent.state + WALBRYTS_TIME_AT, 0xFF, 8);
     keep();
+}
+
+/* 46: users above 3, after 22, and of a run after 31, also of an empty one. */
+static void users(void) {
+    for (user = 4; user != 0; user = user == 4 ? 255 : 0) {
+        hold("choose", walbryts_choose(good.bytes, good.len, lent.state, user, 254), 22, true);
+        choose(good, 0, 46);
+        choose(good, WALBRYTS_COMMIT, 46);
+        run(good, flip_flop, 0, 46);
+        run_plain(good, 46, WALBRYTS_REFUSED);
+        run_cycles(good, 15, 15, 46);
+        run_cycles(good, 0, 0, 46);
+    }
 }
 
 static void choices(void) {
@@ -270,6 +312,7 @@ static void choices(void) {
     choose(good, 254, 22);
     choose(good, 0, 33);
     choose(good, WALBRYTS_COMMIT, 35);
+    users();
     instant(good, 1, 25);
     instant(good, 17, 25);
     run_cycles(good, 15, 15, 25);
@@ -281,7 +324,7 @@ static void choices(void) {
     keep();
     instant(good, 2, 25);
     run_cycles(good, 32, 32, 25);
-    full(WALBRYTS_TIME_AT);
+    full_time();
     lent.inputs[1] = 5;
     keep();
     instant(good, 2, 36);
@@ -292,9 +335,13 @@ static void choices(void) {
     choose(good, WALBRYTS_COMMIT, 34);
     instant(good, 2, 32);
     run_cycles(good, 32, 32, 32);
-    full(WALBRYTS_COUNT_AT);
-    choose(good, 0, 36);
-    run_plain(good, 36, WALBRYTS_STOPPED);
+    users();
+    lent.state[WALBRYTS_COUNT_AT(2)] = 9; /* its allowance */
+    keep();
+    user = 2;
+    choose(good, 0, 47);
+    run_plain(good, 47, WALBRYTS_STOPPED);
+    user = 0;
 }
 
 /* ---- tables, registers and inputs of cycles by expressions */
@@ -381,8 +428,8 @@ static void accepted(void) {
     seen("names", walbryts_names(verilog, sizeof verilog - 1, lent.names, lent.lengths));
     seen("list", walbryts_list(good.bytes, good.len, lent.text, &length));
     seen("instant", walbryts_instant(good.bytes, good.len, lent.state, 2, lent.inputs, lent.inputs_unknown));
-    seen("run_cycles", walbryts_run_cycles(good.bytes, good.len, lent.state, lent.inputs, 16, lent.inputs_unknown, 16, &phases,
-                                           &running));
+    seen("run_cycles", walbryts_run_cycles(good.bytes, good.len, lent.state, 1, lent.inputs, 16, lent.inputs_unknown, 16,
+                                           &phases, &running));
     lent.inputs[0] = 9;
     keep();
     seen("cycle", walbryts_cycle(good.bytes, good.len, lent.nodes, WALBRYTS_NODE_WORDS, lent.rows, WALBRYTS_ROW_WORDS,

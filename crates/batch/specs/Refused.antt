@@ -6,9 +6,9 @@ use mathlib.Core.List.{List}
 use Rattle.state.specs.declared.State.{State}
 use Rattle.batch.specs.Cycles.{runCycles}
 
--- Where no instant was accepted (the sheet, the state or the rows are refused, or the first instant is), the state is the one that
+-- Where no instant was accepted (the sheet, the state, the user or the rows are refused, or the first instant is), the state is the one that
 -- the call got. A run that is stopped comes after an accepted instant: `running` tells it.
 abbrev pub Unaltered : Type 0
 Unaltered =
-    (s : List ℕ) (st : State) (ns : List ℕ) (xs : List Bool) → runCycles s st ns xs .phases ≡ 0 →
-    runCycles s st ns xs .running ≡ false → runCycles s st ns xs .state ≡ st
+    (s : List ℕ) (st : State) (u : ℕ) (ns : List ℕ) (xs : List Bool) → runCycles s st u ns xs .phases ≡ 0 →
+    runCycles s st u ns xs .running ≡ false → runCycles s st u ns xs .state ≡ st

@@ -39,15 +39,15 @@ fn told(c: prepared_cycles::Cycled) -> Cycled
     }
 }
 
-// Rows of 16 inputs, for each an instant with the clock low and one with the clock high, a plain run after each.
-pub fn run_cycles(sheet: &[u8], st: State, value: &[u32], unknown: &[bool]) -> Cycled
-    ensures { λ r. ⌜ r ≡ runCycles (now (sheet .entry)) st (now (value .entry)) (now (unknown .entry)) ⌝ }
+// Rows of 16 inputs, for each an instant with the clock low and one with the clock high, a user's plain run after each.
+pub fn run_cycles(sheet: &[u8], st: State, user: u8, value: &[u32], unknown: &[bool]) -> Cycled
+    ensures { λ r. ⌜ r ≡ runCycles (now (sheet .entry)) st user (now (value .entry)) (now (unknown .entry)) ⌝ }
 {
     let mut plan = [0u32; 25212];
     let read = prepared::prepare(sheet, &mut plan);
     if read.number != 0 {
         return refused_with(read.number, st);
     }
-    let c = prepared_cycles::run_cycles(&plan, st, value, unknown);
+    let c = prepared_cycles::run_cycles(&plan, st, user, value, unknown);
     told(c)
 }

@@ -8,6 +8,7 @@ use lib.Dec.{ltb}
 use lib.ListN.{length, getD, replicate, length-replicate, getD-replicate, List·getD-eq-default}
 use borrow.Author.Tests.{ltb-true, ltb-false}
 use Rattle.values.specs.Values.{pick}
+use Rattle.state.specs.declared.State.{State}
 use Rattle.state.specs.State.{Bounded}
 use Rattle.events.specs.Calls.{started, start}
 use Rattle.events.proofs.Fits.{shaped-started}
@@ -32,15 +33,16 @@ small n v k h = by (ltb v n) refl
         let m = length-replicate {A = ℕ} n 0 in
         rw (List·getD-eq-default {A = ℕ} (replicate n 0) 0 {n = v} (omega arith)) h
 
-bounded-started : (n : ℕ) → Bounded (started n)
+bounded-started : (n : ℕ) (allowances : List ℕ) → ((v : ℕ) → getD allowances v 0 < 2 ^ 32) → Bounded (started n allowances)
 unfolding started
-bounded-started n =
+bounded-started n allowances h =
     record {
       value = λ v. small 80 v (2 ^ 32) (omega arith);
       pending = λ r. small 32 r (2 ^ 32) (omega arith);
       places = λ i. small 8 i (2 ^ 8) (omega arith);
       time = omega arith;
-      count = omega arith;
+      counts = λ u. small 4 u (2 ^ 64) (omega arith);
+      allowances = h;
     }
 
 pub on-the-sheet : OnTheSheet
@@ -49,16 +51,17 @@ on-the-sheet s ws m e l =
     let p = preparing.on-the-sheet s ws m e l in
     record {
       begin =
-          λ way.
-          ap (restOf way)
-          (cycles.on-the-sheet s ws m e l (startAt (planOf (preparedPlan s ws))) (shaped-started _) (bounded-started _) .settle (isDrawn way) (seedOf way)
-          ∙ ap (settled s (isDrawn way) (seedOf way)) (p .start));
+          λ allowances k h u way.
+          ap (restOf u way)
+          (cycles.on-the-sheet s ws m e l (startAt (planOf (preparedPlan s ws)) allowances) (shaped-started _ allowances k)
+          (bounded-started _ allowances h) .settle (isDrawn way) (seedOf way) u
+          ∙ ap (λ (st : State). settled s (isDrawn way) (seedOf way) st u) (p .start allowances));
       trace =
-          λ r h b ns xs w.
-          ap (λ (d : Driven). pick (ltb (length ns) 16) (traced 0 r) (traced (d .phases) (restOf (r .way) d)))
-          (cycles.on-the-sheet s ws m e l (r .state) h b .drive (isDrawn (r .way)) (r .seed) ns xs w);
+          λ r h b u ns xs w.
+          ap (λ (d : Driven). pick (ltb (length ns) 16) (traced 0 r) (traced (d .phases) (restOf u (r .way) d)))
+          (cycles.on-the-sheet s ws m e l (r .state) h b .drive (isDrawn (r .way)) (r .seed) u ns xs w);
       rows =
-          λ r h b ns xs w.
+          λ r h b u ns xs w.
           ap (λ (v : List ℕ). pick (ltb (length ns) 16) w v)
-          (cycles.on-the-sheet s ws m e l (r .state) h b .driven (isDrawn (r .way)) (r .seed) ns xs w);
+          (cycles.on-the-sheet s ws m e l (r .state) h b .driven (isDrawn (r .way)) (r .seed) u ns xs w);
     }

@@ -5,46 +5,73 @@ use mathlib.Core.List.{List, [], _∷_, _++_}
 use Prim.Native.Nat.{ℕ, zero, suc, _+_, _<_, _≤_}
 use native.Mathlib.Nat.{not-suc-le-zero, le-of-suc-le-suc}
 use native.Mathlib.Omega.{arith}
-use borrow.Author.Tests.{lt-ltb, le-ltb}
+use borrow.Author.Tests.{lt-ltb, le-ltb, eq-eqb, ne-eqb}
 use lib.ListN.{length, getD, length-append, List·getD-eq-default}
 use lib.Seq.{sets}
 use Rattle.state.specs.declared.State.{State}
+use Rattle.state.specs.State.{countOf, allowanceOf}
 use Rattle.state.specs.Saved.{listOf}
 use Rattle.state.proofs.Rows.{sets-append, sets-whole, length-listOf}
+use Rattle.events.specs.Calls.{spend}
 use Rattle.nextstate.specs.declared.Registers.{Registers}
 use Rattle.options.specs.declared.Way.{Way}
 use Rattle.plan.specs.Plan.{Plan}
 use Rattle.plan_state.specs.Planes.{marked}
-use Rattle.prepared.specs.Prepared.{startAt}
+use Rattle.prepared.specs.Prepared.{roomIn, startAt}
 use Rattle.prepared_cycles.specs.declared.Driven.{Driven}
 use Rattle.prepared_cycles.specs.Traces.{placesIn, rowOf}
 use Rattle.prepared_cycles.specs.Drives.{settledAt, driveAt, drivenAt}
 use Rattle.driving.specs.declared.Rest.{Rest}
 use Rattle.driving.specs.declared.Traced.{Traced}
-use Rattle.driving.specs.Plans.{seedOf, isDrawn, restOf, traced, begunAt, tracedAt, rowsAt, wordsOf, registersIn}
+use Rattle.driving.specs.Plans.{seedOf, isDrawn, stoppedBy, restOf, traced, begunAt, tracedAt, rowsAt, wordsOf, registersIn}
+
+-- ---- the number that stopped a run
+
+module _ (u : ℕ) (d : Driven) where
+  pub stopped-refused : (d .number ≡ 0 → ⊥) → d .number ≡ stoppedBy u d
+  unfolding stoppedBy
+  stopped-refused h = rw (ne-eqb (d .number) 0 h)
+
+  module _ (z : d .number ≡ 0) where
+    pub stopped-rested : d .rested ≡ true → 0 ≡ stoppedBy u d
+    unfolding stoppedBy
+    stopped-rested h = rw (eq-eqb (d .number) 0 z, h)
+
+    module _ (h : d .rested ≡ false) {n : ℕ} (e : n ≡ roomIn (d .state .counters) u) where
+      pub stopped-used-up : n ≡ 0 → 47 ≡ stoppedBy u d
+      unfolding stoppedBy spend countOf allowanceOf
+      stopped-used-up k =
+          rw (eq-eqb (d .number) 0 z, h, le-ltb (countOf (d .state) u) (allowanceOf (d .state) u) (omega arith))
+
+      pub stopped-spent : (n ≡ 0 → ⊥) → 0 ≡ stoppedBy u d
+      unfolding stoppedBy spend countOf allowanceOf
+      stopped-spent k =
+          rw (eq-eqb (d .number) 0 z, h, lt-ltb (countOf (d .state) u) (allowanceOf (d .state) u) (omega arith))
 
 -- ---- begin and trace
 
-pub begun-is : (q : Plan) (way : Way) (st : State) (seed : ℕ) (t : Bool) (d : Driven) (r : Rest) → st ≡ startAt q → seed ≡ seedOf way
-    → t ≡ isDrawn way → d ≡ settledAt q t seed st → r ≡ restOf way d → r ≡ begunAt q way
+pub begun-is :
+    (q : Plan) (allowances : List ℕ) (u : ℕ) (way : Way) (st : State) (seed : ℕ) (t : Bool) (d : Driven) (r : Rest) →
+    st ≡ startAt q allowances → seed ≡ seedOf way → t ≡ isDrawn way → d ≡ settledAt q t seed st u → r ≡ restOf u way d →
+    r ≡ begunAt q allowances u way
 unfolding begunAt
-begun-is q way st seed t d r a b c e f = f ∙ ap (restOf way) (e ∙ (λ i. settledAt q (c i) (b i) (a i)))
+begun-is q allowances u way st seed t d r a b c e f = f ∙ ap (restOf u way) (e ∙ (λ i. settledAt q (c i) (b i) (a i) u))
 
-module _ (q : Plan) (r : Rest) (ns : List ℕ) (xs : List Bool) (w : List ℕ) where
+module _ (q : Plan) (r : Rest) (u : ℕ) (ns : List ℕ) (xs : List Bool) (w : List ℕ) where
   abbrev Answers : Traced → List ℕ → Type 0
-  Answers t v = (t ≡ tracedAt q r ns xs w) × (v ≡ rowsAt q r ns xs w)
+  Answers t v = (t ≡ tracedAt q r u ns xs w) × (v ≡ rowsAt q r u ns xs w)
 
   pub traced-none : length ns < 16 → Answers (traced 0 r) w
   unfolding tracedAt rowsAt
   traced-none h = (rw (lt-ltb (length ns) 16 h) refl, rw (lt-ltb (length ns) 16 h) refl)
 
   pub traced-run : 16 ≤ length ns → (t : Bool) → t ≡ isDrawn (r .way) → (d : Driven) (v : List ℕ)
-      → d ≡ driveAt q t (r .seed) (r .state) ns xs w → v ≡ drivenAt q t (r .seed) (r .state) ns xs w → (e : Rest) → e ≡ restOf (r .way) d
-      → Answers (traced (d .phases) e) v
+      → d ≡ driveAt q t (r .seed) (r .state) u ns xs w → v ≡ drivenAt q t (r .seed) (r .state) u ns xs w → (e : Rest)
+      → e ≡ restOf u (r .way) d → Answers (traced (d .phases) e) v
   unfolding tracedAt rowsAt
   traced-run h t c d v f g e k =
-      let f' = f ∙ ap (λ (b : Bool). driveAt q b (r .seed) (r .state) ns xs w) c in
-      let g' = g ∙ ap (λ (b : Bool). drivenAt q b (r .seed) (r .state) ns xs w) c in
+      let f' = f ∙ ap (λ (b : Bool). driveAt q b (r .seed) (r .state) u ns xs w) c in
+      let g' = g ∙ ap (λ (b : Bool). drivenAt q b (r .seed) (r .state) u ns xs w) c in
       (rw (le-ltb (length ns) 16 h, k, ← f') refl, rw (le-ltb (length ns) 16 h) g')
 
 -- ---- a row

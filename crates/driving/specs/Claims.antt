@@ -5,8 +5,8 @@
 use mathlib.Core.Path.{_≡_}
 use mathlib.Core.Bool.{Bool}
 use mathlib.Core.List.{List}
-use Prim.Native.Nat.{ℕ}
-use lib.ListN.{length}
+use Prim.Native.Nat.{ℕ, _^_, _<_}
+use lib.ListN.{length, getD}
 use Rattle.sheet.specs.Reading.{ok}
 use Rattle.sheet.specs.Expression.{Expr}
 use Rattle.sheet.specs.Module.{Module, read}
@@ -18,12 +18,13 @@ use Rattle.driving.specs.declared.Rest.{Rest}
 use Rattle.driving.specs.Plans.{begunAt, tracedAt, rowsAt, begunOn, tracedOn, rowsOn}
 
 pub record Same (s : List ℕ) (q : Plan) : Type 0 where
-  pub begin : (way : Way) → begunAt q way ≡ begunOn s way
+  pub begin : (allowances : List ℕ) → length allowances ≡ 4 → ((v : ℕ) → getD allowances v 0 < 2 ^ 32) → (u : ℕ) (way : Way)
+      → begunAt q allowances u way ≡ begunOn s allowances u way
   -- Every state that code has is of such lengths and numbers.
-  pub trace : (r : Rest) → Shaped (r .state) → Bounded (r .state) → (ns : List ℕ) (xs : List Bool) (w : List ℕ)
-      → tracedAt q r ns xs w ≡ tracedOn s r ns xs w
-  pub rows : (r : Rest) → Shaped (r .state) → Bounded (r .state) → (ns : List ℕ) (xs : List Bool) (w : List ℕ)
-      → rowsAt q r ns xs w ≡ rowsOn s r ns xs w
+  pub trace : (r : Rest) → Shaped (r .state) → Bounded (r .state) → (u : ℕ) (ns : List ℕ) (xs : List Bool) (w : List ℕ)
+      → tracedAt q r u ns xs w ≡ tracedOn s r u ns xs w
+  pub rows : (r : Rest) → Shaped (r .state) → Bounded (r .state) → (u : ℕ) (ns : List ℕ) (xs : List Bool) (w : List ℕ)
+      → rowsAt q r u ns xs w ≡ rowsOn s r u ns xs w
 
 unfoldable pub OnTheSheet : Type 0
 OnTheSheet = (s ws : List ℕ) (m : Module Expr) → read s ≡ ok m → length ws ≡ 25212 → Same s (planOf (preparedPlan s ws))

@@ -1,14 +1,15 @@
--- A module driven through clock cycles on its plan, by the way of the run: from the start to rest, and rows of inputs, two instants each,
--- each run to rest (`prepared_cycles`). Defined for plans of any contents; specs/Claims says what they are on an accepted sheet.
+-- A module driven through clock cycles on its plan by one user, by the way of the run: from the start to rest, and rows of inputs, two
+-- instants each, each run to rest (`prepared_cycles`). Defined for plans of any contents; specs/Claims says what they are on an accepted
+-- sheet.
 use mathlib.Core.Bool.{Bool, true, false}
 use mathlib.Core.List.{List}
 use Prim.Native.Nat.{ℕ, _+_}
 use lib.ListN.{length, getD}
 use lib.Dec.{ltb}
-use Rattle.values.specs.Values.{pick}
+use Rattle.values.specs.Values.{pick, _is_then_else_}
 use Rattle.state.specs.declared.State.{State}
 use Rattle.state.specs.Saved.{listOf}
-use Rattle.events.specs.Calls.{start}
+use Rattle.events.specs.Calls.{spend, start}
 use Rattle.nextstate.specs.declared.Registers.{Registers}
 use Rattle.options.specs.declared.Way.{Way}
 use Rattle.options.specs.declared.Way.the-variants.{Plain, Drawn, Expressed}
@@ -37,42 +38,46 @@ isDrawn Plain = false
 isDrawn (Drawn n) = true
 isDrawn Expressed = false
 
+-- The number that stopped driven cycles: where a run is not at rest and its user's allowance is used up, that did (47).
+unfoldable pub stoppedBy : ℕ → Driven → ℕ
+stoppedBy u d = d .number is 0 then pick (d .rested) 0 (spend (d .state) u) else d .number
+
 -- What driven cycles leave.
-unfoldable pub restOf : Way → Driven → Rest
-restOf way d = rest way (d .number) (d .rested) (d .state) (d .seed)
+unfoldable pub restOf : ℕ → Way → Driven → Rest
+restOf u way d = rest way (stoppedBy u d) (d .rested) (d .state) (d .seed)
 
 abbrev pub traced : ℕ → Rest → Traced
 traced p r = record { phases = p; rest = r }
 
 -- ---- on a plan
 
-unfoldable pub begunAt : Plan → Way → Rest
-begunAt q way = restOf way (settledAt q (isDrawn way) (seedOf way) (startAt q))
+unfoldable pub begunAt : Plan → List ℕ → ℕ → Way → Rest
+begunAt q allowances u way = restOf u way (settledAt q (isDrawn way) (seedOf way) (startAt q allowances) u)
 
-module _ (q : Plan) (r : Rest) (ns : List ℕ) (xs : List Bool) (w : List ℕ) where
+module _ (q : Plan) (r : Rest) (u : ℕ) (ns : List ℕ) (xs : List Bool) (w : List ℕ) where
   -- Where there is no row nothing is altered.
   unfoldable pub tracedAt : Traced
   tracedAt =
-      let d = driveAt q (isDrawn (r .way)) (r .seed) (r .state) ns xs w in
-      pick (ltb (length ns) 16) (traced 0 r) (traced (d .phases) (restOf (r .way) d))
+      let d = driveAt q (isDrawn (r .way)) (r .seed) (r .state) u ns xs w in
+      pick (ltb (length ns) 16) (traced 0 r) (traced (d .phases) (restOf u (r .way) d))
 
   -- What is left in what is lent.
   unfoldable pub rowsAt : List ℕ
-  rowsAt = pick (ltb (length ns) 16) w (drivenAt q (isDrawn (r .way)) (r .seed) (r .state) ns xs w)
+  rowsAt = pick (ltb (length ns) 16) w (drivenAt q (isDrawn (r .way)) (r .seed) (r .state) u ns xs w)
 
 -- ---- the same by the single calls on a sheet
 
-unfoldable pub begunOn : List ℕ → Way → Rest
-begunOn s way = restOf way (settled s (isDrawn way) (seedOf way) (start s .state))
+unfoldable pub begunOn : List ℕ → List ℕ → ℕ → Way → Rest
+begunOn s allowances u way = restOf u way (settled s (isDrawn way) (seedOf way) (start s allowances .state) u)
 
-module _ (s : List ℕ) (r : Rest) (ns : List ℕ) (xs : List Bool) (w : List ℕ) where
+module _ (s : List ℕ) (r : Rest) (u : ℕ) (ns : List ℕ) (xs : List Bool) (w : List ℕ) where
   unfoldable pub tracedOn : Traced
   tracedOn =
-      let d = driveCycles s (isDrawn (r .way)) (r .seed) (r .state) ns xs w in
-      pick (ltb (length ns) 16) (traced 0 r) (traced (d .phases) (restOf (r .way) d))
+      let d = driveCycles s (isDrawn (r .way)) (r .seed) (r .state) u ns xs w in
+      pick (ltb (length ns) 16) (traced 0 r) (traced (d .phases) (restOf u (r .way) d))
 
   unfoldable pub rowsOn : List ℕ
-  rowsOn = pick (ltb (length ns) 16) w (drivenCycles s (isDrawn (r .way)) (r .seed) (r .state) ns xs w)
+  rowsOn = pick (ltb (length ns) 16) w (drivenCycles s (isDrawn (r .way)) (r .seed) (r .state) u ns xs w)
 
 -- ---- a state's parts
 

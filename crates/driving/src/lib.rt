@@ -18,14 +18,18 @@ pub use states::row_of;
 ghost use mathlib.Core.Path.{_≡_};
 ghost use Rattle.plan.specs.Plan.{planOf};
 ghost use Rattle.driving.specs.Endings.{mostOf, endingOf, outcomeOf, isExpressed, lineOutcome, timeOf};
-ghost use Rattle.driving.specs.Plans.{seedOf, isDrawn, restOf, begunAt, tracedAt, rowsAt};
+ghost use Rattle.driving.specs.Plans.{seedOf, isDrawn, stoppedBy, restOf, begunAt, tracedAt, rowsAt};
 
 // How many choices a run to rest may take, of a plain run and of one whose choices are drawn.
 const PLAIN_MOST: u16 = 65535;
 
 const DRAWN_MOST: usize = 4000000;
 
-// A state, and how it is run: by which way, the number that refused a call, whether it came to rest, and the generator's next seed.
+// The number of a choice whose user's allowance is used up.
+const USED_UP: u8 = 47;
+
+// A state, and how it is run: by which way, the number that refused a call or stopped a run, whether it came to rest, and the generator's
+// next seed.
 pub struct Rest {
     pub way: Way,
     pub number: u8,
@@ -85,36 +89,62 @@ fn is_drawn(way: Way) -> bool
     }
 }
 
-// What driven cycles leave.
-fn rest_of(way: Way, d: Driven) -> Rest
-    ensures { λ e. ⌜ e ≡ restOf way d ⌝ }
+// The number that stopped driven cycles: where a run is not at rest and its user's allowance is used up, 47.
+fn stopped_by(user: u8, d: Driven) -> u8
+    ensures { λ n. ⌜ n ≡ stoppedBy user d ⌝ }
 {
+    if d.number != 0 {
+        return d.number;
+    }
+    if d.rested {
+        return 0;
+    }
+    let state = d.state;
+    let counters = state.counters;
+    if prepared::room_in(counters, user) == 0 {
+        return USED_UP;
+    }
+    0
+}
+
+// What driven cycles leave.
+fn rest_of(user: u8, way: Way, d: Driven) -> Rest
+    ensures { λ e. ⌜ e ≡ restOf user way d ⌝ }
+{
+    let number = stopped_by(user, d);
     let state = d.state;
     Rest {
         way,
-        number: d.number,
+        number,
         rested: d.rested,
         state,
         seed: d.seed,
     }
 }
 
-// The state at the start, at rest.
-pub fn begin(plan: &PlanTable, way: Way) -> Rest
-    ensures { λ e. ⌜ e ≡ begunAt (planOf (now (plan .entry))) way ⌝ }
+// The state at the start with these allowances, run to rest by a user.
+pub fn begin(plan: &PlanTable, allowances: [u32; 4], user: u8, way: Way) -> Rest
+    ensures { λ e. ⌜ e ≡ begunAt (planOf (now (plan .entry))) allowances user way ⌝ }
 {
-    let st = prepared::start(plan);
+    let st = prepared::start(plan, allowances);
     let seed = seed_of(way);
-    let d = prepared_cycles::settle(plan, st, is_drawn(way), seed);
-    rest_of(way, d)
+    let d = prepared_cycles::settle(plan, st, user, is_drawn(way), seed);
+    rest_of(user, way, d)
 }
 
-// Rows of 16 inputs, for each an instant with the clock low and one with the clock high, each run to rest; the row of each that came to
-// rest is written into what is lent, 88 words.
-pub fn trace(plan: &PlanTable, r: Rest, value: &[u32], unknown: &[bool], out: &mut [u64]) -> Traced
-    ensures { λ t. ⌜ t ≡ tracedAt (planOf (now (plan .entry))) r (now (value .entry)) (now (unknown .entry)) (now (out .entry)) ⌝ }
+// Rows of 16 inputs, for each an instant with the clock low and one with the clock high, each run to rest by a user; the row of each that
+// came to rest is written into what is lent, 88 words.
+pub fn trace(
+    plan: &PlanTable,
+    r: Rest,
+    user: u8,
+    value: &[u32],
+    unknown: &[bool],
+    out: &mut [u64],
+) -> Traced
+    ensures { λ t. ⌜ t ≡ tracedAt (planOf (now (plan .entry))) r user (now (value .entry)) (now (unknown .entry)) (now (out .entry)) ⌝ }
     ensures { λ _. ⌜
-        now (out .exit) ≡ rowsAt (planOf (now (plan .entry))) r (now (value .entry)) (now (unknown .entry)) (now (out .entry))
+        now (out .exit) ≡ rowsAt (planOf (now (plan .entry))) r user (now (value .entry)) (now (unknown .entry)) (now (out .entry))
         ⌝ }
 {
     if value.len() < 16 {
@@ -122,8 +152,8 @@ pub fn trace(plan: &PlanTable, r: Rest, value: &[u32], unknown: &[bool], out: &m
     }
     let way = r.way;
     let st = r.state;
-    let d = prepared_cycles::drive(plan, st, is_drawn(way), r.seed, value, unknown, out);
-    let rest = rest_of(way, d);
+    let d = prepared_cycles::drive(plan, st, user, is_drawn(way), r.seed, value, unknown, out);
+    let rest = rest_of(user, way, d);
     Traced {
         phases: d.phases,
         rest,

@@ -1,18 +1,20 @@
 -- Demand 2, as specs/Runs states it: the calls accept every step that the simulation cycle allows, with the state that it leaves,
 -- and no other; and the runs' accepted choices are such steps, one after the other. Assumes nothing.
-use mathlib.Core.Path.{_≡_, refl, sym}
+use mathlib.Core.Path.{_≡_, refl, sym, _∙_}
 use mathlib.Core.Logic.{_≢_}
 use mathlib.Core.Bool.{Bool, true, false}
 use mathlib.Core.List.{List}
-use Prim.Native.Nat.{ℕ, _≤_}
+use Prim.Native.Nat.{ℕ, _≤_, _<_}
 use native.Mathlib.Omega.{arith}
+use lib.Dec.{ltb}
+use borrow.Author.Tests.{ltb-true, ltb-false}
 use Rattle.values.specs.Values.{pick}
 use Rattle.sheet.specs.Reading.{Res, ok, no}
 use Rattle.sheet.specs.Expression.{Expr, tree}
 use Rattle.sheet.specs.Module.{Module, Sheet, readSheet, read}
 use Rattle.sheet.proofs.Numbers.{numbered-no, tree-numbered, sheet-numbered}
 use Rattle.state.specs.declared.State.{State}
-use Rattle.state.specs.State.{Shaped, full}
+use Rattle.state.specs.State.{Shaped, full, users, countOf, allowanceOf}
 use Rattle.soundness.proofs.Soundness.{sound}
 use Rattle.events.specs.declared.Inputs.{Inputs}
 use Rattle.events.specs.declared.Chosen.{Chosen}
@@ -22,8 +24,9 @@ use Rattle.events.specs.declared.Rested.{Rested}
 use Rattle.events.specs.Calls.{stateFits, judged, chooseIn, choose, inputOf, inputsFit, instantIn, instant}
 use Rattle.events.specs.Calls.{runIn, runList, runBy, plainChoice, runPlain}
 use Rattle.events.specs.Steps.{Step, Instant, Alike}
-use Rattle.events.specs.Runs.{Refuses, a-sheet, a-state, Accepts, ListRun, PlainRun, refused-call, a-run, a-plain-run, Demand2}
+use Rattle.events.specs.Runs.{Refuses, a-sheet, a-state, Accepts, RunRefuses, a-call, a-user, ListRun, PlainRun, refused-call, a-run, a-plain-run, Demand2}
 use Rattle.events.proofs.Runs.{over-runIn, chain-runIn, plainly-runBy, length-choicesBy, ended-plain, says}
+use Rattle.events.proofs.Fits.{fits-state}
 use Rattle.events.proofs.Steps.{step-chooseIn, alike-chooseIn, instant-instantIn, alike-instantIn}
 
 -- ---- a call that is answered with 0: the sheet was read, the state fits it, and the call on the module answers 0 with that state
@@ -72,20 +75,22 @@ judged-fits s m st call k = rw (k .reads, k .fits) refl
 
 -- ---- choices
 
-accepted-choice : (s : List ℕ) (st : State) (c : ℕ) → Shaped st → choose s st c .number ≡ 0 →
-    (m : Module Expr) × Accepts s st m × Step m st (choose s st c .state) c
+accepted-choice : (s : List ℕ) (st : State) (u c : ℕ) → Shaped st → choose s st u c .number ≡ 0 →
+    (m : Module Expr) × Accepts s st m × Step m st (choose s st u c .state) u c
 unfolding choose
-accepted-choice s st c shaped h =
-    let t = judged-taken s st (λ m. chooseIn m st c) (numbered s) h in
+accepted-choice s st u c shaped h =
+    let t = judged-taken s st (λ m. chooseIn m st u c) (numbered s) h in
     let m = t .contents in
-    let z : chooseIn m st c .number ≡ 0 = rw (t .same) at h in
-    (m, t .accepts, rw (t .same) (step-chooseIn m (sound s (t .accepts .reads)) st shaped c z))
+    let z : chooseIn m st u c .number ≡ 0 = rw (t .same) at h in
+    (m, t .accepts, rw (t .same) (step-chooseIn m (sound s (t .accepts .reads)) st shaped u c z))
 
-allowed-choice : (s : List ℕ) (m : Module Expr) (old new : State) (c : ℕ) → Accepts s old m → Shaped old → Step m old new c →
-    old .counters .count ≢ full → (choose s old c .number ≡ 0) × Alike m (choose s old c .state) new
+allowed-choice : (s : List ℕ) (m : Module Expr) (old new : State) (u c : ℕ) → Accepts s old m → Shaped old → Step m old new u c →
+    countOf old u ≢ allowanceOf old u → (choose s old u c .number ≡ 0) × Alike m (choose s old u c .state) new
 unfolding choose
-allowed-choice s m old new c k shaped step room =
-    rw (judged-fits s m old (λ n. chooseIn n old c) k) (alike-chooseIn m (sound s (k .reads)) old new shaped c step room)
+allowed-choice s m old new u c k shaped step room =
+    let most : countOf old u ≤ allowanceOf old u = fits-state m old shaped (k .fits) .counts u (step .user) in
+    let below : countOf old u < allowanceOf old u = omega arith in
+    rw (judged-fits s m old (λ n. chooseIn n old u c) k) (alike-chooseIn m (sound s (k .reads)) old new shaped u c step below)
 
 -- ---- instants
 
@@ -126,32 +131,60 @@ module _ {A : Type 0} (s : List ℕ) (st : State) (bad : ℕ → A) (good : Modu
 
 -- ---- the runs
 
-list-run : (s : List ℕ) (st : State) (cs : List ℕ) → Shaped st → ListRun s st cs (runList s st cs)
+-- A run is refused, or it is the run on the module, of one of the four users.
+module _ {A : Type 0} (s : List ℕ) (st : State) (u : ℕ) (bad : ℕ → A) (good : Module Expr → A) where
+  pub data RunJudged (r : A) : Type 0 where
+    run-refused : {n : ℕ} → RunRefuses s st u n → r ≡ bad n → RunJudged r
+    run-called : {m : Module Expr} → Accepts s st m → u < users → r ≡ good m → RunJudged r
+
+  pub judged-run : RunJudged (judged (read s) st bad (λ m. pick (ltb u users) (good m) (bad 46)))
+  judged-run = by (judged-judged s st bad (λ m. pick (ltb u users) (good m) (bad 46))) (ltb u users) refl
+    where
+      by : {r : A} → Judged s st bad (λ m. pick (ltb u users) (good m) (bad 46)) r → (t : Bool) → ltb u users ≡ t → RunJudged r
+      by (refuses x q) t h = run-refused (a-call x) q
+      by (called k q) true h = run-called k (ltb-true u users h) (q ∙ (rw h refl))
+      by (called k q) false h = run-refused (a-user k (ltb-false u users h)) (q ∙ (rw h refl))
+
+-- "for either run's one user, after 31": a sheet or a state that is refused is refused whoever the user is.
+pub runList-refused : (s : List ℕ) (st : State) (u : ℕ) (cs : List ℕ) (n : ℕ) → Refuses s st n →
+    runList s st u cs ≡ record { accepted = 0; number = n; state = st }
+unfolding runList judged
+runList-refused s st u cs n (a-sheet e) = rw e
+runList-refused s st u cs n (a-state e f) = rw (e, f)
+
+pub runPlain-refused : (s : List ℕ) (st : State) (u k n : ℕ) → Refuses s st n →
+    runPlain s st u k ≡ record { accepted = 0; verdict = Refused n; state = st }
+unfolding runPlain judged
+runPlain-refused s st u k n (a-sheet e) = rw e
+runPlain-refused s st u k n (a-state e f) = rw (e, f)
+
+list-run : (s : List ℕ) (st : State) (u : ℕ) (cs : List ℕ) → Shaped st → ListRun s st u cs (runList s st u cs)
 unfolding runList
-list-run s st cs shaped = by (judged-judged s st bad (λ m. runIn m cs st))
+list-run s st u cs shaped = by (judged-run s st u bad (λ m. runIn m u cs st))
   where
     bad : ℕ → Ran
     bad n = record { accepted = 0; number = n; state = st }
 
-    by : {r : Ran} → Judged s st bad (λ m. runIn m cs st) r → ListRun s st cs r
-    by (refuses x q) = refused-call x q
-    by (called {m = m} k q) = rw q (a-run k (chain-runIn m (sound s (k .reads)) cs st shaped) (over-runIn m cs st))
+    by : {r : Ran} → RunJudged s st u bad (λ m. runIn m u cs st) r → ListRun s st u cs r
+    by (run-refused x q) = refused-call x q
+    by (run-called {m = m} k l q) =
+        rw q (a-run k l (chain-runIn m u (sound s (k .reads)) cs st shaped) (over-runIn m u cs st))
 
-plain-run : (s : List ℕ) (st : State) (n : ℕ) → Shaped st → PlainRun s st n (runPlain s st n)
+plain-run : (s : List ℕ) (st : State) (u n : ℕ) → Shaped st → PlainRun s st u n (runPlain s st u n)
 unfolding runPlain
-plain-run s st n shaped = by (judged-judged s st bad (λ m. runBy m (plainChoice m) n st))
+plain-run s st u n shaped = by (judged-run s st u bad (λ m. runBy m u (plainChoice m) n st))
   where
     bad : ℕ → Rested
     bad k = record { accepted = 0; verdict = Refused k; state = st }
 
-    by : {r : Rested} → Judged s st bad (λ m. runBy m (plainChoice m) n st) r → PlainRun s st n r
-    by (refuses x q) = refused-call x q
-    by (called {m = m} k q) =
+    by : {r : Rested} → RunJudged s st u bad (λ m. runBy m u (plainChoice m) n st) r → PlainRun s st u n r
+    by (run-refused x q) = refused-call x q
+    by (run-called {m = m} k l q) =
         let w = sound s (k .reads) in
-        let e = ended-plain m w n st in
+        let e = ended-plain m u w l n st shaped (fits-state m st shaped (k .fits)) in
         rw q
-        (a-plain-run k (plainly-runBy m w n st shaped) (sym (length-choicesBy m (plainChoice m) n st)) e
-        (says m n (runBy m (plainChoice m) n st) e))
+        (a-plain-run k l (plainly-runBy m u w n st shaped) (sym (length-choicesBy m u (plainChoice m) n st)) e
+        (says m u n (runBy m u (plainChoice m) n st) e))
 
 -- ---- demand 2
 

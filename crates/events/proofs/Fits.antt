@@ -4,14 +4,15 @@
 use mathlib.Core.Path.{_≡_, refl, sym, _∙_}
 use mathlib.Core.Logic.{_≢_}
 use mathlib.Core.Bool.{Bool, true, false, not, _&&_}
+use mathlib.Core.List.{List}
 use mathlib.Core.Option.{Option, none, some}
 use Prim.Native.Nat.{ℕ, zero, suc, _+_, _-_, _≤_, _<_}
 use native.Mathlib.Decide.{ℕ-discrete, decLt}
 use native.Mathlib.Omega.{arith}
 use lib.ListN.{length, getD, replicate, List·getD-eq-default, set, length-set}
 use lib.Seq.{getD-set-same, getD-set-other}
-use lib.Dec.{ltb, eqb}
-use borrow.Author.Tests.{not-true, ltb-true, lt-ltb, le-ltb}
+use lib.Dec.{ltb, leb, eqb}
+use borrow.Author.Tests.{not-true, ltb-true, lt-ltb, le-ltb, leb-true, le-leb}
 use Rattle.values.specs.declared.Value.{Value}
 use Rattle.values.specs.declared.Value.the-variants.{Unknown}
 use Rattle.values.specs.Values.{fits}
@@ -23,18 +24,22 @@ use Rattle.sheet.specs.Module.{Module}
 use Rattle.evaluation.specs.Evaluation.{eval, reads}
 use Rattle.pseudocode.specs.Translation.{Instr, set!, later!, go, ifnot}
 use Rattle.state.specs.declared.State.{State}
-use Rattle.state.specs.State.{Shaped, valueOf, pendingOf, placeOf, isDue}
+use Rattle.state.specs.State.{Shaped, users, countOf, allowanceOf, valueOf, pendingOf, placeOf, isDue}
 use Rattle.soundness.specs.Soundness.{Fitting, Sound, SoundTarget, SoundInstr, sound-wait, sound-set, sound-later, sound-go, sound-ifnot}
 use Rattle.events.specs.declared.Inputs.{Inputs}
 use Rattle.events.specs.Cycle.{codeOf, wireExpr, wireVariable, allBelow, isSome, quiet, waitFires, feed}
 use Rattle.events.specs.Calls.{dueBelow, started, widthOf, pendingFits, stateFits, refusal, performed, chooseIn, inputOf, inputsFit, timed, instantRefusal, instantIn}
 use Rattle.events.specs.Steps.{latest, Calm, Fired, goes-on, stays, Marked, was-due, reads-changed, not-due, Acts, assigns, defers, jumps, goes-in, passes-by, settles, commits, Step, Instant}
 use Rattle.events.proofs.Cycle.{absurd-bool, and-left, and-right, all-below, below-all, wireExpr-past, Variable, a-register, no-register, register?}
-use Rattle.events.proofs.Choices.{isSome-none, none-isSome, sound-current, Ready, ready-refusal, chooseIn-accepted, chooseIn-refused, accepted-instant, instantIn-accepted, instantIn-refused}
+use Rattle.events.proofs.Choices.{isSome-none, none-isSome, sound-current, Ready, ready-refusal, user-refusal, room-refusal, chooseIn-accepted, chooseIn-refused, accepted-instant, instantIn-accepted, instantIn-refused}
 use Rattle.events.proofs.Steps.{step-performed, instant-feed}
 
 -- ---- Fits: "31 state doesn't fit the sheet (value or pending too wide; place outside its thread ..; mark or pending past the
--- sheet's)", and it does
+-- sheet's)", and "(a count above it is 31)"; here it does
+
+-- No count is above its allowance.
+abbrev pub CountsFit : State → Type 0
+CountsFit st = (u : ℕ) → u < users → countOf st u ≤ allowanceOf st u
 
 pub record Fits (m : Module Expr) (st : State) : Type 0 where
   pub values : (v : ℕ) → v < length (m .scope .widths) → fits (widthOf m v) (valueOf st v) ≡ true
@@ -42,6 +47,7 @@ pub record Fits (m : Module Expr) (st : State) : Type 0 where
   pub places : (i : ℕ) → i < length (m .threads) → placeOf st i < length (codeOf m i)
   pub marks-past : (k : ℕ) → length (m .wires) ≤ k → isDue st k ≡ false
   pub pending-past : (r : ℕ) → m .scope .registers ≤ r → pendingOf st r ≡ none
+  pub counts : CountsFit st
 
 -- ---- past the arrays' ends
 
@@ -79,6 +85,9 @@ module _ (m : Module Expr) (st : State) where
   abbrev pastFit : Bool
   pastFit = allBelow (32 - registers) (λ r. not (isSome (pendingOf st (registers + r))))
 
+  abbrev countsFit : Bool
+  countsFit = allBelow users (λ u. leb (countOf st u) (allowanceOf st u))
+
   -- A number from n up to 32, or past it.
   from : (n k : ℕ) (test : ℕ → Bool) → n ≤ k → allBelow (32 - n) (λ j. not (test (n + j))) ≡ true → (32 ≤ k → test k ≡ false) →
       test k ≡ false
@@ -93,7 +102,8 @@ module _ (m : Module Expr) (st : State) where
   pub fits-state : Shaped st → stateFits m st ≡ true → Fits m st
   unfolding stateFits
   fits-state s h =
-      let h3 = and-left (valuesFit && slotsFit && placesFit && marksFit) pastFit h in
+      let h4 = and-left (valuesFit && slotsFit && placesFit && marksFit && pastFit) countsFit h in
+      let h3 = and-left (valuesFit && slotsFit && placesFit && marksFit) pastFit h4 in
       let h2 = and-left (valuesFit && slotsFit && placesFit) marksFit h3 in
       let h1 = and-left (valuesFit && slotsFit) placesFit h2 in
       record {
@@ -108,8 +118,11 @@ module _ (m : Module Expr) (st : State) where
             (due-past st k s);
         pending-past = λ r l. isSome-none (pendingOf st r)
             (from registers r (λ q. isSome (pendingOf st q)) l
-            (and-right (valuesFit && slotsFit && placesFit && marksFit) pastFit h)
+            (and-right (valuesFit && slotsFit && placesFit && marksFit) pastFit h4)
             (λ b. none-isSome (pendingOf st r) (none-past st r s b)));
+        counts = λ u l. leb-true (countOf st u) (allowanceOf st u)
+            (all-below (λ u. leb (countOf st u) (allowanceOf st u)) users
+            (and-right (valuesFit && slotsFit && placesFit && marksFit && pastFit) countsFit h) u l);
       }
 
   pub state-fits : Fits m st → stateFits m st ≡ true
@@ -123,6 +136,8 @@ module _ (m : Module Expr) (st : State) where
         below-all (λ k. not (isDue st (wires + k))) (32 - wires) (λ k l. rw (f .marks-past (wires + k) (omega arith)) refl),
         below-all (λ r. not (isSome (pendingOf st (registers + r)))) (32 - registers)
             (λ r l. rw (none-isSome (pendingOf st (registers + r)) (f .pending-past (registers + r) (omega arith))) refl),
+        below-all (λ u. leb (countOf st u) (allowanceOf st u)) users
+            (λ u l. le-leb (countOf st u) (allowanceOf st u) (f .counts u l)),
       )
       refl
 
@@ -200,21 +215,22 @@ module _ (m : Module Expr) (w : Sound m) (old new : State) (f : Fits m old) wher
   fits-calm :
       (i : ℕ) → placeOf new i < length (codeOf m i) → Calm m old new i →
       ((r : ℕ) → r < m .scope .registers → pendingFits (widthOf m (m .scope .inputs + r)) (pendingOf new r) ≡ true) →
-      ((r : ℕ) → m .scope .registers ≤ r → pendingOf new r ≡ none) → Fits m new
-  fits-calm i h c pending past =
+      ((r : ℕ) → m .scope .registers ≤ r → pendingOf new r ≡ none) → CountsFit new → Fits m new
+  fits-calm i h c pending past counts =
       record {
         values = λ v l. rw (c .values v) (f .values v l);
         pending = pending;
         places = one-place i h (λ j l d. rw (c .places j d) (f .places j l));
         marks-past = λ k l. c .marks k ∙ f .marks-past k l;
         pending-past = past;
+        counts = counts;
       }
 
   fits-moved :
       (i : ℕ) → placeOf new i < length (codeOf m i) → Calm m old new i → ((r : ℕ) → pendingOf new r ≡ pendingOf old r) →
-      Fits m new
-  fits-moved i h c same =
-      fits-calm i h c (λ r l. rw (same r) (f .pending r l)) (λ r l. same r ∙ f .pending-past r l)
+      CountsFit new → Fits m new
+  fits-moved i h c same counts =
+      fits-calm i h c (λ r l. rw (same r) (f .pending r l)) (λ r l. same r ∙ f .pending-past r l) counts
 
   -- ---- a later assignment, and the commit of them all
 
@@ -248,9 +264,9 @@ module _ (m : Module Expr) (w : Sound m) (old new : State) (f : Fits m old) wher
 
   -- ---- the steps
 
-  pub fits-acts : {c : ℕ} → Acts m old new c → Fits m new
+  pub fits-acts : {c : ℕ} → CountsFit new → Acts m old new c → Fits m new
   unfolding widthOf pendingFits wireVariable wireExpr
-  fits-acts (assigns {i = i} {t = t} {e = e} l h value others place reacted same) =
+  fits-acts counts (assigns {i = i} {t = t} {e = e} l h value others place reacted same) =
       let x = next-set (rw h at (sound-current m w old i l)) in
       record {
         values = one-value m old new f t (rw value (x .1 .expression .fits-width (valueOf old) (fitting m old f))) others;
@@ -258,20 +274,21 @@ module _ (m : Module Expr) (w : Sound m) (old new : State) (f : Fits m old) wher
         places = one-place i (rw place (x .0)) (λ j b d. place-fired j b (reacted .threads j d));
         marks-past = λ k b. mark-past k b (isDue old k) (f .marks-past k b) (reacted .wires k);
         pending-past = λ r b. same r ∙ f .pending-past r b;
+        counts = counts;
       }
-  fits-acts (defers {i = i} {t = t} {e = e} l h slot others place calm) =
+  fits-acts counts (defers {i = i} {t = t} {e = e} l h slot others place calm) =
       let x = next-later (rw h at (sound-current m w old i l)) in
       let high = x .1 .register in
       let low = x .1 .not-input in
       fits-calm i (rw place (x .0)) calm (one-slot t e (x .1) slot others)
-      (λ r b. others r (λ q. omega arith) ∙ f .pending-past r b)
-  fits-acts (jumps {i = i} l h place calm same) =
-      fits-moved i (rw place (goal-go (rw h at (sound-current m w old i l)))) calm same
-  fits-acts (goes-in {i = i} l h holds place calm same) =
-      fits-moved i (rw place (goal-ifnot (rw h at (sound-current m w old i l)) .0)) calm same
-  fits-acts (passes-by {i = i} l h holds place calm same) =
-      fits-moved i (rw place (goal-ifnot (rw h at (sound-current m w old i l)) .1)) calm same
-  fits-acts (settles {k = k} l h value others reacted same) =
+      (λ r b. others r (λ q. omega arith) ∙ f .pending-past r b) counts
+  fits-acts counts (jumps {i = i} l h place calm same) =
+      fits-moved i (rw place (goal-go (rw h at (sound-current m w old i l)))) calm same counts
+  fits-acts counts (goes-in {i = i} l h holds place calm same) =
+      fits-moved i (rw place (goal-ifnot (rw h at (sound-current m w old i l)) .0)) calm same counts
+  fits-acts counts (passes-by {i = i} l h holds place calm same) =
+      fits-moved i (rw place (goal-ifnot (rw h at (sound-current m w old i l)) .1)) calm same counts
+  fits-acts counts (settles {k = k} l h value others reacted same) =
       record {
         values = one-value m old new f (wireVariable m k)
             (rw value (w .wire k l .fits-width (valueOf old) (fitting m old f))) others;
@@ -279,18 +296,28 @@ module _ (m : Module Expr) (w : Sound m) (old new : State) (f : Fits m old) wher
         places = λ j b. place-fired j b (reacted .threads j (λ z. z));
         marks-past = λ j b. mark-past j b (isDue old j && not (eqb j k)) (rw (f .marks-past j b) refl) (reacted .wires j);
         pending-past = λ r b. same r ∙ f .pending-past r b;
+        counts = counts;
       }
-  fits-acts (commits h q l p values others emptied rest reacted) =
+  fits-acts counts (commits h q l p values others emptied rest reacted) =
       record {
         values = committed-values values others;
         pending = λ r b. rw (emptied r b) refl;
         places = λ j b. place-fired j b (reacted .threads j (λ z. z));
         marks-past = λ k b. mark-past k b (isDue old k) (f .marks-past k b) (reacted .wires k);
         pending-past = λ r b. rest r (λ z. omega arith) ∙ f .pending-past r b;
+        counts = counts;
       }
 
-  pub fits-step : (c : ℕ) → Step m old new c → Fits m new
-  fits-step c s = fits-acts (s .acts)
+  -- A step of a user that has room.
+  pub counts-step : (u c : ℕ) → Step m old new u c → countOf old u < allowanceOf old u → CountsFit new
+  counts-step u c s room v l = by (ℕ-discrete v u)
+    where
+      by : Dec (v ≡ u) → countOf new v ≤ allowanceOf new v
+      by (yes e) = rw e (rw (s .count, s .allowances u) (omega arith))
+      by (no d) = rw (s .other-counts v d, s .allowances v) (f .counts v l)
+
+  pub fits-step : (u c : ℕ) → Step m old new u c → countOf old u < allowanceOf old u → Fits m new
+  fits-step u c s room = fits-acts (counts-step u c s room) (s .acts)
 
   pub fits-instant :
       (a : ℕ → Value) → ((v : ℕ) → v < m .scope .inputs → fits (widthOf m v) (a v) ≡ true) → Instant m old new a → Fits m new
@@ -301,6 +328,7 @@ module _ (m : Module Expr) (w : Sound m) (old new : State) (f : Fits m old) wher
         places = λ j b. place-fired j b (s .reacted .threads j (λ z. z));
         marks-past = λ k b. mark-past k b (isDue old k) (f .marks-past k b) (s .reacted .wires k);
         pending-past = λ r b. s .pending r ∙ f .pending-past r b;
+        counts = λ v b. rw (s .counts v, s .allowances v) (f .counts v b);
       }
     where
       by : (v : ℕ) → v < length (m .scope .widths) → Dec (v < m .scope .inputs) → fits (widthOf m v) (valueOf new v) ≡ true
@@ -319,15 +347,17 @@ fits-inputs m a h v l =
     (and-right (eqb (a .count) (m .scope .inputs)) (allBelow (m .scope .inputs) test) h) v l
 
 module _ (m : Module Expr) (w : Sound m) (st : State) (s : Shaped st) (f : Fits m st) where
-  pub fits-performed : (c : ℕ) → Ready m st c → Fits m (performed m st c)
-  fits-performed c h = fits-step m w st (performed m st c) f c (step-performed m w st s c h)
+  pub fits-performed : (u c : ℕ) → refusal m st u c ≡ 0 → Fits m (performed m st u c)
+  fits-performed u c z =
+      fits-step m w st (performed m st u c) f u c (step-performed m w st s u c (user-refusal m st u c z) (ready-refusal m st u c z))
+      (room-refusal m st u w c z)
 
-  pub fits-chooseIn : (c : ℕ) → Fits m (chooseIn m st c .state)
-  fits-chooseIn c = by (ℕ-discrete (refusal m st c) 0)
+  pub fits-chooseIn : (u c : ℕ) → Fits m (chooseIn m st u c .state)
+  fits-chooseIn u c = by (ℕ-discrete (refusal m st u c) 0)
     where
-      by : Dec (refusal m st c ≡ 0) → Fits m (chooseIn m st c .state)
-      by (yes z) = rw (chooseIn-accepted m st c z) (fits-performed c (ready-refusal m st c z))
-      by (no d) = rw (chooseIn-refused m st c d) f
+      by : Dec (refusal m st u c ≡ 0) → Fits m (chooseIn m st u c .state)
+      by (yes z) = rw (chooseIn-accepted m st u c z) (fits-performed u c z)
+      by (no d) = rw (chooseIn-refused m st u c d) f
 
   pub fits-feed : (a : Inputs) → inputsFit m a ≡ true → quiet m st ≡ true → Fits m (feed m (inputOf a) (timed st))
   fits-feed a h q =
@@ -368,45 +398,61 @@ getD-dueBelow (suc n) k h = by (ℕ-discrete k n) (decLt k n) (getD-dueBelow n k
     by (no d) (no b) q l =
         getD-set-other (dueBelow n) n k true false d ∙ q ∙ le-ltb k n (omega arith) ∙ sym (le-ltb k (suc n) (omega arith))
 
-pub shaped-started : (n : ℕ) → Shaped (started n)
-unfolding started
-shaped-started n =
-    record {
-      value = refl;
-      unknown = refl;
-      pending = refl;
-      unsure = refl;
-      held = refl;
-      places = refl;
-      due = length-dueBelow n;
-    }
+-- The start with n wires and these four allowances.
+module _ (n : ℕ) (allowances : List ℕ) where
+  pub shaped-started : length allowances ≡ users → Shaped (started n allowances)
+  unfolding started
+  shaped-started h =
+      record {
+        value = refl;
+        unknown = refl;
+        pending = refl;
+        unsure = refl;
+        held = refl;
+        places = refl;
+        due = length-dueBelow n;
+        counts = refl;
+        allowances = h;
+      }
 
-pub value-started : (n v : ℕ) → valueOf (started n) v ≡ Unknown
-unfolding started valueOf valueAt
-value-started n v =
-    rw (getD-all 80 v true) (pick-same (ltb v 80) Unknown)
+  pub value-started : (v : ℕ) → valueOf (started n allowances) v ≡ Unknown
+  unfolding started valueOf valueAt
+  value-started v = rw (getD-all 80 v true) (pick-same (ltb v 80) Unknown)
 
-pub pending-started : (n r : ℕ) → pendingOf (started n) r ≡ none
-unfolding started pendingOf
-pending-started n r = rw (getD-all 32 r false)
+  pub pending-started : (r : ℕ) → pendingOf (started n allowances) r ≡ none
+  unfolding started pendingOf
+  pending-started r = rw (getD-all 32 r false)
 
-pub place-started : (n i : ℕ) → placeOf (started n) i ≡ 0
-unfolding started placeOf
-place-started n i = getD-all 8 i 0
+  pub place-started : (i : ℕ) → placeOf (started n allowances) i ≡ 0
+  unfolding started placeOf
+  place-started i = getD-all 8 i 0
 
-pub due-started : (n k : ℕ) → n ≤ 32 → isDue (started n) k ≡ ltb k n
-unfolding started isDue
-due-started n k h = getD-dueBelow n k h
+  pub due-started : (k : ℕ) → n ≤ 32 → isDue (started n allowances) k ≡ ltb k n
+  unfolding started isDue
+  due-started k h = getD-dueBelow n k h
+
+  pub time-started : started n allowances .counters .time ≡ 0
+  unfolding started
+  time-started = refl
+
+  pub count-started : (u : ℕ) → countOf (started n allowances) u ≡ 0
+  unfolding started countOf
+  count-started u = getD-all 4 u 0
+
+  pub allowance-started : (u : ℕ) → allowanceOf (started n allowances) u ≡ getD allowances u 0
+  unfolding started allowanceOf
+  allowance-started u = refl
 
 -- "At the start all is x, places and counters 0, every wire due."
-pub fits-started : (m : Module Expr) → Sound m → Fits m (started (length (m .wires)))
+pub fits-started : (m : Module Expr) → Sound m → (allowances : List ℕ) → Fits m (started (length (m .wires)) allowances)
 unfolding pendingFits codeOf
-fits-started m w =
+fits-started m w allowances =
     let n = length (m .wires) in
     record {
-      values = λ v l. rw (value-started n v) (fits-unknown (widthOf m v));
-      pending = λ r l. rw (pending-started n r) refl;
-      places = λ i l. rw (place-started n i) (w .code i l .some);
-      marks-past = λ k l. due-started n k (w .wires-most) ∙ le-ltb k n l;
-      pending-past = λ r l. pending-started n r;
+      values = λ v l. rw (value-started n allowances v) (fits-unknown (widthOf m v));
+      pending = λ r l. rw (pending-started n allowances r) refl;
+      places = λ i l. rw (place-started n allowances i) (w .code i l .some);
+      marks-past = λ k l. due-started n allowances k (w .wires-most) ∙ le-ltb k n l;
+      pending-past = λ r l. pending-started n allowances r;
+      counts = λ u l. rw (count-started n allowances u) (omega arith);
     }

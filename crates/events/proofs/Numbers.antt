@@ -1,6 +1,6 @@
 -- The numbers of a choice and of an instant stand exactly on their conditions, as specs/Numbers states it. Assumes nothing.
 use mathlib.Core.Path.{_≡_, refl, sym, ap, _∙_}
-use mathlib.Core.Logic.{_≢_}
+use mathlib.Core.Logic.{_≢_, inl, inr}
 use mathlib.Core.Bool.{Bool, true, false}
 use mathlib.Core.List.{List}
 use Prim.Native.Nat.{ℕ, _≤_, _<_}
@@ -10,68 +10,93 @@ use Rattle.values.specs.Values.{pick}
 use Rattle.sheet.specs.Expression.{Expr}
 use Rattle.sheet.specs.Module.{Module, read}
 use Rattle.state.specs.declared.State.{State}
-use Rattle.state.specs.State.{full}
+use Rattle.state.specs.State.{full, users, countOf, allowanceOf}
 use Rattle.events.specs.declared.Inputs.{Inputs}
 use Rattle.events.specs.declared.Chosen.{Chosen}
 use Rattle.events.specs.Cycle.{items, enabled, anyEnabled, anyPending, quiet}
-use Rattle.events.specs.Calls.{judged, spend, refusal, chooseIn, choose, inputsFit, instantRefusal, instantIn, instant}
+use Rattle.events.specs.Calls.{judged, spendTime, spend, byUser, refusal, chooseIn, choose, inputsFit, instantRefusal, instantIn, instant}
 use Rattle.events.specs.Runs.{Refuses, a-sheet, a-state, Accepts}
-use Rattle.events.specs.Numbers.{ChoiceNumber, no-item, not-enabled, item-full, item-taken, one-enabled, none-pending, commit-full, commit-taken}
+use Rattle.events.specs.Numbers.{ChoiceNumber, no-item, no-user, not-enabled, item-used-up, item-taken, one-enabled, none-pending, commit-used-up, commit-taken}
 use Rattle.events.specs.Numbers.{InstantNumber, ill-fitting, not-quiet, time-full, instant-taken, Exactly}
 use Rattle.events.proofs.Choices.{number-chooseIn, number-instantIn}
 use Rattle.events.proofs.Accepted.{judged-fits}
 
--- 36 where the counter is full, else 0.
-spent : (P : ℕ → Type 0) (n : ℕ) → (n ≡ full → P 36) → (n ≢ full → P 0) → P (spend n)
-unfolding spend
-spent P n h k = by (eqb n full) refl
+-- 36 where the time is full, else 0.
+spent-time : (P : ℕ → Type 0) (st : State) → (st .counters .time ≡ full → P 36) → (st .counters .time ≢ full → P 0) → P (spendTime st)
+unfolding spendTime
+spent-time P st h k = by (eqb (st .counters .time) full) refl
   where
-    by : (t : Bool) → eqb n full ≡ t → P (pick t 36 0)
-    by true e = h (eqb-true n full e)
-    by false e = k (eqb-false n full e)
+    by : (t : Bool) → eqb (st .counters .time) full ≡ t → P (pick t 36 0)
+    by true e = h (eqb-true (st .counters .time) full e)
+    by false e = k (eqb-false (st .counters .time) full e)
+
+-- 47 where the user's allowance is used up, else 0.
+spent : (P : ℕ → Type 0) (st : State) (u : ℕ) → (allowanceOf st u ≤ countOf st u → P 47) → (countOf st u < allowanceOf st u → P 0) →
+    P (spend st u)
+unfolding spend
+spent P st u h k = by (ltb (countOf st u) (allowanceOf st u)) refl
+  where
+    by : (t : Bool) → ltb (countOf st u) (allowanceOf st u) ≡ t → P (pick t 0 47)
+    by true e = k (ltb-true (countOf st u) (allowanceOf st u) e)
+    by false e = h (ltb-false (countOf st u) (allowanceOf st u) e)
+
+-- 46 where there is no such user, else the number.
+of-user : (P : ℕ → Type 0) (u n : ℕ) → (users ≤ u → P 46) → (u < users → P n) → P (byUser u n)
+unfolding byUser
+of-user P u n h k = by (ltb u users) refl
+  where
+    by : (t : Bool) → ltb u users ≡ t → P (pick t n 46)
+    by true e = k (ltb-true u users e)
+    by false e = h (ltb-false u users e)
 
 -- ---- on a module
 
 module _ (m : Module Expr) (st : State) where
-  choice-number : (c : ℕ) → ChoiceNumber m st c (refusal m st c)
+  choice-number : (u c : ℕ) → ChoiceNumber m st u c (refusal m st u c)
   unfolding refusal
-  choice-number c = by (ltb c (items m)) refl
+  choice-number u c = by (ltb c (items m)) refl
     where
-      item : c < items m → (t : Bool) → enabled m st c ≡ t → ChoiceNumber m st c (pick t (spend (st .counters .count)) 33)
-      item l true e = spent (ChoiceNumber m st c) (st .counters .count) (item-full l e) (item-taken l e)
-      item l false e = not-enabled l e
+      N : ℕ → Type 0
+      N n = ChoiceNumber m st u c n
 
-      pending : items m ≤ c → c ≡ 255 → anyEnabled m st ≡ false → (t : Bool) → anyPending m st ≡ t →
-          ChoiceNumber m st c (pick t (spend (st .counters .count)) 35)
-      pending l e n true p = spent (ChoiceNumber m st c) (st .counters .count) (commit-full l e n p) (commit-taken l e n p)
-      pending l e n false p = none-pending l e n p
+      item : c < items m → u < users → (t : Bool) → enabled m st c ≡ t → N (pick t (spend st u) 33)
+      item l b true e = spent N st u (item-used-up l b e) (item-taken l b e)
+      item l b false e = not-enabled l b e
 
-      committing : items m ≤ c → c ≡ 255 → (t : Bool) → anyEnabled m st ≡ t →
-          ChoiceNumber m st c (pick t 34 (pick (anyPending m st) (spend (st .counters .count)) 35))
-      committing l e true n = one-enabled l e n
-      committing l e false n = pending l e n (anyPending m st) refl
+      pending : items m ≤ c → c ≡ 255 → u < users → anyEnabled m st ≡ false → (t : Bool) → anyPending m st ≡ t →
+          N (pick t (spend st u) 35)
+      pending l e b n true p = spent N st u (commit-used-up l e b n p) (commit-taken l e b n p)
+      pending l e b n false p = none-pending l e b n p
+
+      committing : items m ≤ c → c ≡ 255 → u < users → (t : Bool) → anyEnabled m st ≡ t →
+          N (pick t 34 (pick (anyPending m st) (spend st u) 35))
+      committing l e b true n = one-enabled l e b n
+      committing l e b false n = pending l e b n (anyPending m st) refl
 
       other : items m ≤ c → (t : Bool) → eqb c 255 ≡ t →
-          ChoiceNumber m st c (pick t (pick (anyEnabled m st) 34 (pick (anyPending m st) (spend (st .counters .count)) 35)) 22)
-      other l true e = committing l (eqb-true c 255 e) (anyEnabled m st) refl
+          N (pick t (byUser u (pick (anyEnabled m st) 34 (pick (anyPending m st) (spend st u) 35))) 22)
+      other l true e =
+          of-user N u _ (no-user (inr (eqb-true c 255 e))) (λ b. committing l (eqb-true c 255 e) b (anyEnabled m st) refl)
       other l false e = no-item l (eqb-false c 255 e)
 
       by : (t : Bool) → ltb c (items m) ≡ t →
-          ChoiceNumber m st c
-          (pick t (pick (enabled m st c) (spend (st .counters .count)) 33)
-          (pick (eqb c 255) (pick (anyEnabled m st) 34 (pick (anyPending m st) (spend (st .counters .count)) 35)) 22))
-      by true e = item (ltb-true c (items m) e) (enabled m st c) refl
+          N
+          (pick t (byUser u (pick (enabled m st c) (spend st u) 33))
+          (pick (eqb c 255) (byUser u (pick (anyEnabled m st) 34 (pick (anyPending m st) (spend st u) 35))) 22))
+      by true e =
+          let l = ltb-true c (items m) e in
+          of-user N u _ (no-user (inl l)) (λ b. item l b (enabled m st c) refl)
       by false e = other (ltb-false c (items m) e) (eqb c 255) refl
 
   instant-number : (a : Inputs) → InstantNumber m st a (instantRefusal m st a)
   unfolding instantRefusal
   instant-number a = by (inputsFit m a) refl
     where
-      resting : inputsFit m a ≡ true → (t : Bool) → quiet m st ≡ t → InstantNumber m st a (pick t (spend (st .counters .time)) 32)
-      resting f true q = spent (InstantNumber m st a) (st .counters .time) (time-full f q) (instant-taken f q)
+      resting : inputsFit m a ≡ true → (t : Bool) → quiet m st ≡ t → InstantNumber m st a (pick t (spendTime st) 32)
+      resting f true q = spent-time (InstantNumber m st a) st (time-full f q) (instant-taken f q)
       resting f false q = not-quiet f q
 
-      by : (t : Bool) → inputsFit m a ≡ t → InstantNumber m st a (pick t (pick (quiet m st) (spend (st .counters .time)) 32) 25)
+      by : (t : Bool) → inputsFit m a ≡ t → InstantNumber m st a (pick t (pick (quiet m st) (spendTime st) 32) 25)
       by true f = resting f (quiet m st) refl
       by false f = ill-fitting f
 
@@ -84,14 +109,14 @@ judged-refuses s st call (a-sheet e) = rw e
 judged-refuses s st call (a-state e f) = rw (e, f)
 
 module _ (s : List ℕ) (st : State) where
-  refused-choice : (c n : ℕ) → Refuses s st n → choose s st c .number ≡ n
+  refused-choice : (u c n : ℕ) → Refuses s st n → choose s st u c .number ≡ n
   unfolding choose
-  refused-choice c n x = judged-refuses s st (λ m. chooseIn m st c) x
+  refused-choice u c n x = judged-refuses s st (λ m. chooseIn m st u c) x
 
-  choice : (c : ℕ) (m : Module Expr) → Accepts s st m → ChoiceNumber m st c (choose s st c .number)
+  choice : (u c : ℕ) (m : Module Expr) → Accepts s st m → ChoiceNumber m st u c (choose s st u c .number)
   unfolding choose
-  choice c m k =
-      rw (judged-fits s m st (λ n. chooseIn n st c) k, number-chooseIn m st c) (choice-number m st c)
+  choice u c m k =
+      rw (judged-fits s m st (λ n. chooseIn n st u c) k, number-chooseIn m st u c) (choice-number m st u c)
 
   refused-instant : (a : Inputs) (n : ℕ) → Refuses s st n → instant s st a .number ≡ n
   unfolding instant

@@ -18,11 +18,11 @@ use Rattle.sheet.specs.Module.{Module}
 use Rattle.evaluation.specs.Evaluation.{eval, reads}
 use Rattle.pseudocode.specs.Translation.{translate, threadCode}
 use Rattle.state.specs.declared.State.{State}
-use Rattle.state.specs.State.{withPlanes, withSlots, withPlaces, withMarks, withCounters, valueOf, withValue, pendingOf, withPending, withoutPending, placeOf, withPlace, isDue, withDue}
+use Rattle.state.specs.State.{countOf, allowanceOf, withPlanes, withSlots, withPlaces, withMarks, withCounters, valueOf, withValue, pendingOf, withPending, withoutPending, placeOf, withPlace, isDue, withDue}
 use Rattle.events.specs.declared.Inputs.{Inputs}
 use Rattle.events.specs.Cycle.{variables, codeOf, instrAt, current, wireExpr, wireVariable, anyBelow, allBelow, isWait, threadEnabled, items, enabled, anyEnabled, isSome, anyPending, quiet, changed, termsFire, waitFires, fireBelow, touched, markBelow, react, runInstr, runThread, runWire, storeOne, storePending, commit, storeInputs, feed}
 use Rattle.events.specs.Rows.{wholeRows}
-use Rattle.events.specs.Calls.{dueBelow, started, widthOf, answer, spend, counted, timed, refusal, performed, chooseIn, onward, runIn, inputOf, inputsFit, instantRefusal, instantIn}
+use Rattle.events.specs.Calls.{dueBelow, started, widthOf, answer, spendTime, spend, byUser, countedBy, counted, timed, refusal, performed, chooseIn, onward, runIn, inputOf, inputsFit, instantRefusal, instantIn}
 
 -- Variable 0 is the clock, and the only input. Register r of width 8 is variable r + 1.
 abbrev pub module-of : ℕ → List ℕ → List Expr → List (Stmt Expr) → Module Expr
@@ -40,6 +40,10 @@ posedge-clock = wait (record { edge = Posedge; variable = 0 } ∷ [])
 abbrev pub clock : ℕ → Bool → Inputs
 clock n x = record { count = 1; value = n ∷ replicate 15 0; unknown = x ∷ replicate 15 true }
 
+-- At the start with n wires: one user with nine choices.
+abbrev pub begun : ℕ → State
+begun n = started n (9 ∷ 0 ∷ 0 ∷ 0 ∷ [])
+
 -- ---- "Register 5 assigned 5 wakes no thread."
 
 -- Thread 0 assigns 5 to register 1 over and over; thread 1 waits for a change of it, and wire 2 is its complement.
@@ -50,13 +54,13 @@ fives =
 
 -- The first assignment wakes the thread and marks the wire. Both go back to rest, and the second assignment finds 5.
 pub five-again :
-    (placeOf (runIn fives (2 ∷ 0 ∷ []) (started 1) .state) 1 ≡ 1)
-    × (isDue (runIn fives (2 ∷ 0 ∷ []) (started 1) .state) 0 ≡ true)
-    × (runIn fives (2 ∷ 0 ∷ 0 ∷ 1 ∷ 2 ∷ 0 ∷ []) (started 1) .accepted ≡ 6)
-    × (valueOf (runIn fives (2 ∷ 0 ∷ 0 ∷ 1 ∷ 2 ∷ 0 ∷ []) (started 1) .state) 1 ≡ Known 5)
-    × (placeOf (runIn fives (2 ∷ 0 ∷ 0 ∷ 1 ∷ 2 ∷ 0 ∷ []) (started 1) .state) 1 ≡ 0)
-    × (isDue (runIn fives (2 ∷ 0 ∷ 0 ∷ 1 ∷ 2 ∷ 0 ∷ []) (started 1) .state) 0 ≡ false)
-unfolding same level moves fires valueAt numberOf isUnknown size eval reads translate threadCode withPlanes withSlots withPlaces withMarks withCounters valueOf withValue pendingOf withPending withoutPending placeOf withPlace isDue withDue variables codeOf instrAt current wireExpr wireVariable anyBelow isWait threadEnabled items enabled anyEnabled isSome anyPending changed termsFire waitFires fireBelow touched markBelow react runInstr runThread runWire storeOne storePending commit dueBelow started answer spend counted refusal performed chooseIn onward runIn
+    (placeOf (runIn fives 0 (2 ∷ 0 ∷ []) (begun 1) .state) 1 ≡ 1)
+    × (isDue (runIn fives 0 (2 ∷ 0 ∷ []) (begun 1) .state) 0 ≡ true)
+    × (runIn fives 0 (2 ∷ 0 ∷ 0 ∷ 1 ∷ 2 ∷ 0 ∷ []) (begun 1) .accepted ≡ 6)
+    × (valueOf (runIn fives 0 (2 ∷ 0 ∷ 0 ∷ 1 ∷ 2 ∷ 0 ∷ []) (begun 1) .state) 1 ≡ Known 5)
+    × (placeOf (runIn fives 0 (2 ∷ 0 ∷ 0 ∷ 1 ∷ 2 ∷ 0 ∷ []) (begun 1) .state) 1 ≡ 0)
+    × (isDue (runIn fives 0 (2 ∷ 0 ∷ 0 ∷ 1 ∷ 2 ∷ 0 ∷ []) (begun 1) .state) 0 ≡ false)
+unfolding same level moves fires valueAt numberOf isUnknown size eval reads translate threadCode withPlanes withSlots withPlaces withMarks withCounters valueOf withValue pendingOf withPending withoutPending placeOf withPlace isDue withDue variables codeOf instrAt current wireExpr wireVariable anyBelow isWait threadEnabled items enabled anyEnabled isSome anyPending changed termsFire waitFires fireBelow touched markBelow react runInstr runThread runWire storeOne storePending commit dueBelow started countOf allowanceOf answer spendTime spend byUser countedBy counted refusal performed chooseIn onward runIn
 five-again = (refl, refl, refl, refl, refl, refl)
 
 -- ---- "Two threads `a <= b`, `b <= a`: swapped in any order."
@@ -65,7 +69,7 @@ five-again = (refl, refl, refl, refl, refl, refl)
 unfoldable pub branches : Module Expr → (State → List State) → ℕ → State → List State
 branches m next zero st = []
 branches m next (suc c) st =
-    elim (eqb (refusal m st c) 0) [ true ↦ branches m next c st ++ next (performed m st c) | false ↦ branches m next c st ]
+    elim (eqb (refusal m st 0 c) 0) [ true ↦ branches m next c st ++ next (performed m st 0 c) | false ↦ branches m next c st ]
 
 unfoldable pub reached : Module Expr → ℕ → State → List State
 reached m zero st = st ∷ []
@@ -79,14 +83,14 @@ swapping =
 
 -- a is x and b is y, and the clock rises.
 abbrev pub risen : ℕ → ℕ → State
-risen x y = instantIn swapping (withValue (withValue (started 0) 1 (Known x)) 2 (Known y)) (clock 1 false) .state
+risen x y = instantIn swapping (withValue (withValue (begun 0) 1 (Known x)) 2 (Known y)) (clock 1 false) .state
 
 -- Each thread has two instructions to run, in six orders, and then the commit is the only choice. After it nothing is.
 pub swapped-in-any-order :
     (x y : ℕ) →
     (map {B = Value × Value} (λ s. (valueOf s 1, valueOf s 2)) (reached swapping 5 (risen x y)) ≡ replicate 6 (Known y, Known x))
     × (reached swapping 6 (risen x y) ≡ [])
-unfolding branches reached fits same level moves fires valueAt numberOf isUnknown size eval reads translate threadCode withPlanes withSlots withPlaces withMarks withCounters valueOf withValue pendingOf withPending withoutPending placeOf withPlace isDue withDue variables codeOf instrAt current wireExpr wireVariable anyBelow allBelow isWait threadEnabled items enabled anyEnabled isSome anyPending quiet changed termsFire waitFires fireBelow touched markBelow react runInstr runThread runWire storeOne storePending commit storeInputs feed dueBelow started widthOf answer spend counted timed refusal performed chooseIn onward runIn inputOf inputsFit instantRefusal instantIn
+unfolding branches reached fits same level moves fires valueAt numberOf isUnknown size eval reads translate threadCode withPlanes withSlots withPlaces withMarks withCounters valueOf withValue pendingOf withPending withoutPending placeOf withPlace isDue withDue variables codeOf instrAt current wireExpr wireVariable anyBelow allBelow isWait threadEnabled items enabled anyEnabled isSome anyPending quiet changed termsFire waitFires fireBelow touched markBelow react runInstr runThread runWire storeOne storePending commit storeInputs feed dueBelow started widthOf countOf allowanceOf answer spendTime spend byUser countedBy counted timed refusal performed chooseIn onward runIn inputOf inputsFit instantRefusal instantIn
 swapped-in-any-order x y = (refl, refl)
 
 -- ---- "Two pending values for one register: the second stands."
@@ -96,12 +100,12 @@ abbrev pub twice : Module Expr
 twice = module-of 1 (8 ∷ []) [] (sequence (later 1 (constant 8 3)) (sequence (later 1 (constant 8 5)) posedge-clock) ∷ [])
 
 pub second-stands :
-    (pendingOf (runIn twice (0 ∷ []) (started 0) .state) 0 ≡ some (Known 3))
-    × (pendingOf (runIn twice (0 ∷ 0 ∷ []) (started 0) .state) 0 ≡ some (Known 5))
-    × (runIn twice (0 ∷ 0 ∷ 255 ∷ []) (started 0) .accepted ≡ 3)
-    × (valueOf (runIn twice (0 ∷ 0 ∷ 255 ∷ []) (started 0) .state) 1 ≡ Known 5)
-    × (pendingOf (runIn twice (0 ∷ 0 ∷ 255 ∷ []) (started 0) .state) 0 ≡ none)
-unfolding same level moves fires valueAt numberOf isUnknown size eval reads translate threadCode withPlanes withSlots withPlaces withMarks withCounters valueOf withValue pendingOf withPending withoutPending placeOf withPlace isDue withDue variables codeOf instrAt current wireExpr wireVariable anyBelow isWait threadEnabled items enabled anyEnabled isSome anyPending changed termsFire waitFires fireBelow touched markBelow react runInstr runThread runWire storeOne storePending commit dueBelow started answer spend counted refusal performed chooseIn onward runIn
+    (pendingOf (runIn twice 0 (0 ∷ []) (begun 0) .state) 0 ≡ some (Known 3))
+    × (pendingOf (runIn twice 0 (0 ∷ 0 ∷ []) (begun 0) .state) 0 ≡ some (Known 5))
+    × (runIn twice 0 (0 ∷ 0 ∷ 255 ∷ []) (begun 0) .accepted ≡ 3)
+    × (valueOf (runIn twice 0 (0 ∷ 0 ∷ 255 ∷ []) (begun 0) .state) 1 ≡ Known 5)
+    × (pendingOf (runIn twice 0 (0 ∷ 0 ∷ 255 ∷ []) (begun 0) .state) 0 ≡ none)
+unfolding same level moves fires valueAt numberOf isUnknown size eval reads translate threadCode withPlanes withSlots withPlaces withMarks withCounters valueOf withValue pendingOf withPending withoutPending placeOf withPlace isDue withDue variables codeOf instrAt current wireExpr wireVariable anyBelow isWait threadEnabled items enabled anyEnabled isSome anyPending changed termsFire waitFires fireBelow touched markBelow react runInstr runThread runWire storeOne storePending commit dueBelow started countOf allowanceOf answer spendTime spend byUser countedBy counted refusal performed chooseIn onward runIn
 second-stands = (refl, refl, refl, refl, refl)
 
 -- ---- "x to 1 fires posedge; 1 to 1 doesn't; 0 to x doesn't." The last is document 02's, request [2]: it does.
@@ -112,17 +116,43 @@ rising = module-of 1 (8 ∷ []) [] (posedge-clock ∷ [])
 
 -- The thread's place after an instant with the clock at n (or x), where the clock was at c (or x) and the thread at its wait.
 abbrev woken : Value → ℕ → Bool → ℕ
-woken c n x = placeOf (instantIn rising (withValue (started 0) 0 c) (clock n x) .state) 0
+woken c n x = placeOf (instantIn rising (withValue (begun 0) 0 c) (clock n x) .state) 0
 
 pub posedge-fires :
     (woken Unknown 1 false ≡ 1)
     × (woken (Known 1) 1 false ≡ 0)
     × (woken (Known 0) 0 true ≡ 1)
     × (woken (Known 0) 1 false ≡ 1)
-    × (instantIn rising (withValue (started 0) 0 (Known 1)) (clock 1 false) .number ≡ 0)
-    × (instantIn rising (withValue (started 0) 0 (Known 0)) (clock 0 true) .number ≡ 0)
-unfolding fits same level moves fires valueAt numberOf isUnknown size eval reads translate threadCode withPlanes withSlots withPlaces withMarks withCounters valueOf withValue pendingOf withPending withoutPending placeOf withPlace isDue withDue variables codeOf instrAt current wireExpr wireVariable anyBelow allBelow isWait threadEnabled items enabled anyEnabled isSome anyPending quiet changed termsFire waitFires fireBelow touched markBelow react runInstr runThread runWire storeOne storePending commit storeInputs feed dueBelow started widthOf answer spend counted timed refusal performed chooseIn onward runIn inputOf inputsFit instantRefusal instantIn
+    × (instantIn rising (withValue (begun 0) 0 (Known 1)) (clock 1 false) .number ≡ 0)
+    × (instantIn rising (withValue (begun 0) 0 (Known 0)) (clock 0 true) .number ≡ 0)
+unfolding fits same level moves fires valueAt numberOf isUnknown size eval reads translate threadCode withPlanes withSlots withPlaces withMarks withCounters valueOf withValue pendingOf withPending withoutPending placeOf withPlace isDue withDue variables codeOf instrAt current wireExpr wireVariable anyBelow allBelow isWait threadEnabled items enabled anyEnabled isSome anyPending quiet changed termsFire waitFires fireBelow touched markBelow react runInstr runThread runWire storeOne storePending commit storeInputs feed dueBelow started widthOf countOf allowanceOf answer spendTime spend byUser countedBy counted timed refusal performed chooseIn onward runIn inputOf inputsFit instantRefusal instantIn
 posedge-fires = (refl, refl, refl, refl, refl, refl)
+
+-- ---- the numbers of a choice in their order: 22, 46, 33 to 35, 47. User 1's allowance is 0; thread 1 of `fives` is at its wait.
+
+pub no-item-first : refusal fives (begun 1) 4 200 ≡ 22
+unfolding same level moves fires valueAt numberOf isUnknown size eval reads translate threadCode valueOf pendingOf placeOf isDue variables codeOf instrAt current wireExpr wireVariable anyBelow isWait threadEnabled items enabled anyEnabled isSome anyPending dueBelow started countOf allowanceOf spend byUser refusal
+no-item-first = refl
+
+pub no-user-next :
+    (refusal fives (begun 1) 4 0 ≡ 46) × (refusal fives (begun 1) 4 1 ≡ 46) × (refusal fives (begun 1) 4 255 ≡ 46)
+unfolding same level moves fires valueAt numberOf isUnknown size eval reads translate threadCode valueOf pendingOf placeOf isDue variables codeOf instrAt current wireExpr wireVariable anyBelow isWait threadEnabled items enabled anyEnabled isSome anyPending dueBelow started countOf allowanceOf spend byUser refusal
+no-user-next = (refl, refl, refl)
+
+pub not-enabled-next : (refusal fives (begun 1) 1 1 ≡ 33) × (refusal fives (begun 1) 1 255 ≡ 34)
+unfolding same level moves fires valueAt numberOf isUnknown size eval reads translate threadCode valueOf pendingOf placeOf isDue variables codeOf instrAt current wireExpr wireVariable anyBelow isWait threadEnabled items enabled anyEnabled isSome anyPending dueBelow started countOf allowanceOf spend byUser refusal
+not-enabled-next = (refl, refl)
+
+pub used-up-last :
+    (refusal fives (begun 1) 1 0 ≡ 47) × (refusal fives (begun 1) 1 2 ≡ 47) × (refusal fives (begun 1) 0 0 ≡ 0)
+unfolding same level moves fires valueAt numberOf isUnknown size eval reads translate threadCode valueOf pendingOf placeOf isDue variables codeOf instrAt current wireExpr wireVariable anyBelow isWait threadEnabled items enabled anyEnabled isSome anyPending dueBelow started countOf allowanceOf spend byUser refusal
+used-up-last = (refl, refl, refl)
+
+-- "is counted for that user alone"
+pub counted-alone :
+    (countOf (counted 2 (begun 0)) 2 ≡ 1) × (countOf (counted 2 (begun 0)) 0 ≡ 0) × (allowanceOf (counted 2 (begun 0)) 0 ≡ 9)
+unfolding dueBelow started withCounters countOf allowanceOf countedBy counted
+counted-alone = (refl, refl, refl)
 
 -- ---- 25: rows that aren't filled, flags that are too few or too many
 

@@ -1,8 +1,8 @@
 -- The accepted choices and instants are the steps of specs/Steps, and no others, for a module that was read (Sound) and a
 -- state of the code's lengths (Shaped):
 --   step-chooseIn     an accepted choice is a step;
---   refusal-step      a step's choice is refused by nothing, or by 36 at a full count;
---   alike-chooseIn    a step whose count isn't full is the one that its choice makes;
+--   refusal-step      a step's choice is refused by nothing, or by 47 where its user's allowance is used up;
+--   alike-chooseIn    a step whose user has room is the one that its choice makes;
 --   instant-instantIn, refusal-instant, alike-instantIn    the same of instants with inputs that fit.
 -- Assumes nothing.
 use mathlib.Core.Path.{_≡_, refl, sym, ap, _∙_}
@@ -23,7 +23,7 @@ use Rattle.sheet.specs.Module.{Module}
 use Rattle.evaluation.specs.Evaluation.{eval, reads}
 use Rattle.pseudocode.specs.Translation.{Instr, wait!, set!, later!, go, ifnot}
 use Rattle.state.specs.declared.State.{State}
-use Rattle.state.specs.State.{Shaped, full, valueOf, withValue, pendingOf, withPending, placeOf, withPlace, isDue, withDue}
+use Rattle.state.specs.State.{Shaped, full, users, countOf, allowanceOf, valueOf, withValue, pendingOf, withPending, placeOf, withPlace, isDue, withDue}
 use Rattle.state.proofs.Accessors.{value-withValue-same, value-withValue-other, pending-withValue, place-withValue, due-withValue, shaped-withValue}
 use Rattle.state.proofs.Accessors.{pending-withPending-same, pending-withPending-other, value-withPending, place-withPending, due-withPending, shaped-withPending}
 use Rattle.state.proofs.Accessors.{place-withPlace-same, place-withPlace-other, value-withPlace, pending-withPlace, due-withPlace}
@@ -31,15 +31,15 @@ use Rattle.state.proofs.Accessors.{due-withDue-same, due-withDue-other, value-w
 use Rattle.soundness.specs.Soundness.{Sound, SoundTarget, SoundInstr, sound-set, sound-later}
 use Rattle.events.specs.declared.Inputs.{Inputs}
 use Rattle.events.specs.Cycle.{variables, current, wireExpr, wireVariable, isWait, quiet, waitFires, touched, react, storePending, storeInputs, feed}
-use Rattle.events.specs.Calls.{counted, timed, spend, refusal, performed, chooseIn, inputOf, inputsFit, instantRefusal, instantIn}
-use Rattle.events.specs.Steps.{latest, OtherValues, OtherPending, SamePending, Calm, Fired, goes-on, stays, Marked, was-due, reads-changed, not-due, Reacted, Acts, assigns, defers, jumps, goes-in, passes-by, settles, commits, Step, Instant, Alike}
+use Rattle.events.specs.Calls.{counted, timed, spendTime, spend, refusal, performed, chooseIn, inputOf, inputsFit, instantRefusal, instantIn}
+use Rattle.events.specs.Steps.{latest, OtherValues, OtherPending, SamePending, Calm, Fired, goes-on, stays, Marked, was-due, reads-changed, not-due, Reacted, Acts, assigns, defers, jumps, goes-in, passes-by, settles, commits, Step, Instant, Alike, SameAllowances}
 use Rattle.events.proofs.Cycle.{absurd-bool, Variable, a-register, no-register, register?, wireExpr-past, current-place, touched-true, touched-false, value-react, pending-react, place-react, due-react, shaped-react}
 use Rattle.events.proofs.Cycle.{place-storePending, due-storePending, shaped-storePending, value-storePending, value-storePending-other, pending-storePending, pending-storePending-above}
 use Rattle.events.proofs.Cycle.{pending-storeInputs, place-storeInputs, due-storeInputs, shaped-storeInputs, value-storeInputs, value-storeInputs-above}
-use Rattle.events.proofs.Choices.{spend-zero, spend-full, Ready, thread-ready, wire-ready, commit-ready, refusal-ready, ready-refusal, shaped-counted, shaped-timed}
+use Rattle.events.proofs.Choices.{spendTime-zero, spendTime-full, spend-zero, spend-used, Ready, thread-ready, wire-ready, commit-ready, refusal-ready, ready-refusal, user-refusal, shaped-counted, shaped-timed}
 use Rattle.events.proofs.Choices.{value-counted, pending-counted, place-counted, due-counted, value-timed, pending-timed, place-timed, due-timed}
-use Rattle.events.proofs.Choices.{performed-set, performed-later, performed-go, performed-ifnot, performed-wire, performed-commit, feed-timed, time-performed, count-performed}
-use Rattle.events.proofs.Choices.{number-chooseIn, chooseIn-accepted, sound-current, number-instantIn, instantIn-accepted, refusal-quiet, accepted-instant, time-feed, count-feed}
+use Rattle.events.proofs.Choices.{performed-set, performed-later, performed-go, performed-ifnot, performed-wire, performed-commit, feed-timed, time-performed, count-performed, count-performed-other, allowance-performed}
+use Rattle.events.proofs.Choices.{number-chooseIn, chooseIn-accepted, sound-current, number-instantIn, instantIn-accepted, refusal-quiet, accepted-instant, time-feed, count-feed, allowance-feed}
 
 -- ---- a wire reads variables of the sheet only
 
@@ -137,33 +137,33 @@ module _ (m : Module Expr) (old new : State) where
 
 -- ---- what is performed does that: a thread's instruction
 
-module _ (m : Module Expr) (w : Sound m) (old : State) (s : Shaped old) (i : ℕ) (l : i < length (m .threads)) where
+module _ (m : Module Expr) (w : Sound m) (old : State) (s : Shaped old) (who i : ℕ) (l : i < length (m .threads)) where
   low : i < 8
   low = omega (arith, w .threads-most)
 
-  assigned-performed : (t : ℕ) (e : Expr) → current m old i ≡ set! t e → Assigned m old (performed m old i) i t e
+  assigned-performed : (t : ℕ) (e : Expr) → current m old i ≡ set! t e → Assigned m old (performed m old who i) i t e
   assigned-performed t e h =
-      rw (performed-set m old i l t e h)
+      rw (performed-set m old who i l t e h)
       (record {
-        value = value t ∙ value-withValue-same c t a (shaped-counted old s) small;
-        others = λ v d. value v ∙ value-withValue-other c t a v (λ q. d (sym q)) ∙ value-counted old v;
+        value = value t ∙ value-withValue-same c t a (shaped-counted who old s) small;
+        others = λ v d. value v ∙ value-withValue-other c t a v (λ q. d (sym q)) ∙ value-counted who old v;
         place = place-withPlace-same r i (placeOf old i + 1) (shaped-react m (valueOf old) u shaped-u) low;
         reacted =
             record {
               threads = λ j d. fired-react m w old u new shaped-u values places j
                   (place-withPlace-other r i (placeOf old i + 1) j (λ q. d (sym q)));
               wires = λ k. marked-react m w old u new shaped-u values places (isDue old k) k
-                  (due-withValue c t a k ∙ due-counted old k) (due-withPlace r i (placeOf old i + 1) k);
+                  (due-withValue c t a k ∙ due-counted who old k) (due-withPlace r i (placeOf old i + 1) k);
             };
         pending = λ q. pending-withPlace r i (placeOf old i + 1) q ∙ pending-react m (valueOf old) u q
-            ∙ pending-withValue c t a q ∙ pending-counted old q;
+            ∙ pending-withValue c t a q ∙ pending-counted who old q;
       })
     where
       a : Value
       a = eval (valueOf old) e
 
       c : State
-      c = counted old
+      c = counted who old
 
       u : State
       u = withValue c t a
@@ -175,7 +175,7 @@ module _ (m : Module Expr) (w : Sound m) (old : State) (s : Shaped old) (i : ℕ
       new = withPlace r i (placeOf old i + 1)
 
       shaped-u : Shaped u
-      shaped-u = shaped-withValue c t a (shaped-counted old s)
+      shaped-u = shaped-withValue c t a (shaped-counted who old s)
 
       value : (v : ℕ) → valueOf new v ≡ valueOf u v
       value v = value-withPlace r i (placeOf old i + 1) v ∙ value-react m (valueOf old) u v
@@ -184,7 +184,7 @@ module _ (m : Module Expr) (w : Sound m) (old : State) (s : Shaped old) (i : ℕ
       values = λ x v. value v x
 
       places : (j : ℕ) → placeOf u j ≡ placeOf old j
-      places j = place-withValue c t a j ∙ place-counted old j
+      places j = place-withValue c t a j ∙ place-counted who old j
 
       small : t < 80
       small =
@@ -202,18 +202,18 @@ module _ (m : Module Expr) (w : Sound m) (old : State) (s : Shaped old) (i : ℕ
         marks = λ k. due-withPlace u i p k ∙ marks k;
       }
 
-  deferred-performed : (t : ℕ) (e : Expr) → current m old i ≡ later! t e → Deferred m old (performed m old i) i t e
+  deferred-performed : (t : ℕ) (e : Expr) → current m old i ≡ later! t e → Deferred m old (performed m old who i) i t e
   deferred-performed t e h =
-      rw (performed-later m old i l t e h)
+      rw (performed-later m old who i l t e h)
       (record {
-        slot = pending-withPlace u i p r ∙ pending-withPending-same (counted old) r a (shaped-counted old s) small;
-        others = λ q d. pending-withPlace u i p q ∙ pending-withPending-other (counted old) r a q (λ x. d (sym x))
-            ∙ pending-counted old q;
-        place = place-withPlace-same u i p (shaped-withPending (counted old) r a (shaped-counted old s)) low;
+        slot = pending-withPlace u i p r ∙ pending-withPending-same (counted who old) r a (shaped-counted who old s) small;
+        others = λ q d. pending-withPlace u i p q ∙ pending-withPending-other (counted who old) r a q (λ x. d (sym x))
+            ∙ pending-counted who old q;
+        place = place-withPlace-same u i p (shaped-withPending (counted who old) r a (shaped-counted who old s)) low;
         calm =
-            calm-place u p (λ v. value-withPending (counted old) r a v ∙ value-counted old v)
-            (λ j. place-withPending (counted old) r a j ∙ place-counted old j)
-            (λ k. due-withPending (counted old) r a k ∙ due-counted old k);
+            calm-place u p (λ v. value-withPending (counted who old) r a v ∙ value-counted who old v)
+            (λ j. place-withPending (counted who old) r a j ∙ place-counted who old j)
+            (λ k. due-withPending (counted who old) r a k ∙ due-counted who old k);
       })
     where
       r : ℕ
@@ -226,41 +226,41 @@ module _ (m : Module Expr) (w : Sound m) (old : State) (s : Shaped old) (i : ℕ
       p = placeOf old i + 1
 
       u : State
-      u = withPending (counted old) r a
+      u = withPending (counted who old) r a
 
       small : r < 32
       small =
           let g = target-later (rw h at (sound-current m w old i l)) in
           omega (arith, g .register, g .not-input, w .registers-most)
 
-  moved : (p : ℕ) → Moved m old (withPlace (counted old) i p) i p
+  moved : (p : ℕ) → Moved m old (withPlace (counted who old) i p) i p
   moved p =
       record {
-        place = place-withPlace-same (counted old) i p (shaped-counted old s) low;
-        calm = calm-place (counted old) p (value-counted old) (place-counted old) (due-counted old);
-        pending = λ r. pending-withPlace (counted old) i p r ∙ pending-counted old r;
+        place = place-withPlace-same (counted who old) i p (shaped-counted who old s) low;
+        calm = calm-place (counted who old) p (value-counted who old) (place-counted who old) (due-counted who old);
+        pending = λ r. pending-withPlace (counted who old) i p r ∙ pending-counted who old r;
       }
 
-  moved-go : (g : ℕ) → current m old i ≡ go g → Moved m old (performed m old i) i g
-  moved-go g h = rw (performed-go m old i l g h) (moved g)
+  moved-go : (g : ℕ) → current m old i ≡ go g → Moved m old (performed m old who i) i g
+  moved-go g h = rw (performed-go m old who i l g h) (moved g)
 
   moved-ifnot :
       (e : Expr) (g : ℕ) → current m old i ≡ ifnot e g →
-      Moved m old (performed m old i) i (pick (holds (eval (valueOf old) e)) (placeOf old i + 1) g)
+      Moved m old (performed m old who i) i (pick (holds (eval (valueOf old) e)) (placeOf old i + 1) g)
   moved-ifnot e g h =
-      rw (performed-ifnot m old i l e g h) (moved (pick (holds (eval (valueOf old) e)) (placeOf old i + 1) g))
+      rw (performed-ifnot m old who i l e g h) (moved (pick (holds (eval (valueOf old) e)) (placeOf old i + 1) g))
 
 -- ---- what is performed: a due wire, and the commit
 
-module _ (m : Module Expr) (w : Sound m) (old : State) (s : Shaped old) where
-  settled-performed : (k : ℕ) → k < length (m .wires) → Settled m old (performed m old (length (m .threads) + k)) k
+module _ (m : Module Expr) (w : Sound m) (old : State) (s : Shaped old) (who : ℕ) where
+  settled-performed : (k : ℕ) → k < length (m .wires) → Settled m old (performed m old who (length (m .threads) + k)) k
   unfolding wireVariable
   settled-performed k l =
-      rw (performed-wire m old k l)
+      rw (performed-wire m old who k l)
       (record {
         value = value x ∙ value-withValue-same c x a shaped-c (omega (arith, w .inputs-most, w .registers-most, w .wires-most));
-        others = λ v d. value v ∙ value-withValue-other c x a v (λ q. d (sym q)) ∙ value-withDue (counted old) k false v
-            ∙ value-counted old v;
+        others = λ v d. value v ∙ value-withValue-other c x a v (λ q. d (sym q)) ∙ value-withDue (counted who old) k false v
+            ∙ value-counted who old v;
         reacted =
             record {
               threads = λ j d. fired-react m w old u new shaped-u values places j refl;
@@ -268,7 +268,7 @@ module _ (m : Module Expr) (w : Sound m) (old : State) (s : Shaped old) where
                   (due-withValue c x a j ∙ cleared j) refl;
             };
         pending = λ r. pending-react m (valueOf old) u r ∙ pending-withValue c x a r
-            ∙ pending-withDue (counted old) k false r ∙ pending-counted old r;
+            ∙ pending-withDue (counted who old) k false r ∙ pending-counted who old r;
       })
     where
       x : ℕ
@@ -278,7 +278,7 @@ module _ (m : Module Expr) (w : Sound m) (old : State) (s : Shaped old) where
       a = eval (valueOf old) (wireExpr m k)
 
       c : State
-      c = withDue (counted old) k false
+      c = withDue (counted who old) k false
 
       u : State
       u = withValue c x a
@@ -287,7 +287,7 @@ module _ (m : Module Expr) (w : Sound m) (old : State) (s : Shaped old) where
       new = react m (valueOf old) u
 
       shaped-c : Shaped c
-      shaped-c = shaped-withDue (counted old) k false (shaped-counted old s)
+      shaped-c = shaped-withDue (counted who old) k false (shaped-counted who old s)
 
       shaped-u : Shaped u
       shaped-u = shaped-withValue c x a shaped-c
@@ -299,33 +299,34 @@ module _ (m : Module Expr) (w : Sound m) (old : State) (s : Shaped old) where
       values = λ y v. value v y
 
       places : (j : ℕ) → placeOf u j ≡ placeOf old j
-      places j = place-withValue c x a j ∙ place-withDue (counted old) k false j ∙ place-counted old j
+      places j = place-withValue c x a j ∙ place-withDue (counted who old) k false j ∙ place-counted who old j
 
       mark : (j : ℕ) (t : Bool) → eqb j k ≡ t → isDue c j ≡ (isDue old j && not t)
       mark j true e =
           rw (eqb-true j k e, and-false (isDue old k))
-          (due-withDue-same (counted old) k false (shaped-counted old s) (omega (arith, w .wires-most)))
+          (due-withDue-same (counted who old) k false (shaped-counted who old s) (omega (arith, w .wires-most)))
       mark j false e =
           rw (and-true (isDue old j))
-          (due-withDue-other (counted old) k false j (λ q. eqb-false j k e (sym q)) ∙ due-counted old j)
+          (due-withDue-other (counted who old) k false j (λ q. eqb-false j k e (sym q)) ∙ due-counted who old j)
 
       cleared : (j : ℕ) → isDue c j ≡ (isDue old j && not (eqb j k))
       cleared j = mark j (eqb j k) refl
 
-  committed-performed : Committed m old (performed m old 255)
+  committed-performed : Committed m old (performed m old who 255)
   committed-performed =
-      rw (performed-commit m old w)
+      rw (performed-commit m old who w)
       (record {
         values = λ r b. value (m .scope .inputs + r)
-            ∙ value-storePending m n c shaped-c (omega (arith, w .inputs-most, w .registers-most)) r b ∙ (rw (pending-counted old r, value-counted old (m .scope .inputs + r)) refl);
-        others = λ v d. value v ∙ value-storePending-other m n c v (λ r b e. d (omega arith, omega arith)) ∙ value-counted old v;
+            ∙ value-storePending m n c shaped-c (omega (arith, w .inputs-most, w .registers-most)) r b
+            ∙ (rw (pending-counted who old r, value-counted who old (m .scope .inputs + r)) refl);
+        others = λ v d. value v ∙ value-storePending-other m n c v (λ r b e. d (omega arith, omega arith)) ∙ value-counted who old v;
         emptied = λ r b. pending-react m (valueOf old) u r ∙ pending-storePending m n c shaped-c (w .registers-most) r b;
-        rest = λ r d. pending-react m (valueOf old) u r ∙ pending-storePending-above m n c r (above r d) ∙ pending-counted old r;
+        rest = λ r d. pending-react m (valueOf old) u r ∙ pending-storePending-above m n c r (above r d) ∙ pending-counted who old r;
         reacted =
             record {
               threads = λ j d. fired-react m w old u new shaped-u values places j refl;
               wires = λ k. marked-react m w old u new shaped-u values places (isDue old k) k
-                  (due-storePending m n c k ∙ due-counted old k) refl;
+                  (due-storePending m n c k ∙ due-counted who old k) refl;
             };
       })
     where
@@ -333,7 +334,7 @@ module _ (m : Module Expr) (w : Sound m) (old : State) (s : Shaped old) where
       n = m .scope .registers
 
       c : State
-      c = counted old
+      c = counted who old
 
       u : State
       u = storePending m n c
@@ -342,7 +343,7 @@ module _ (m : Module Expr) (w : Sound m) (old : State) (s : Shaped old) where
       new = react m (valueOf old) u
 
       shaped-c : Shaped c
-      shaped-c = shaped-counted old s
+      shaped-c = shaped-counted who old s
 
       shaped-u : Shaped u
       shaped-u = shaped-storePending m n c shaped-c
@@ -354,38 +355,38 @@ module _ (m : Module Expr) (w : Sound m) (old : State) (s : Shaped old) where
       values = λ y v. value v y
 
       places : (j : ℕ) → placeOf u j ≡ placeOf old j
-      places j = place-storePending m n c j ∙ place-counted old j
+      places j = place-storePending m n c j ∙ place-counted who old j
 
       above : (r : ℕ) → (r < n → ⊥) → n ≤ r
       above r d = omega arith
 
   -- ---- so it acts
 
-  acts-thread : (i : ℕ) → i < length (m .threads) → isWait (current m old i) ≡ false → Acts m old (performed m old i) i
+  acts-thread : (i : ℕ) → i < length (m .threads) → isWait (current m old i) ≡ false → Acts m old (performed m old who i) i
   unfolding isWait
   acts-thread i l h = by (current m old i) refl h
     where
       branch : (e : Expr) (g : ℕ) → current m old i ≡ ifnot e g → (t : Bool) → holds (eval (valueOf old) e) ≡ t →
-          Moved m old (performed m old i) i (pick t (placeOf old i + 1) g) → Acts m old (performed m old i) i
+          Moved m old (performed m old who i) i (pick t (placeOf old i + 1) g) → Acts m old (performed m old who i) i
       branch e g h true q a = goes-in l h q (a .place) (a .calm) (a .pending)
       branch e g h false q a = passes-by l h q (a .place) (a .calm) (a .pending)
 
-      by : (x : Instr Expr) → current m old i ≡ x → isWait x ≡ false → Acts m old (performed m old i) i
+      by : (x : Instr Expr) → current m old i ≡ x → isWait x ≡ false → Acts m old (performed m old who i) i
       by (wait! ts) e q = absurd-bool refl q
       by (set! t x) e q =
-          let a = assigned-performed m w old s i l t x e in
+          let a = assigned-performed m w old s who i l t x e in
           assigns l e (a .value) (a .others) (a .place) (a .reacted) (a .pending)
       by (later! t x) e q =
-          let a = deferred-performed m w old s i l t x e in
+          let a = deferred-performed m w old s who i l t x e in
           defers l e (a .slot) (a .others) (a .place) (a .calm)
       by (go g) e q =
-          let a = moved-go m w old s i l g e in
+          let a = moved-go m w old s who i l g e in
           jumps l e (a .place) (a .calm) (a .pending)
-      by (ifnot x g) e q = branch x g e (holds (eval (valueOf old) x)) refl (moved-ifnot m w old s i l x g e)
+      by (ifnot x g) e q = branch x g e (holds (eval (valueOf old) x)) refl (moved-ifnot m w old s who i l x g e)
 
   -- ---- (a): an accepted choice is a step
 
-  pub acts-performed : {c : ℕ} → Ready m old c → Acts m old (performed m old c) c
+  pub acts-performed : {c : ℕ} → Ready m old c → Acts m old (performed m old who c) c
   acts-performed (thread-ready {i = i} l h) = acts-thread i l h
   acts-performed (wire-ready {k = k} l h) =
       let a = settled-performed k l in
@@ -394,17 +395,25 @@ module _ (m : Module Expr) (w : Sound m) (old : State) (s : Shaped old) where
       let a = committed-performed in
       commits h q l p (a .values) (a .others) (a .emptied) (a .rest) (a .reacted)
 
-  pub step-performed : (c : ℕ) → Ready m old c → Step m old (performed m old c) c
-  step-performed c h =
-      record { acts = acts-performed h; time = time-performed m old c; count = count-performed m old c }
+  pub step-performed : (c : ℕ) → who < users → Ready m old c → Step m old (performed m old who c) who c
+  step-performed c b h =
+      record {
+        acts = acts-performed h;
+        user = b;
+        time = time-performed m old who c;
+        count = count-performed m old who c s b;
+        other-counts = count-performed-other m old who c;
+        allowances = allowance-performed m old who c;
+      }
 
-  pub step-chooseIn : (c : ℕ) → chooseIn m old c .number ≡ 0 → Step m old (chooseIn m old c .state) c
+  pub step-chooseIn : (c : ℕ) → chooseIn m old who c .number ≡ 0 → Step m old (chooseIn m old who c .state) who c
   step-chooseIn c h =
-      let z : refusal m old c ≡ 0 = sym (number-chooseIn m old c) ∙ h in
-      rw (chooseIn-accepted m old c z) (step-performed c (ready-refusal m old c z))
+      let z : refusal m old who c ≡ 0 = sym (number-chooseIn m old who c) ∙ h in
+      rw (chooseIn-accepted m old who c z) (step-performed c (user-refusal m old who c z) (ready-refusal m old who c z))
 
-  -- ---- (c): an accepted instant
+-- ---- (c): an accepted instant
 
+module _ (m : Module Expr) (w : Sound m) (old : State) (s : Shaped old) where
   pub instant-feed : (a : ℕ → Value) → quiet m old ≡ true → Instant m old (feed m a (timed old)) a
   instant-feed a q =
       record {
@@ -420,7 +429,8 @@ module _ (m : Module Expr) (w : Sound m) (old : State) (s : Shaped old) where
         pending = λ r. ap (λ x. pendingOf x r) same ∙ pending-react m (valueOf old) u r
             ∙ pending-storeInputs a n (timed old) r ∙ pending-timed old r;
         time = time-feed m old a;
-        count = count-feed m old a;
+        counts = count-feed m old a;
+        allowances = allowance-feed m old a;
       }
     where
       n : ℕ
@@ -493,7 +503,8 @@ module _ (m : Module Expr) (old a b : State) (values : (v : ℕ) → valueOf b v
 
 -- ---- two outcomes of one choice agree
 
-module _ (m : Module Expr) (old a b : State) (time : b .counters .time ≡ a .counters .time) (count : b .counters .count ≡ a .counters .count) where
+module _ (m : Module Expr) (old a b : State) (time : b .counters .time ≡ a .counters .time)
+    (counts : (v : ℕ) → countOf b v ≡ countOf a v) (allowances : SameAllowances m a b) where
   -- A variable t with the same value in both, the others as they were.
   values-agree :
       (t : ℕ) → valueOf b t ≡ valueOf a t → OtherValues m old a (λ v. v ≡ t) → OtherValues m old b (λ v. v ≡ t) →
@@ -512,7 +523,8 @@ module _ (m : Module Expr) (old a b : State) (time : b .counters .time ≡ a .co
         places = λ j. by j (ℕ-discrete j i);
         marks = marks-agree m old a b values (λ j. j ≡ i) (isDue old) (x .reacted) (y .reacted);
         time = time;
-        count = count;
+        counts = counts;
+        allowances = allowances;
       }
     where
       values : (v : ℕ) → valueOf b v ≡ valueOf a v
@@ -532,7 +544,8 @@ module _ (m : Module Expr) (old a b : State) (time : b .counters .time ≡ a .co
         places = λ j. by j (ℕ-discrete j i);
         marks = λ k. y .marks k ∙ sym (x .marks k);
         time = time;
-        count = count;
+        counts = counts;
+        allowances = allowances;
       }
     where
       by : (j : ℕ) → Dec (j ≡ i) → placeOf b j ≡ placeOf a j
@@ -559,7 +572,8 @@ module _ (m : Module Expr) (old a b : State) (time : b .counters .time ≡ a .co
         places = places-agree m old a b values (λ j. isDue old j && not (eqb j k)) (x .reacted) (y .reacted);
         marks = marks-agree m old a b values (λ j. ⊥) (λ j. isDue old j && not (eqb j k)) (x .reacted) (y .reacted);
         time = time;
-        count = count;
+        counts = counts;
+        allowances = allowances;
       }
     where
       values : (v : ℕ) → valueOf b v ≡ valueOf a v
@@ -573,7 +587,8 @@ module _ (m : Module Expr) (old a b : State) (time : b .counters .time ≡ a .co
         places = places-agree m old a b values (isDue old) (x .reacted) (y .reacted);
         marks = marks-agree m old a b values (λ j. ⊥) (isDue old) (x .reacted) (y .reacted);
         time = time;
-        count = count;
+        counts = counts;
+        allowances = allowances;
       }
     where
       value : (v : ℕ) → Variable m v → valueOf b v ≡ valueOf a v
@@ -595,7 +610,8 @@ module _ (m : Module Expr) (old a b : State) (time : b .counters .time ≡ a .co
         places = places-agree m old a b values (isDue old) (x .reacted) (y .reacted);
         marks = marks-agree m old a b values (λ j. ⊥) (isDue old) (x .reacted) (y .reacted);
         time = time;
-        count = count;
+        counts = counts;
+        allowances = allowances;
       }
     where
       value : (v : ℕ) → Dec (v < m .scope .inputs) → valueOf b v ≡ valueOf a v
@@ -607,17 +623,24 @@ module _ (m : Module Expr) (old a b : State) (time : b .counters .time ≡ a .co
 
 -- ---- (b): a step is the one that its choice makes
 
--- Accepted, or refused by 36 at a full counter.
-pub data Allowed (number counter : ℕ) : Type 0 where
-  accepted : number ≡ 0 → counter ≢ full → Allowed number counter
-  no-room : number ≡ 36 → counter ≡ full → Allowed number counter
+-- Accepted where there is room, or else refused by the number for none.
+pub data Allowed (number none : ℕ) (Room : Type 0) : Type 0 where
+  accepted : number ≡ 0 → Room → Allowed number none Room
+  no-room : number ≡ none → (Room → ⊥) → Allowed number none Room
 
-allowed-spend : (number counter : ℕ) → number ≡ spend counter → Allowed number counter
-allowed-spend number counter h = by (ℕ-discrete counter full)
+allowed-spendTime : (number : ℕ) (st : State) → number ≡ spendTime st → Allowed number 36 (st .counters .time ≢ full)
+allowed-spendTime number st h = by (ℕ-discrete (st .counters .time) full)
   where
-    by : Dec (counter ≡ full) → Allowed number counter
-    by (yes e) = no-room (h ∙ ap spend e ∙ spend-full) e
-    by (no d) = accepted (h ∙ spend-zero counter d) d
+    by : Dec (st .counters .time ≡ full) → Allowed number 36 (st .counters .time ≢ full)
+    by (yes e) = no-room (h ∙ spendTime-full st e) (λ d. d e)
+    by (no d) = accepted (h ∙ spendTime-zero st d) d
+
+allowed-spend : (number : ℕ) (st : State) (u : ℕ) → number ≡ spend st u → Allowed number 47 (countOf st u < allowanceOf st u)
+allowed-spend number st u h = by (decLt (countOf st u) (allowanceOf st u))
+  where
+    by : Dec (countOf st u < allowanceOf st u) → Allowed number 47 (countOf st u < allowanceOf st u)
+    by (yes l) = accepted (h ∙ spend-zero st u l) l
+    by (no d) = no-room (h ∙ spend-used st u (omega arith)) d
 
 pub ready-acts : (m : Module Expr) (old new : State) {c : ℕ} → Acts m old new c → Ready m old c
 unfolding isWait
@@ -630,60 +653,72 @@ ready-acts m old new (settles l h v o r s) = wire-ready l h
 ready-acts m old new (commits h q l p v o e r x) = commit-ready h q l p
 
 module _ (m : Module Expr) (w : Sound m) (old new : State) where
-  pub refusal-step : (c : ℕ) → Step m old new c → Allowed (refusal m old c) (old .counters .count)
-  refusal-step c h = allowed-spend (refusal m old c) (old .counters .count) (refusal-ready m old w (ready-acts m old new (h .acts)))
+  pub refusal-step : (u c : ℕ) → Step m old new u c → Allowed (refusal m old u c) 47 (countOf old u < allowanceOf old u)
+  refusal-step u c h =
+      allowed-spend (refusal m old u c) old u (refusal-ready m old u w (h .user) (ready-acts m old new (h .acts)))
 
   module _ (s : Shaped old) where
     alike-acts :
-        {c : ℕ} → new .counters .time ≡ performed m old c .counters .time → new .counters .count ≡ performed m old c .counters .count → Acts m old new c →
-        Alike m (performed m old c) new
-    alike-acts t n (assigns {i = i} {t = x} {e = e} l h v o p r q) =
-        assigned-agree m old (performed m old i) new t n i x e (assigned-performed m w old s i l x e h)
+        (u : ℕ) {c : ℕ} → new .counters .time ≡ performed m old u c .counters .time →
+        ((v : ℕ) → countOf new v ≡ countOf (performed m old u c) v) → SameAllowances m (performed m old u c) new → Acts m old new c →
+        Alike m (performed m old u c) new
+    alike-acts u t n a (assigns {i = i} {t = x} {e = e} l h v o p r q) =
+        assigned-agree m old (performed m old u i) new t n a i x e (assigned-performed m w old s u i l x e h)
         (record { value = v; others = o; place = p; reacted = r; pending = q })
-    alike-acts t n (defers {i = i} {t = x} {e = e} l h v o p c) =
-        deferred-agree m old (performed m old i) new t n i x e (deferred-performed m w old s i l x e h)
+    alike-acts u t n a (defers {i = i} {t = x} {e = e} l h v o p c) =
+        deferred-agree m old (performed m old u i) new t n a i x e (deferred-performed m w old s u i l x e h)
         (record { slot = v; others = o; place = p; calm = c })
-    alike-acts t n (jumps {i = i} {g = g} l h p c q) =
-        moved-agree m old (performed m old i) new t n i g (moved-go m w old s i l g h)
+    alike-acts u t n a (jumps {i = i} {g = g} l h p c q) =
+        moved-agree m old (performed m old u i) new t n a i g (moved-go m w old s u i l g h)
         (record { place = p; calm = c; pending = q })
-    alike-acts t n (goes-in {i = i} {g = g} {e = e} l h x p c q) =
-        moved-agree m old (performed m old i) new t n i (placeOf old i + 1) (rw x at (moved-ifnot m w old s i l e g h))
+    alike-acts u t n a (goes-in {i = i} {g = g} {e = e} l h x p c q) =
+        moved-agree m old (performed m old u i) new t n a i (placeOf old i + 1) (rw x at (moved-ifnot m w old s u i l e g h))
         (record { place = p; calm = c; pending = q })
-    alike-acts t n (passes-by {i = i} {g = g} {e = e} l h x p c q) =
-        moved-agree m old (performed m old i) new t n i g (rw x at (moved-ifnot m w old s i l e g h))
+    alike-acts u t n a (passes-by {i = i} {g = g} {e = e} l h x p c q) =
+        moved-agree m old (performed m old u i) new t n a i g (rw x at (moved-ifnot m w old s u i l e g h))
         (record { place = p; calm = c; pending = q })
-    alike-acts t n (settles {k = k} l h v o r q) =
-        settled-agree m old (performed m old (length (m .threads) + k)) new t n k (settled-performed m w old s k l)
+    alike-acts u t n a (settles {k = k} l h v o r q) =
+        settled-agree m old (performed m old u (length (m .threads) + k)) new t n a k (settled-performed m w old s u k l)
         (record { value = v; others = o; reacted = r; pending = q })
-    alike-acts t n (commits h q l p v o e r x) =
-        committed-agree m old (performed m old 255) new t n (committed-performed m w old s)
+    alike-acts u t n a (commits h q l p v o e r x) =
+        committed-agree m old (performed m old u 255) new t n a (committed-performed m w old s u)
         (record { values = v; others = o; emptied = e; rest = r; reacted = x })
 
-    pub alike-performed : (c : ℕ) → Step m old new c → Alike m (performed m old c) new
-    alike-performed c h =
-        alike-acts (h .time ∙ sym (time-performed m old c)) (h .count ∙ sym (count-performed m old c)) (h .acts)
+    counts-step : (u c : ℕ) → Step m old new u c → (v : ℕ) → countOf new v ≡ countOf (performed m old u c) v
+    counts-step u c h v = by (ℕ-discrete v u)
+      where
+        by : Dec (v ≡ u) → countOf new v ≡ countOf (performed m old u c) v
+        by (yes e) = rw e (h .count ∙ sym (count-performed m old u c s (h .user)))
+        by (no d) = h .other-counts v d ∙ sym (count-performed-other m old u c v d)
+
+    pub alike-performed : (u c : ℕ) → Step m old new u c → Alike m (performed m old u c) new
+    alike-performed u c h =
+        alike-acts u (h .time ∙ sym (time-performed m old u c)) (counts-step u c h)
+        (λ v. h .allowances v ∙ sym (allowance-performed m old u c v)) (h .acts)
 
     pub alike-chooseIn :
-        (c : ℕ) → Step m old new c → old .counters .count ≢ full →
-        (chooseIn m old c .number ≡ 0) × Alike m (chooseIn m old c .state) new
-    alike-chooseIn c h d =
-        let z : refusal m old c ≡ 0 = refusal-ready m old w (ready-acts m old new (h .acts)) ∙ spend-zero (old .counters .count) d in
-        (number-chooseIn m old c ∙ z, rw (chooseIn-accepted m old c z) (alike-performed c h))
+        (u c : ℕ) → Step m old new u c → countOf old u < allowanceOf old u →
+        (chooseIn m old u c .number ≡ 0) × Alike m (chooseIn m old u c .state) new
+    alike-chooseIn u c h d =
+        let z : refusal m old u c ≡ 0 = refusal-ready m old u w (h .user) (ready-acts m old new (h .acts)) ∙ spend-zero old u d in
+        (number-chooseIn m old u c ∙ z, rw (chooseIn-accepted m old u c z) (alike-performed u c h))
 
   -- ---- (d): an instant is the one that its inputs make
 
   pub refusal-instant :
-      (a : Inputs) → inputsFit m a ≡ true → Instant m old new (inputOf a) → Allowed (instantRefusal m old a) (old .counters .time)
-  refusal-instant a f h = allowed-spend (instantRefusal m old a) (old .counters .time) (refusal-quiet m old a f (h .rest))
+      (a : Inputs) → inputsFit m a ≡ true → Instant m old new (inputOf a) →
+      Allowed (instantRefusal m old a) 36 (old .counters .time ≢ full)
+  refusal-instant a f h = allowed-spendTime (instantRefusal m old a) old (refusal-quiet m old a f (h .rest))
 
   pub alike-feed : Shaped old → (a : ℕ → Value) → Instant m old new a → Alike m (feed m a (timed old)) new
   alike-feed s a h =
-      instant-agree m old (feed m a (timed old)) new (h .time ∙ sym (time-feed m old a)) (h .count ∙ sym (count-feed m old a)) a
+      instant-agree m old (feed m a (timed old)) new (h .time ∙ sym (time-feed m old a)) (λ v. h .counts v ∙ sym (count-feed m old a v))
+      (λ v. h .allowances v ∙ sym (allowance-feed m old a v)) a
       (instant-feed m w old s a (h .rest)) h
 
   pub alike-instantIn :
       Shaped old → (a : Inputs) → inputsFit m a ≡ true → Instant m old new (inputOf a) → old .counters .time ≢ full →
       (instantIn m old a .number ≡ 0) × Alike m (instantIn m old a .state) new
   alike-instantIn s a f h d =
-      let z : instantRefusal m old a ≡ 0 = refusal-quiet m old a f (h .rest) ∙ spend-zero (old .counters .time) d in
+      let z : instantRefusal m old a ≡ 0 = refusal-quiet m old a f (h .rest) ∙ spendTime-zero old d in
       (number-instantIn m old a ∙ z, rw (instantIn-accepted m old a z) (alike-feed s (inputOf a) h))

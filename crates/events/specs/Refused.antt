@@ -9,17 +9,19 @@ use Rattle.events.specs.declared.Inputs.{Inputs}
 use Rattle.events.specs.declared.Verdict.the-variants.{Refused}
 use Rattle.events.specs.Calls.{started, start, choose, runList, runPlain, instant}
 
--- The numbers of a refused run. "Runs: 1 to 11, 31, then choice by choice"; "a run stopped at a choice isn't a refused call".
+-- The numbers of a refused run. "Runs: 1 to 11, 31, then choice by choice"; "a run stopped at a choice isn't a refused call". A user above
+-- 3 is 46, "for either run's one user, after 31".
 pub data RunRefused : ℕ → Type 0 where
   the-sheet : {n : ℕ} → 1 ≤ n → n ≤ 11 → RunRefused n
   the-state : RunRefused 31
+  the-user : RunRefused 46
 
 pub record Unaltered : Type 0 where
   -- A start gets no state: a refused one gives that of a sheet without wires.
-  pub refused-start : (s : List ℕ) → start s .number ≢ 0 → start s .state ≡ started 0
-  pub refused-choice : (s : List ℕ) (st : State) (c : ℕ) → choose s st c .number ≢ 0 → choose s st c .state ≡ st
+  pub refused-start : (s allowances : List ℕ) → start s allowances .number ≢ 0 → start s allowances .state ≡ started 0 allowances
+  pub refused-choice : (s : List ℕ) (st : State) (u c : ℕ) → choose s st u c .number ≢ 0 → choose s st u c .state ≡ st
   pub refused-instant : (s : List ℕ) (st : State) (a : Inputs) → instant s st a .number ≢ 0 → instant s st a .state ≡ st
-  pub refused-run : (s : List ℕ) (st : State) (cs : List ℕ) → RunRefused (runList s st cs .number) →
-      (runList s st cs .accepted ≡ 0) × (runList s st cs .state ≡ st)
-  pub refused-plain-run : (s : List ℕ) (st : State) (n k : ℕ) → runPlain s st n .verdict ≡ Refused k →
-      (runPlain s st n .accepted ≡ 0) × (runPlain s st n .state ≡ st) × RunRefused k
+  pub refused-run : (s : List ℕ) (st : State) (u : ℕ) (cs : List ℕ) → RunRefused (runList s st u cs .number) →
+      (runList s st u cs .accepted ≡ 0) × (runList s st u cs .state ≡ st)
+  pub refused-plain-run : (s : List ℕ) (st : State) (u n k : ℕ) → runPlain s st u n .verdict ≡ Refused k →
+      (runPlain s st u n .accepted ≡ 0) × (runPlain s st u n .state ≡ st) × RunRefused k

@@ -17,7 +17,7 @@ use Rattle.sheet.specs.Module.{Module}
 use Rattle.evaluation.specs.Evaluation.{eval, reads}
 use Rattle.pseudocode.specs.Translation.{set!, later!, go, ifnot}
 use Rattle.state.specs.declared.State.{State}
-use Rattle.state.specs.State.{valueOf, pendingOf, placeOf, isDue}
+use Rattle.state.specs.State.{users, countOf, allowanceOf, valueOf, pendingOf, placeOf, isDue}
 use Rattle.events.specs.Cycle.{current, wireExpr, wireVariable, items, enabled, quiet, waitFires}
 
 -- A pending value, or else the value held.
@@ -100,11 +100,18 @@ module _ (m : Module Expr) (old new : State) where
         ((r : ℕ) → r < m .scope .registers → pendingOf new r ≡ none) → OtherPending m old new (λ r. r < m .scope .registers) →
         Reacted m old new none-left-out (isDue old) → Acts 255
 
-  -- A choice's step: what it does, and one more in the count of accepted choices.
-  pub record Step (c : ℕ) : Type 0 where
+  -- "Each has an allowance of choices fixed at the start".
+  abbrev pub SameAllowances : Type 0
+  SameAllowances = (v : ℕ) → allowanceOf new v ≡ allowanceOf old v
+
+  -- A choice's step: what it does; it "names its user, 0 to 3, and is counted for that user alone".
+  pub record Step (u c : ℕ) : Type 0 where
     pub acts : Acts c
+    pub user : u < users
     pub time : new .counters .time ≡ old .counters .time
-    pub count : new .counters .count ≡ old .counters .count + 1
+    pub count : countOf new u ≡ countOf old u + 1
+    pub other-counts : (v : ℕ) → v ≢ u → countOf new v ≡ countOf old v
+    pub allowances : SameAllowances
 
   -- "An instant needs quiet, sets all inputs (x allowed) as one change, adds 1 to time."
   pub record Instant (a : ℕ → Value) : Type 0 where
@@ -114,7 +121,8 @@ module _ (m : Module Expr) (old new : State) where
     pub reacted : Reacted m old new none-left-out (isDue old)
     pub pending : SamePending m old new
     pub time : new .counters .time ≡ old .counters .time + 1
-    pub count : new .counters .count ≡ old .counters .count
+    pub counts : (v : ℕ) → countOf new v ≡ countOf old v
+    pub allowances : SameAllowances
 
   -- Two states that no accessor tells apart.
   pub record Alike : Type 0 where
@@ -123,4 +131,5 @@ module _ (m : Module Expr) (old new : State) where
     pub places : (i : ℕ) → placeOf new i ≡ placeOf old i
     pub marks : (k : ℕ) → isDue new k ≡ isDue old k
     pub time : new .counters .time ≡ old .counters .time
-    pub count : new .counters .count ≡ old .counters .count
+    pub counts : (v : ℕ) → countOf new v ≡ countOf old v
+    pub allowances : SameAllowances

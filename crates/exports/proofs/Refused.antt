@@ -6,7 +6,7 @@ use mathlib.Core.List.{List}
 use mathlib.Core.Option.{Option, none, some}
 use Prim.Native.Nat.{ℕ}
 use borrow.Author.Tests.{ne-eqb}
-use lib.Dec.{eqb}
+use lib.Dec.{eqb, ltb}
 use Rattle.dispatch.proofs.Claims.{planes-kept}
 use Rattle.values.specs.Values.{pick}
 use Rattle.sheet.specs.Reading.{Res, ok, no}
@@ -14,14 +14,15 @@ use Rattle.sheet.specs.Expression.{Expr}
 use Rattle.sheet.specs.Module.{Module, read}
 use Rattle.listings.specs.Listing.{listed, laidIn}
 use Rattle.state.specs.declared.State.{State}
-use Rattle.state.specs.Saved.{saved, loaded}
+use Rattle.state.specs.State.{users}
+use Rattle.state.specs.Saved.{saved, loaded, broughtOver}
 use Rattle.state.proofs.Saved.{saved-loaded}
 use Rattle.events.specs.declared.Inputs.{Inputs}
 use Rattle.events.specs.declared.Chosen.{Chosen}
 use Rattle.events.specs.declared.Ran.{Ran}
 use Rattle.events.specs.declared.Rested.{Rested}
 use Rattle.events.specs.declared.Verdict.the-variants.{Refused}
-use Rattle.events.specs.Calls.{stateFits, judged, start, choose, runIn, runList, runBy, plainChoice, runPlain, instant}
+use Rattle.events.specs.Calls.{stateFits, judged, byUser, start, choose, runIn, runList, runBy, plainChoice, runPlain, instant}
 use Rattle.events.specs.Rows.{wholeRows}
 use Rattle.events.proofs.Refused.{unaltered}
 use Rattle.batch.specs.declared.Cycled.{Cycled}
@@ -34,7 +35,7 @@ use Rattle.cycles.specs.Many.{ended, atOnce, cyclesOf, cyclesIn, cyclesOr, cycl
 use Rattle.verilog_source.proofs.Compiled as Text
 use Rattle.verilog_labels.proofs.Claims as Labels
 use Rattle.exports.specs.Clocked.{Arrays, afterCycle, afterCycles}
-use Rattle.exports.specs.Saved.{bringing, broughtInto, startedIn, numberOn, bytesOn, toldOn, ran, rested, verdictOn, cycledAs}
+use Rattle.exports.specs.Saved.{broughtInto, startedIn, numberOn, bytesOn, toldOn, ran, rested, verdictOn, cycledAs}
 use Rattle.exports.specs.Refused.{TextKeeps, NamesKeep}
 use Rattle.exports.specs.Refused.{ListKeeps, BringKeeps, StartKeeps, Keeps, ChooseKeeps, InstantKeeps, ExtractKeeps, CycleKeeps, CyclesKeep, DispatchKeeps}
 use Rattle.exports.specs.Refused.{runRefused, RunKeeps, PlainRunKeeps, cyclesRefused, RunCyclesKeeps, refusedIn, manyRefused}
@@ -60,30 +61,26 @@ list-keeps s text h = by (read s) h
 -- ---- a saved state brought over
 
 pub bring-keeps : BringKeeps
-unfolding bringing broughtInto
-bring-keeps old b h = by (loaded old) h
-  where
-    by : (o : Option State) → bringing o ≢ 0 → broughtInto b o ≡ b
-    by none w = refl
-    by (some st) w = absurd (w refl)
+unfolding broughtInto
+bring-keeps old b allowances h = rw (ne-eqb (broughtOver old allowances .number) 0 h)
 
 -- ---- start, choice, instant
 
 pub start-keeps : StartKeeps
 unfolding startedIn
-start-keeps s b h = rw (ne-eqb (start s .number) 0 h)
+start-keeps s b allowances h = rw (ne-eqb (start s allowances .number) 0 h)
 
 module _ (call : List ℕ → State → Chosen) (same : (s : List ℕ) (st : State) → call s st .number ≢ 0 → call s st .state ≡ st) where
   keeps : Keeps call
   unfolding numberOn bytesOn
-  keeps s b bytes size h = by (loaded b) refl h
+  keeps s b bytes h = by (loaded b) refl h
     where
       by : (o : Option State) → loaded b ≡ o → numberOn s o (call s) ≢ 0 → bytesOn b o (call s) ≡ b
       by none e w = refl
-      by (some st) e w = ap saved (same s st w) ∙ saved-loaded b st bytes size e
+      by (some st) e w = ap saved (same s st w) ∙ saved-loaded b st e bytes
 
 pub choose-keeps : ChooseKeeps
-choose-keeps c = keeps (λ s st. choose s st c) (λ s st. unaltered .refused-choice s st c)
+choose-keeps u c = keeps (λ s st. choose s st u c) (λ s st. unaltered .refused-choice s st u c)
 
 pub instant-keeps : InstantKeeps
 instant-keeps a = keeps (λ s st. instant s st a) (λ s st. unaltered .refused-instant s st a)
@@ -104,6 +101,16 @@ module _ {A : Type 0} (st : State) (r : ℕ → A) (k : Module Expr → ℕ) (f 
         by true o = g m o
         by false o = refl
 
+-- A run of a user above 3 is refused with 46, else by a number k of its own.
+module _ {A : Type 0} (r : ℕ → A) (k : ℕ) (f : A) (g : k ≢ 0 → f ≡ r k) (u : ℕ) where
+  user-refused : byUser u k ≢ 0 → pick (ltb u users) f (r 46) ≡ r (byUser u k)
+  unfolding byUser
+  user-refused h = by (ltb u users) h
+    where
+      by : (t : Bool) → pick t k 46 ≢ 0 → pick t f (r 46) ≡ r (pick t k 46)
+      by true o = g o
+      by false o = refl
+
 -- Nothing was run, and the state is the one that was handed.
 abbrev idle : State → ℕ → Ran
 idle st n = record { accepted = 0; number = n; state = st }
@@ -113,35 +120,38 @@ idlePlain st n = record { accepted = 0; verdict = Refused n; state = st }
 
 pub run-keeps : RunKeeps
 unfolding runRefused numberOn toldOn bytesOn ran runList
-run-keeps s b cs bytes size h = by (loaded b) refl h
+run-keeps s b u cs bytes h = by (loaded b) refl h
   where
-    by : (o : Option State) → loaded b ≡ o → runRefused s o ≢ 0 →
-        (numberOn s o (λ st. ran (runList s st cs)) ≡ runRefused s o)
-        × (toldOn 0 o (λ st. runList s st cs .accepted) ≡ 0)
-        × (bytesOn b o (λ st. ran (runList s st cs)) ≡ b)
+    by : (o : Option State) → loaded b ≡ o → runRefused s o u ≢ 0 →
+        (numberOn s o (λ st. ran (runList s st u cs)) ≡ runRefused s o u)
+        × (toldOn 0 o (λ st. runList s st u cs .accepted) ≡ 0)
+        × (bytesOn b o (λ st. ran (runList s st u cs)) ≡ b)
     by none e w = (refl, refl, refl)
     by (some st) e w =
-        let q = judged-refused st (idle st) (λ m. 0) (λ m. runIn m cs st) (λ m o. absurd (o refl)) (read s) w in (
+        let f : Module Expr → Ran = λ m. runIn m u cs st in
+        let r = idle st in
+        let q = judged-refused st r (λ m. byUser u 0) _ (λ m. user-refused r 0 (f m) (λ o. absurd (o refl)) u) (read s) w in (
           ap (λ (x : Ran). x .number) q,
           ap (λ (x : Ran). x .accepted) q,
-          ap (λ (x : Ran). saved (x .state)) q ∙ saved-loaded b st bytes size e,
+          ap (λ (x : Ran). saved (x .state)) q ∙ saved-loaded b st e bytes,
         )
 
 pub plain-run-keeps : PlainRunKeeps
 unfolding runRefused verdictOn toldOn bytesOn rested runPlain
-plain-run-keeps s b limit bytes size h = by (loaded b) refl h
+plain-run-keeps s b u limit bytes h = by (loaded b) refl h
   where
-    by : (o : Option State) → loaded b ≡ o → runRefused s o ≢ 0 →
-        (verdictOn s o (λ st. runPlain s st limit) ≡ Refused (runRefused s o))
-        × (toldOn 0 o (λ st. runPlain s st limit .accepted) ≡ 0)
-        × (bytesOn b o (λ st. rested (runPlain s st limit)) ≡ b)
+    by : (o : Option State) → loaded b ≡ o → runRefused s o u ≢ 0 →
+        (verdictOn s o (λ st. runPlain s st u limit) ≡ Refused (runRefused s o u))
+        × (toldOn 0 o (λ st. runPlain s st u limit .accepted) ≡ 0)
+        × (bytesOn b o (λ st. rested (runPlain s st u limit)) ≡ b)
     by none e w = (refl, refl, refl)
     by (some st) e w =
-        let f : Module Expr → Rested = λ m. runBy m (plainChoice m) limit st in
-        let q = judged-refused st (idlePlain st) (λ m. 0) f (λ m o. absurd (o refl)) (read s) w in (
+        let f : Module Expr → Rested = λ m. runBy m u (plainChoice m) limit st in
+        let r = idlePlain st in
+        let q = judged-refused st r (λ m. byUser u 0) _ (λ m. user-refused r 0 (f m) (λ o. absurd (o refl)) u) (read s) w in (
           ap (λ (x : Rested). x .verdict) q,
           ap (λ (x : Rested). x .accepted) q,
-          ap (λ (x : Rested). saved (x .state)) q ∙ saved-loaded b st bytes size e,
+          ap (λ (x : Rested). saved (x .state)) q ∙ saved-loaded b st e bytes,
         )
 
 -- 25, where rows aren't whole.
@@ -150,26 +160,28 @@ rowsNumber whole = pick whole 0 25
 
 pub run-cycles-keeps : RunCyclesKeeps
 unfolding cyclesRefused numberOn toldOn bytesOn cycledAs runCycles
-run-cycles-keeps s b ns xs bytes size h = by (loaded b) refl h
+run-cycles-keeps s b u ns xs bytes h = by (loaded b) refl h
   where
     rows : (st : State) (c : Cycled) (t : Bool) → rowsNumber t ≢ 0 →
         pick t c (cycled 0 25 false st) ≡ cycled 0 (rowsNumber t) false st
     rows st c true o = absurd (o refl)
     rows st c false o = refl
 
-    by : (o : Option State) → loaded b ≡ o → cyclesRefused s o ns xs ≢ 0 →
-        (numberOn s o (λ st. cycledAs (runCycles s st ns xs)) ≡ cyclesRefused s o ns xs)
-        × (toldOn 0 o (λ st. runCycles s st ns xs .phases) ≡ 0)
-        × (toldOn false o (λ st. runCycles s st ns xs .running) ≡ false)
-        × (bytesOn b o (λ st. cycledAs (runCycles s st ns xs)) ≡ b)
+    by : (o : Option State) → loaded b ≡ o → cyclesRefused s o u ns xs ≢ 0 →
+        (numberOn s o (λ st. cycledAs (runCycles s st u ns xs)) ≡ cyclesRefused s o u ns xs)
+        × (toldOn 0 o (λ st. runCycles s st u ns xs .phases) ≡ 0)
+        × (toldOn false o (λ st. runCycles s st u ns xs .running) ≡ false)
+        × (bytesOn b o (λ st. cycledAs (runCycles s st u ns xs)) ≡ b)
     by none e w = (refl, refl, refl, refl)
     by (some st) e w =
         let whole = wholeRows ns xs in
-        let q = judged-refused st (λ n. cycled 0 n false st) (λ m. rowsNumber whole) _ (λ m. rows st _ whole) (read s) w in (
+        let r : ℕ → Cycled = λ n. cycled 0 n false st in
+        let k = rowsNumber whole in
+        let q = judged-refused st r (λ m. byUser u k) _ (λ m. user-refused r k _ (rows st _ whole) u) (read s) w in (
           ap (λ (x : Cycled). x .number) q,
           ap (λ (x : Cycled). x .phases) q,
           ap (λ (x : Cycled). x .running) q,
-          ap (λ (x : Cycled). saved (x .state)) q ∙ saved-loaded b st bytes size e,
+          ap (λ (x : Cycled). saved (x .state)) q ∙ saved-loaded b st e bytes,
         )
 
 -- ---- extraction

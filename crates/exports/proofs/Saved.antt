@@ -7,7 +7,7 @@ use Prim.Native.Nat.{ℕ}
 use Rattle.values.specs.Values.{pick}
 use Rattle.state.specs.declared.State.{State}
 use Rattle.state.specs.declared.Loaded.{Loaded}
-use Rattle.state.specs.Saved.{isForm, isSaved, countersIn, shortIn, stateIn, loaded, loadedAnswer}
+use Rattle.state.specs.Saved.{isForm, countersIn, stateIn, loaded, loadedAnswer}
 
 pub found-none : (o : Option State) (l : Loaded) → l ≡ loadedAnswer o → l .found ≡ false → o ≡ none
 unfolding loadedAnswer
@@ -20,13 +20,10 @@ found-some none l e h = absurd (false≢true (sym (ap (λ (x : Loaded). x .found
 found-some (some st) l e h = ap some (sym (ap (λ (x : Loaded). x .state) e))
 
 -- Something is found exactly where the bytes are a saved state.
-pub found-saved : (b : List ℕ) (l : Loaded) → l ≡ loadedAnswer (loaded b) → l .found ≡ isSaved b
-unfolding loaded loadedAnswer isSaved
-found-saved b l e = by (isForm 2 649 b) (isForm 1 641 b) (ap (λ (x : Loaded). x .found) e)
+pub found-saved : (b : List ℕ) (l : Loaded) → l ≡ loadedAnswer (loaded b) → l .found ≡ isForm 3 689 b
+unfolding loaded loadedAnswer
+found-saved b l e = by (isForm 3 689 b) (ap (λ (x : Loaded). x .found) e)
   where
-    by : (t u : Bool)
-        → l .found ≡ loadedAnswer (pick t (some (stateIn b (countersIn b))) (pick u (some (stateIn b (shortIn b))) none)) .found
-        → l .found ≡ pick t true u
-    by true u h = h
-    by false true h = h
-    by false false h = h
+    by : (t : Bool) → l .found ≡ loadedAnswer (pick t (some (stateIn b (countersIn b))) none) .found → l .found ≡ t
+    by true h = h
+    by false h = h

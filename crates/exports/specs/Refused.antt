@@ -6,7 +6,6 @@ use mathlib.Core.Bool.{Bool, false}
 use mathlib.Core.List.{List}
 use mathlib.Core.Option.{Option, none, some}
 use Prim.Native.Nat.{ℕ}
-use lib.ListN.{length}
 use Rattle.values.specs.Values.{pick}
 use Rattle.dispatch.specs.Claims.{PlanesKept}
 use Rattle.sheet.specs.Reading.{Res, ok, no}
@@ -14,11 +13,11 @@ use Rattle.sheet.specs.Expression.{Expr}
 use Rattle.sheet.specs.Module.{Module, read}
 use Rattle.listings.specs.Listing.{listed, laidIn}
 use Rattle.state.specs.declared.State.{State}
-use Rattle.state.specs.Saved.{Bytes, loaded}
+use Rattle.state.specs.Saved.{Bytes, loaded, broughtOver}
 use Rattle.events.specs.declared.Inputs.{Inputs}
 use Rattle.events.specs.declared.Chosen.{Chosen}
 use Rattle.events.specs.declared.Verdict.the-variants.{Refused}
-use Rattle.events.specs.Calls.{judged, start, choose, runList, runPlain, instant}
+use Rattle.events.specs.Calls.{judged, byUser, start, choose, runList, runPlain, instant}
 use Rattle.events.specs.Rows.{wholeRows}
 use Rattle.batch.specs.Cycles.{runCycles}
 use Rattle.nextstate.specs.declared.Registers.{Registers}
@@ -28,7 +27,7 @@ use Rattle.cycles.specs.Many.{cyclesRun}
 use Rattle.verilog_source.specs.Claims as Text
 use Rattle.verilog_labels.specs.Claims as Labels
 use Rattle.exports.specs.Clocked.{Arrays, afterCycle, afterCycles}
-use Rattle.exports.specs.Saved.{bringing, broughtInto, startedIn, unfit, numberOn, bytesOn, toldOn, ran, rested, verdictOn, cycledAs}
+use Rattle.exports.specs.Saved.{broughtInto, startedIn, unfit, numberOn, bytesOn, toldOn, ran, rested, verdictOn, cycledAs}
 
 -- ---- Verilog text: the bytes for its sheet, the tables for its names
 
@@ -46,58 +45,59 @@ ListKeeps = (s text : List ℕ) → listed (read s) .number ≢ 0 → laidIn tex
 -- ---- a saved state brought over
 
 abbrev pub BringKeeps : Type 0
-BringKeeps = (old b : List ℕ) → bringing (loaded old) ≢ 0 → broughtInto b (loaded old) ≡ b
+BringKeeps = (old b allowances : List ℕ) → broughtOver old allowances .number ≢ 0 → broughtInto b (broughtOver old allowances) ≡ b
 
 -- ---- start, choice, instant: the saved state
 
 abbrev pub StartKeeps : Type 0
-StartKeeps = (s b : List ℕ) → start s .number ≢ 0 → startedIn b (start s) ≡ b
+StartKeeps = (s b allowances : List ℕ) → start s allowances .number ≢ 0 → startedIn b (start s allowances) ≡ b
 
--- A call on a sheet and a saved state: what C and Rust lend are 649 bytes.
+-- A call on a sheet and a saved state.
 abbrev pub Keeps : (List ℕ → State → Chosen) → Type 0
 Keeps call =
-    (s b : List ℕ) → Bytes b → length b ≡ 649 → numberOn s (loaded b) (call s) ≢ 0 → bytesOn b (loaded b) (call s) ≡ b
+    (s b : List ℕ) → Bytes b → numberOn s (loaded b) (call s) ≢ 0 → bytesOn b (loaded b) (call s) ≡ b
 
 abbrev pub ChooseKeeps : Type 0
-ChooseKeeps = (c : ℕ) → Keeps (λ s st. choose s st c)
+ChooseKeeps = (u c : ℕ) → Keeps (λ s st. choose s st u c)
 
 abbrev pub InstantKeeps : Type 0
 InstantKeeps = (a : Inputs) → Keeps (λ s st. instant s st a)
 
 -- ---- the runs: "a run stopped at a choice isn't a refused call"
 
--- The number that refuses a run as a call, 0 where none does: "Runs: 1 to 11, 31, then choice by choice."
-unfoldable pub runRefused : List ℕ → Option State → ℕ
-runRefused s none = unfit (read s)
-runRefused s (some st) = judged (read s) st (λ n. n) (λ m. 0)
+-- The number that refuses a run as a call, 0 where none does: "Runs: 1 to 11, 31, then choice by choice", and 46 "for either run's one
+-- user, after 31".
+unfoldable pub runRefused : List ℕ → Option State → ℕ → ℕ
+runRefused s none u = unfit (read s)
+runRefused s (some st) u = judged (read s) st (λ n. n) (λ m. byUser u 0)
 
 -- It is the run's number then, nothing was accepted, and the state stays.
 abbrev pub RunKeeps : Type 0
 RunKeeps =
-    (s b cs : List ℕ) → Bytes b → length b ≡ 649 → runRefused s (loaded b) ≢ 0 →
-    (numberOn s (loaded b) (λ st. ran (runList s st cs)) ≡ runRefused s (loaded b))
-    × (toldOn 0 (loaded b) (λ st. runList s st cs .accepted) ≡ 0)
-    × (bytesOn b (loaded b) (λ st. ran (runList s st cs)) ≡ b)
+    (s b : List ℕ) (u : ℕ) (cs : List ℕ) → Bytes b → runRefused s (loaded b) u ≢ 0 →
+    (numberOn s (loaded b) (λ st. ran (runList s st u cs)) ≡ runRefused s (loaded b) u)
+    × (toldOn 0 (loaded b) (λ st. runList s st u cs .accepted) ≡ 0)
+    × (bytesOn b (loaded b) (λ st. ran (runList s st u cs)) ≡ b)
 
 abbrev pub PlainRunKeeps : Type 0
 PlainRunKeeps =
-    (s b : List ℕ) (limit : ℕ) → Bytes b → length b ≡ 649 → runRefused s (loaded b) ≢ 0 →
-    (verdictOn s (loaded b) (λ st. runPlain s st limit) ≡ Refused (runRefused s (loaded b)))
-    × (toldOn 0 (loaded b) (λ st. runPlain s st limit .accepted) ≡ 0)
-    × (bytesOn b (loaded b) (λ st. rested (runPlain s st limit)) ≡ b)
+    (s b : List ℕ) (u limit : ℕ) → Bytes b → runRefused s (loaded b) u ≢ 0 →
+    (verdictOn s (loaded b) (λ st. runPlain s st u limit) ≡ Refused (runRefused s (loaded b) u))
+    × (toldOn 0 (loaded b) (λ st. runPlain s st u limit .accepted) ≡ 0)
+    × (bytesOn b (loaded b) (λ st. rested (runPlain s st u limit)) ≡ b)
 
--- Rows of inputs that aren't whole are refused after the state.
-unfoldable pub cyclesRefused : List ℕ → Option State → List ℕ → List Bool → ℕ
-cyclesRefused s none ns xs = unfit (read s)
-cyclesRefused s (some st) ns xs = judged (read s) st (λ n. n) (λ m. pick (wholeRows ns xs) 0 25)
+-- Rows of inputs that aren't whole are refused after the user.
+unfoldable pub cyclesRefused : List ℕ → Option State → ℕ → List ℕ → List Bool → ℕ
+cyclesRefused s none u ns xs = unfit (read s)
+cyclesRefused s (some st) u ns xs = judged (read s) st (λ n. n) (λ m. byUser u (pick (wholeRows ns xs) 0 25))
 
 abbrev pub RunCyclesKeeps : Type 0
 RunCyclesKeeps =
-    (s b ns : List ℕ) (xs : List Bool) → Bytes b → length b ≡ 649 → cyclesRefused s (loaded b) ns xs ≢ 0 →
-    (numberOn s (loaded b) (λ st. cycledAs (runCycles s st ns xs)) ≡ cyclesRefused s (loaded b) ns xs)
-    × (toldOn 0 (loaded b) (λ st. runCycles s st ns xs .phases) ≡ 0)
-    × (toldOn false (loaded b) (λ st. runCycles s st ns xs .running) ≡ false)
-    × (bytesOn b (loaded b) (λ st. cycledAs (runCycles s st ns xs)) ≡ b)
+    (s b : List ℕ) (u : ℕ) (ns : List ℕ) (xs : List Bool) → Bytes b → cyclesRefused s (loaded b) u ns xs ≢ 0 →
+    (numberOn s (loaded b) (λ st. cycledAs (runCycles s st u ns xs)) ≡ cyclesRefused s (loaded b) u ns xs)
+    × (toldOn 0 (loaded b) (λ st. runCycles s st u ns xs .phases) ≡ 0)
+    × (toldOn false (loaded b) (λ st. runCycles s st u ns xs .running) ≡ false)
+    × (bytesOn b (loaded b) (λ st. cycledAs (runCycles s st u ns xs)) ≡ b)
 
 -- ---- extraction: "lent words keep their contents"
 

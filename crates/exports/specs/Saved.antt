@@ -9,6 +9,7 @@ use Rattle.sheet.specs.Reading.{Res, ok, no}
 use Rattle.sheet.specs.Expression.{Expr}
 use Rattle.sheet.specs.Module.{Module, read}
 use Rattle.state.specs.declared.State.{State}
+use Rattle.state.specs.declared.Brought.{Brought}
 use Rattle.state.specs.Saved.{saved}
 use Rattle.events.specs.declared.Chosen.{Chosen}
 use Rattle.events.specs.declared.Ran.{Ran}
@@ -18,15 +19,10 @@ use Rattle.events.specs.declared.Rested.{Rested}
 use Rattle.events.specs.Verdict.{numberOfVerdict}
 use Rattle.batch.specs.declared.Cycled.{Cycled}
 
--- ---- a saved state brought over: 31 for bytes that are none, and the lent bytes stay
+-- ---- a saved state brought over: where it is refused, the lent bytes stay
 
-unfoldable pub bringing : Option State → ℕ
-bringing none = 31
-bringing (some st) = 0
-
-unfoldable pub broughtInto : List ℕ → Option State → List ℕ
-broughtInto b none = b
-broughtInto b (some st) = saved st
+unfoldable pub broughtInto : List ℕ → Brought → List ℕ
+broughtInto b r = pick (eqb (r .number) 0) (saved (r .state)) b
 
 -- ---- the start: a refused one leaves the bytes, which may be any
 

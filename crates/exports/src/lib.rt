@@ -10,7 +10,7 @@ ghost use mathlib.Core.Path.{_≡_};
 ghost use mathlib.Core.Bool.{false};
 ghost use Rattle.sheet.specs.Module.{read};
 ghost use Rattle.listings.specs.Listing.{listed, laidIn};
-ghost use Rattle.state.specs.Saved.{isSaved, loaded};
+ghost use Rattle.state.specs.Saved.{isForm, loaded, broughtOver};
 ghost use Rattle.events.specs.Calls.{start, choose, runList, runPlain, instant};
 ghost use Rattle.events.specs.Verdict.{numberOfVerdict, wordOfVerdict};
 ghost use Rattle.batch.specs.Cycles.{runCycles};
@@ -19,7 +19,7 @@ ghost use Rattle.nextstate.specs.CycleRun.{cycleRun};
 ghost use Rattle.cycles.specs.Many.{cyclesRun};
 ghost use Rattle.exports.specs.Exports.{numberOf, placeOf};
 ghost use Rattle.exports.specs.Clocked.{registersIn, inputsIn, arrays, afterCycle, afterCycles};
-ghost use Rattle.exports.specs.Saved.{bringing, broughtInto, startedIn, unfit, numberOn, bytesOn, toldOn, ran, rested, verdictOn, cycledAs};
+ghost use Rattle.exports.specs.Saved.{broughtInto, startedIn, unfit, numberOn, bytesOn, toldOn, ran, rested, verdictOn, cycledAs};
 
 // The number of the sheet's refusal, 0 where it is read; `place` takes the byte at which it was met, 0 where it is read.
 #[no_mangle]
@@ -46,37 +46,48 @@ pub extern "C" fn walbryts_list(sheet: &[u8], text: &mut [u8; 65536], length: &m
 
 // ---- the simulator, on a saved state. Each call gives its number; bytes that are no saved state are refused with 31.
 
-// Are the bytes a saved state, of either form?
+// Are the bytes a saved state in the form that the calls take?
 #[no_mangle]
 pub extern "C" fn walbryts_is_state(bytes: &[u8]) -> bool
-    ensures { λ r. ⌜ r ≡ isSaved (now (bytes .entry)) ⌝ }
+    ensures { λ r. ⌜ r ≡ isForm 3 689 (now (bytes .entry)) ⌝ }
 {
     let l = state::load(bytes);
     l.found
 }
 
-// A saved state of either form, in the form that is written: the call brings states with short counters over.
+// A saved state of any form, in the form that the calls take: one with one count is brought over with that count as user 0's and
+// these allowances.
 #[no_mangle]
-pub extern "C" fn walbryts_bring_over(old: &[u8], state: &mut [u8; 649]) -> u8
-    ensures { λ r. ⌜ r ≡ bringing (loaded (now (old .entry))) ⌝ }
-    ensures { λ r. ⌜ now (state .exit) ≡ broughtInto (now (state .entry)) (loaded (now (old .entry))) ⌝ }
+pub extern "C" fn walbryts_bring_over(
+    old: &[u8],
+    allowances: &[u32; 4],
+    state: &mut [u8; 689],
+) -> u8
+    ensures { λ r. ⌜ r ≡ broughtOver (now (old .entry)) (now (allowances .entry)) .number ⌝ }
+    ensures { λ r. ⌜
+        now (state .exit)
+        ≡ broughtInto (now (state .entry)) (broughtOver (now (old .entry)) (now (allowances .entry)))
+        ⌝ }
 {
-    let l = state::load(old);
-    if !l.found {
-        return 31;
+    let brought = state::bring_over(old, *allowances);
+    if brought.number != 0 {
+        return brought.number;
     }
-    let st = l.state;
+    let st = brought.state;
     state::save(st, state);
-    0
+    brought.number
 }
 
-// The state becomes the start state.
+// The state becomes the start state, with these allowances.
 #[no_mangle]
-pub extern "C" fn walbryts_start(sheet: &[u8], state: &mut [u8; 649]) -> u8
-    ensures { λ r. ⌜ r ≡ start (now (sheet .entry)) .number ⌝ }
-    ensures { λ r. ⌜ now (state .exit) ≡ startedIn (now (state .entry)) (start (now (sheet .entry))) ⌝ }
+pub extern "C" fn walbryts_start(sheet: &[u8], allowances: &[u32; 4], state: &mut [u8; 689]) -> u8
+    ensures { λ r. ⌜ r ≡ start (now (sheet .entry)) (now (allowances .entry)) .number ⌝ }
+    ensures { λ r. ⌜
+        now (state .exit)
+        ≡ startedIn (now (state .entry)) (start (now (sheet .entry)) (now (allowances .entry)))
+        ⌝ }
 {
-    let first = simulator::start(sheet);
+    let first = simulator::start(sheet, *allowances);
     if first.number != 0 {
         return first.number;
     }
@@ -96,15 +107,15 @@ fn unfit(sheet: &[u8]) -> u8
     31
 }
 
-// A choice.
+// A choice of a user.
 #[no_mangle]
-pub extern "C" fn walbryts_choose(sheet: &[u8], state: &mut [u8; 649], choice: u8) -> u8
+pub extern "C" fn walbryts_choose(sheet: &[u8], state: &mut [u8; 689], user: u8, choice: u8) -> u8
     ensures { λ r. ⌜
-        r ≡ numberOn (now (sheet .entry)) (loaded (now (state .entry))) (λ st. choose (now (sheet .entry)) st choice)
+        r ≡ numberOn (now (sheet .entry)) (loaded (now (state .entry))) (λ st. choose (now (sheet .entry)) st user choice)
         ⌝ }
     ensures { λ r. ⌜
         now (state .exit)
-        ≡ bytesOn (now (state .entry)) (loaded (now (state .entry))) (λ st. choose (now (sheet .entry)) st choice)
+        ≡ bytesOn (now (state .entry)) (loaded (now (state .entry))) (λ st. choose (now (sheet .entry)) st user choice)
         ⌝ }
 {
     let l = state::load(state);
@@ -112,33 +123,34 @@ pub extern "C" fn walbryts_choose(sheet: &[u8], state: &mut [u8; 649], choice: u
         return unfit(sheet);
     }
     let st = l.state;
-    let chosen = simulator::choose(sheet, st, choice);
+    let chosen = simulator::choose(sheet, st, user, choice);
     let left = chosen.state;
     state::save(left, state);
     chosen.number
 }
 
-// A run over a list of choices; `accepted` takes how many were accepted.
+// A run over a list of a user's choices; `accepted` takes how many were accepted.
 #[no_mangle]
 pub extern "C" fn walbryts_run(
     sheet: &[u8],
-    state: &mut [u8; 649],
+    state: &mut [u8; 689],
+    user: u8,
     choices: &[u8],
     accepted: &mut usize,
 ) -> u8
     ensures { λ r. ⌜
         r
         ≡ numberOn (now (sheet .entry)) (loaded (now (state .entry)))
-        (λ st. ran (runList (now (sheet .entry)) st (now (choices .entry))))
+        (λ st. ran (runList (now (sheet .entry)) st user (now (choices .entry))))
         ⌝ }
     ensures { λ r. ⌜
         now (state .exit)
         ≡ bytesOn (now (state .entry)) (loaded (now (state .entry)))
-        (λ st. ran (runList (now (sheet .entry)) st (now (choices .entry))))
+        (λ st. ran (runList (now (sheet .entry)) st user (now (choices .entry))))
         ⌝ }
     ensures { λ r. ⌜
         now (accepted .exit)
-        ≡ toldOn 0 (loaded (now (state .entry))) (λ st. runList (now (sheet .entry)) st (now (choices .entry)) .accepted)
+        ≡ toldOn 0 (loaded (now (state .entry))) (λ st. runList (now (sheet .entry)) st user (now (choices .entry)) .accepted)
         ⌝ }
 {
     let l = state::load(state);
@@ -147,7 +159,7 @@ pub extern "C" fn walbryts_run(
         return unfit(sheet);
     }
     let st = l.state;
-    let reached = simulator::run(sheet, st, choices);
+    let reached = simulator::run(sheet, st, user, choices);
     let left = reached.state;
     state::save(left, state);
     *accepted = reached.accepted;
@@ -178,11 +190,12 @@ fn word_of_verdict(v: Verdict) -> u8
     }
 }
 
-// The plain run; `accepted` takes how many choices were accepted, `word` 0 for quiet, 1 for spent, 2 for stopped, 3 for refused.
+// The plain run of a user; `accepted` takes how many choices were accepted, `word` 0 for quiet, 1 for spent, 2 for stopped, 3 for refused.
 #[no_mangle]
 pub extern "C" fn walbryts_run_plain(
     sheet: &[u8],
-    state: &mut [u8; 649],
+    state: &mut [u8; 689],
+    user: u8,
     limit: u16,
     accepted: &mut u16,
     word: &mut u8,
@@ -190,20 +203,20 @@ pub extern "C" fn walbryts_run_plain(
     ensures { λ r. ⌜
         r
         ≡ numberOfVerdict
-        (verdictOn (now (sheet .entry)) (loaded (now (state .entry))) (λ st. runPlain (now (sheet .entry)) st limit))
+        (verdictOn (now (sheet .entry)) (loaded (now (state .entry))) (λ st. runPlain (now (sheet .entry)) st user limit))
         ⌝ }
     ensures { λ r. ⌜
         now (state .exit)
-        ≡ bytesOn (now (state .entry)) (loaded (now (state .entry))) (λ st. rested (runPlain (now (sheet .entry)) st limit))
+        ≡ bytesOn (now (state .entry)) (loaded (now (state .entry))) (λ st. rested (runPlain (now (sheet .entry)) st user limit))
         ⌝ }
     ensures { λ r. ⌜
         now (accepted .exit)
-        ≡ toldOn 0 (loaded (now (state .entry))) (λ st. runPlain (now (sheet .entry)) st limit .accepted)
+        ≡ toldOn 0 (loaded (now (state .entry))) (λ st. runPlain (now (sheet .entry)) st user limit .accepted)
         ⌝ }
     ensures { λ r. ⌜
         now (word .exit)
         ≡ wordOfVerdict
-        (verdictOn (now (sheet .entry)) (loaded (now (state .entry))) (λ st. runPlain (now (sheet .entry)) st limit))
+        (verdictOn (now (sheet .entry)) (loaded (now (state .entry))) (λ st. runPlain (now (sheet .entry)) st user limit))
         ⌝ }
 {
     let l = state::load(state);
@@ -213,7 +226,7 @@ pub extern "C" fn walbryts_run_plain(
         return unfit(sheet);
     }
     let st = l.state;
-    let rest = simulator::run_plain(sheet, st, limit);
+    let rest = simulator::run_plain(sheet, st, user, limit);
     let left = rest.state;
     state::save(left, state);
     *accepted = rest.accepted;
@@ -226,7 +239,7 @@ pub extern "C" fn walbryts_run_plain(
 #[no_mangle]
 pub extern "C" fn walbryts_instant(
     sheet: &[u8],
-    state: &mut [u8; 649],
+    state: &mut [u8; 689],
     count: u8,
     value: &[u32; 16],
     unknown: &[bool; 16],
@@ -258,12 +271,13 @@ pub extern "C" fn walbryts_instant(
     entered.number
 }
 
-// Many clock cycles: rows of 16 inputs, the clock's not looked at; `phases` takes how many instants were done, `running` whether it
-// was the run after an instant that stopped it.
+// Many clock cycles, whose choices are a user's: rows of 16 inputs, the clock's not looked at; `phases` takes how many instants were
+// done, `running` whether it was the run after an instant that stopped it.
 #[no_mangle]
 pub extern "C" fn walbryts_run_cycles(
     sheet: &[u8],
-    state: &mut [u8; 649],
+    state: &mut [u8; 689],
+    user: u8,
     value: &[u32],
     unknown: &[bool],
     phases: &mut usize,
@@ -272,22 +286,22 @@ pub extern "C" fn walbryts_run_cycles(
     ensures { λ r. ⌜
         r
         ≡ numberOn (now (sheet .entry)) (loaded (now (state .entry)))
-        (λ st. cycledAs (runCycles (now (sheet .entry)) st (now (value .entry)) (now (unknown .entry))))
+        (λ st. cycledAs (runCycles (now (sheet .entry)) st user (now (value .entry)) (now (unknown .entry))))
         ⌝ }
     ensures { λ r. ⌜
         now (state .exit)
         ≡ bytesOn (now (state .entry)) (loaded (now (state .entry)))
-        (λ st. cycledAs (runCycles (now (sheet .entry)) st (now (value .entry)) (now (unknown .entry))))
+        (λ st. cycledAs (runCycles (now (sheet .entry)) st user (now (value .entry)) (now (unknown .entry))))
         ⌝ }
     ensures { λ r. ⌜
         now (phases .exit)
         ≡ toldOn 0 (loaded (now (state .entry)))
-        (λ st. runCycles (now (sheet .entry)) st (now (value .entry)) (now (unknown .entry)) .phases)
+        (λ st. runCycles (now (sheet .entry)) st user (now (value .entry)) (now (unknown .entry)) .phases)
         ⌝ }
     ensures { λ r. ⌜
         now (running .exit)
         ≡ toldOn false (loaded (now (state .entry)))
-        (λ st. runCycles (now (sheet .entry)) st (now (value .entry)) (now (unknown .entry)) .running)
+        (λ st. runCycles (now (sheet .entry)) st user (now (value .entry)) (now (unknown .entry)) .running)
         ⌝ }
 {
     let l = state::load(state);
@@ -297,7 +311,7 @@ pub extern "C" fn walbryts_run_cycles(
         return unfit(sheet);
     }
     let st = l.state;
-    let done = batch::run_cycles(sheet, st, value, unknown);
+    let done = batch::run_cycles(sheet, st, user, value, unknown);
     let left = done.state;
     state::save(left, state);
     *phases = done.phases;

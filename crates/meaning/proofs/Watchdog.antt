@@ -13,7 +13,7 @@ use Rattle.sheet.specs.declared.EdgeTerm.{EdgeTerm}
 use Rattle.sheet.specs.Expression.{Expr}
 use Rattle.sheet.specs.Statement.{Stmt}
 use Rattle.state.specs.declared.State.{State}
-use Rattle.state.specs.State.{Shaped, placeOf}
+use Rattle.state.specs.State.{Shaped, users, placeOf}
 use Rattle.events.specs.Calls.{stateFits}
 use Rattle.nextstate.specs.Rules.{bodyOf, surelyWaits, loopsWait}
 use Rattle.nextstate.proofs.Samples.{turning}
@@ -24,7 +24,7 @@ use Rattle.meaning.proofs.Thread.{as-written}
 
 -- "A thread is a forever of its statement."
 abbrev thread : ℕ → Stmt Expr
-thread i = whole watchdog-sheet watchdog i
+thread i = whole watchdog-sheet watchdog 0 i
 
 watchdog-loops : (i : ℕ) → i < length (watchdog .threads) → loopsWait (thread i) ≡ true
 unfolding watchdog bodyOf surelyWaits loopsWait
@@ -32,9 +32,10 @@ watchdog-loops zero l = refl
 watchdog-loops (suc zero) l = refl
 watchdog-loops (suc (suc i)) l = absurd (omega arith)
 
-pub watchdog-as-written : (i : ℕ) → i < length (watchdog .threads) → (st : State) → Shaped st → stateFits watchdog st ≡ true →
-    (what : Stmt Expr) → Stands watchdog-sheet watchdog i (placeOf st i) what → Goes watchdog-sheet watchdog i st what
-watchdog-as-written i l = as-written watchdog-sheet watchdog watchdog-read i l (watchdog-loops i l)
+pub watchdog-as-written : (u : ℕ) → u < users → (i : ℕ) → i < length (watchdog .threads) → (st : State) → Shaped st →
+    stateFits watchdog st ≡ true → (what : Stmt Expr) → Stands watchdog-sheet watchdog u i (placeOf st i) what →
+    Goes watchdog-sheet watchdog u i st what
+watchdog-as-written u b i l = as-written watchdog-sheet watchdog watchdog-read u b i l (watchdog-loops i l)
 
 -- ---- from its first wait
 

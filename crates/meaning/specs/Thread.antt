@@ -17,7 +17,7 @@ use Rattle.sheet.specs.Statement.{Stmt, empty, assign, later, sequence, ifThen,
 use Rattle.sheet.specs.Module.{Module, read}
 use Rattle.pseudocode.specs.Translation.{Instr, wait!, set!, later!, go, ifnot}
 use Rattle.state.specs.declared.State.{State}
-use Rattle.state.specs.State.{Shaped, full, valueOf, pendingOf, placeOf}
+use Rattle.state.specs.State.{Shaped, users, countOf, allowanceOf, valueOf, pendingOf, placeOf}
 use Rattle.events.specs.declared.Ran.{Ran}
 use Rattle.events.specs.Cycle.{codeOf, instrAt, current, isWait}
 use Rattle.events.specs.Calls.{stateFits, chooseIn, choose, runList}
@@ -61,17 +61,17 @@ module _ (m : Module Expr) where
   shown (go g) new = []
   shown (ifnot e g) new = []
 
-  -- The writes of k choices of thread i, one after the other.
-  unfoldable pub writesOf : ℕ → ℕ → State → List Write
-  writesOf i zero st = []
-  writesOf i (suc k) st = shown (current m st i) (chooseIn m st i .state) ++ writesOf i k (chooseIn m st i .state)
+  -- The writes of k choices of thread i by user u, one after the other.
+  unfoldable pub writesOf : ℕ → ℕ → ℕ → State → List Write
+  writesOf u i zero st = []
+  writesOf u i (suc k) st = shown (current m st i) (chooseIn m st u i .state) ++ writesOf u i k (chooseIn m st u i .state)
 
--- ---- "while the allowance lasts": there is room for k choices more
+-- ---- "while the allowance lasts": user u has room for k choices more
 
-abbrev pub Lasts : ℕ → State → Type 0
-Lasts k st = st .counters .count + k ≤ full
+abbrev pub Lasts : ℕ → ℕ → State → Type 0
+Lasts u k st = countOf st u + k ≤ allowanceOf st u
 
-module _ (s : List ℕ) (m : Module Expr) (i : ℕ) where
+module _ (s : List ℕ) (m : Module Expr) (u i : ℕ) where
   -- "A thread is a forever of its statement."
   abbrev pub whole : Stmt Expr
   whole = forever (bodyOf m i)
@@ -81,24 +81,24 @@ module _ (s : List ℕ) (m : Module Expr) (i : ℕ) where
     at-start : Stands 0 whole
     behind-wait : (p : ℕ) → isWait (instrAt (codeOf m i) p) ≡ true → Stands (p + 1) (behind whole p)
 
-  -- "run alone": k choices of the thread and of nothing else.
+  -- "run alone": k choices of the thread by one user, and of nothing else.
   abbrev pub alone : ℕ → State → Ran
-  alone k st = runList s st (replicate k i)
+  alone k st = runList s st u (replicate k i)
 
   -- All k choices are accepted. Values and pending values are those before with the writes made so far, which are the first of ws.
   pub record Along (st : State) (ws : List Write) (k : ℕ) : Type 0 where
     pub accepted : alone k st .accepted ≡ k
     pub number : alone k st .number ≡ 0
     pub still : List Write
-    pub writes : ws ≡ writesOf m i k st ++ still
-    pub values : (v : ℕ) → valueOf (alone k st .state) v ≡ valuesAfter (valueOf st) (writesOf m i k st) v
-    pub pending : (r : ℕ) → pendingOf (alone k st .state) r ≡ pendingAfter m (pendingOf st) (writesOf m i k st) r
+    pub writes : ws ≡ writesOf m u i k st ++ still
+    pub values : (v : ℕ) → valueOf (alone k st .state) v ≡ valuesAfter (valueOf st) (writesOf m u i k st) v
+    pub pending : (r : ℕ) → pendingOf (alone k st .state) r ≡ pendingAfter m (pendingOf st) (writesOf m u i k st) r
 
   -- The thread has come to the wait at place q: it has written all of ws, and a choice more is refused.
   pub record Arrived (st : State) (ws : List Write) (q k : ℕ) : Type 0 where
-    pub writes : writesOf m i k st ≡ ws
+    pub writes : writesOf m u i k st ≡ ws
     pub place : placeOf (alone k st .state) i ≡ q
-    pub waits : choose s (alone k st .state) i .number ≡ 33
+    pub waits : choose s (alone k st .state) u i .number ≡ 33
 
   -- With `what` to do, the thread goes to its next wait as `what` means.
   pub record Goes (st : State) (what : Stmt Expr) : Type 0 where
@@ -108,15 +108,16 @@ module _ (s : List ℕ) (m : Module Expr) (i : ℕ) where
     pub wait : instrAt (codeOf m i) place ≡ wait! terms
     -- "stops at a wait with what remains to do": that is what remains behind the wait at that place.
     pub means : meaning what (valueOf st) ≡ stops writes terms (behind whole place)
-    -- As long as the count lasts it comes nearer by each choice, and there in so many.
+    -- As long as the allowance lasts it comes nearer by each choice, and there in so many.
     pub count : ℕ
     pub most : count ≤ 2 * length (codeOf m i)
-    pub along : (k : ℕ) → k ≤ count → Lasts k st → Along st writes k
-    pub arrives : Lasts count st → Arrived st writes place count
+    pub along : (k : ℕ) → k ≤ count → Lasts u k st → Along st writes k
+    pub arrives : Lasts u count st → Arrived st writes place count
 
 -- ---- the claim. The thread "meets rule 17": all its loop bodies surely wait, its own included.
 
 abbrev pub AsWritten : Type 0
 AsWritten =
-    (s : List ℕ) (m : Module Expr) → read s ≡ ok m → (i : ℕ) → i < length (m .threads) → loopsWait (whole s m i) ≡ true →
-    (st : State) → Shaped st → stateFits m st ≡ true → (what : Stmt Expr) → Stands s m i (placeOf st i) what → Goes s m i st what
+    (s : List ℕ) (m : Module Expr) → read s ≡ ok m → (u : ℕ) → u < users → (i : ℕ) → i < length (m .threads) →
+    loopsWait (whole s m u i) ≡ true → (st : State) → Shaped st → stateFits m st ≡ true → (what : Stmt Expr) →
+    Stands s m u i (placeOf st i) what → Goes s m u i st what

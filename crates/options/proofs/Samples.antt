@@ -52,6 +52,8 @@ run sheet inputs names vcd way shape =
       names = names;
       vcd = vcd;
       expect = 0;
+      user = 0;
+      allowance = 0;
       way = way;
       shape = shape;
       progress = false;
@@ -107,10 +109,14 @@ pub samples :
     (("run" ∷ "m.hex" ∷ "m.in" ∷ "--seed" ∷ "4294967296" ∷ []) asks Wrong 5 3) ×
     (("run" ∷ "m.hex" ∷ "m.in" ∷ "--vcd" ∷ "-" ∷ []) asks Wrong 5 7) ×
     (("run" ∷ "m.hex" ∷ "m.in" ∷ "--every" ∷ "0" ∷ []) asks Wrong 5 3) ×
+    (("run" ∷ "m.hex" ∷ "m.in" ∷ "--user" ∷ "two" ∷ []) asks Wrong 5 3) ×
+    (("compare" ∷ "m.hex" ∷ "m.in" ∷ "--allowance" ∷ "1,2,3,4" ∷ []) asks Wrong 5 5) ×
     (("run" ∷ "m.hex" ∷ "m.in" ∷ "--hex" ∷ "--binary" ∷ []) asks Wrong 5 9) ×
     (("run" ∷ "m.hex" ∷ "m.in" ∷ "--seed" ∷ "1" ∷ "--by-expressions" ∷ []) asks Wrong 6 6)
 unfolding requestOf request judged fitted takenAll taken nothing advanced counted noted valued wanting misplaced withCommand leastOf numbered isDash isBarred filled isDashed named placed fresh optionOf either valuedOption loneOption plainOption shortOption commandOf among amongFrom isFound goesOn agrees lettered ended isNumber ascii isGiven misfit isMisfit goesWith isFed lacking clashing based wayOf baseOf lastOf everyOf shapeOf runOf commanded numberOf grownBy grown digitOf
 samples = (
+  refl,
+  refl,
   refl,
   refl,
   refl,

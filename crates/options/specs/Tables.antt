@@ -48,7 +48,7 @@ commandOf w = among w 0 "list check run extract compare verilog help "
 
 -- Those that take the next word.
 unfoldable pub valuedOption : List ℕ → ℕ
-valuedOption w = among w 0 "--vcd --names --seed --from --to --every --only --expect "
+valuedOption w = among w 0 "--vcd --names --seed --from --to --every --only --expect --user --allowance "
 
 -- Those that stand alone.
 unfoldable pub loneOption : List ℕ → ℕ
@@ -69,10 +69,10 @@ either a b = a is 0 then b else a
 unfoldable pub optionOf : List ℕ → ℕ
 optionOf w = either (valuedOption w) (either (loneOption w) (either (plainOption w) (shortOption w)))
 
--- ---- isNumber: `--seed`, `--from`, `--to` and `--every` take a number
+-- ---- isNumber: `--seed`, `--from`, `--to`, `--every` and `--user` take a number
 
 unfoldable pub isNumber : ℕ → Bool
-isNumber slot = ltb 2 slot && ltb slot 7
+isNumber slot = slot is 9 then true else (ltb 2 slot && ltb slot 7)
 
 -- ---- goesWith: slots 30 and 32 up go with all commands, names with run and extract, a graph with extract, the others with run
 

@@ -161,6 +161,8 @@ fn run_of(o: Options) -> RunOptions
         names: word_of(o, 2),
         vcd: word_of(o, 1),
         expect: word_of(o, 8),
+        user: number_at(o, 9),
+        allowance: word_of(o, 10),
         way,
         shape,
         progress: is_given(o, 24),

@@ -57,6 +57,8 @@ pub struct RunOptions {
     pub names: usize,
     pub vcd: usize,
     pub expect: usize,
+    pub user: u32,
+    pub allowance: usize,
     pub way: Way,
     pub shape: Shape,
     pub progress: bool,

@@ -85,7 +85,7 @@ fn valued_option(word: &[u8]) -> usize
     among(
         word,
         0,
-        b"--vcd --names --seed --from --to --every --only --expect ",
+        b"--vcd --names --seed --from --to --every --only --expect --user --allowance ",
     )
 }
 
@@ -136,6 +136,9 @@ pub fn option_of(word: &[u8]) -> usize
 pub fn is_number(slot: usize) -> bool
     ensures { λ r. ⌜ r ≡ isNumber slot ⌝ }
 {
+    if slot == 9 {
+        return true;
+    }
     if 2 < slot { slot < 7 } else { false }
 }
 

@@ -3,7 +3,7 @@ use mathlib.Core.Path.{_≡_, refl, sym, ap, subst, _∙_}
 use mathlib.Core.Logic.{_≢_}
 use mathlib.Core.Bool.{Bool, true, false}
 use mathlib.Core.List.{List}
-use Prim.Native.Nat.{ℕ, _<_}
+use Prim.Native.Nat.{ℕ, _≤_, _<_}
 use native.Mathlib.Omega.{arith}
 use lib.ListN.{length}
 use lib.Dec.{ltb}
@@ -15,12 +15,13 @@ use Rattle.sheet.specs.Reading.{ok}
 use Rattle.sheet.specs.Expression.{Expr}
 use Rattle.sheet.specs.Module.{Module, read}
 use Rattle.state.specs.declared.State.{State}
+use Rattle.state.specs.State.{users, countOf, allowanceOf}
 use Rattle.soundness.specs.Soundness.{Sound}
 use Rattle.events.specs.Cycle.{variables, codeOf, instrAt, isWait, items, anyEnabled}
-use Rattle.events.specs.Calls.{started, startOf, start, plainChoice}
+use Rattle.events.specs.Calls.{start, plainChoice}
 use Rattle.events.specs.Steps.{Instant}
 use Rattle.events.proofs.Choices.{spend-zero}
-use Rattle.events.proofs.Fits.{Fits, shaped-started, fits-started}
+use Rattle.events.proofs.Fits.{Fits}
 use Rattle.events.proofs.Runs.{plain-lowest, plain-commit, plain-refusal}
 use Rattle.nextstate.specs.Extraction.{Tables, extracted}
 use Rattle.nextstate.specs.Book.{Book, settled, fed, rise, opening, turned, book}
@@ -33,8 +34,9 @@ use Rattle.phases.specs.Phases.{turnedAlone, Phase}
 use Rattle.phases.proofs.Phases.{phase-start, phase-step, phase-bound, phase-quiet, phase-low, phase-high, phase-places}
 use Rattle.order.specs.Calls.{Call, final, instants, since, Cycles}
 use Rattle.order.specs.Claim.{AtTheEnd}
-use Rattle.order.proofs.Outcomes.{Standing, choose-in}
-use Rattle.order.proofs.List.{tallied, every, all-standing, to-fall}
+use Rattle.order.proofs.Outcomes.{choose-in}
+use Rattle.order.proofs.Users.{all-standing, from-start, standing-start, tallied}
+use Rattle.order.proofs.List.{every, to-fall}
 
 module _ (s : List ℕ) (m : Module Expr) (e : read s ≡ ok m) (w : Sound m) (u : Ruled m) (T : Tables) (x : extracted m ≡ ok T) where
   -- The book of the claim is the one that the phases speak of, wherever its places are waits.
@@ -70,24 +72,6 @@ module _ (s : List ℕ) (m : Module Expr) (e : read s ≡ ok m) (w : Sound m) (u
   takes-in b a v z l =
       rw z (settle-below m (λ v. pick (ltb v (m .scope .inputs)) (a v) (b .values v)) v (omega arith) ∙ rw (lt-ltb v (m .scope .inputs) l) refl)
 
-  standing-start : Standing m (started (length (m .wires)))
-  standing-start = record { shaped = shaped-started (length (m .wires)); fits = fits-started m w }
-
-  from-start : start s .state ≡ started (length (m .wires))
-  unfolding start startOf
-  from-start = rw e refl
-
-  standing : Standing m (start s .state)
-  standing = subst (Standing m) (sym from-start) standing-start
-
-  no-time : start s .state .counters .time ≡ 0
-  unfolding started
-  no-time = ap (λ (st : State). st .counters .time) from-start
-
-  no-count : start s .state .counters .count ≡ 0
-  unfolding started
-  no-count = ap (λ (st : State). st .counters .count) from-start
-
   -- The plain choice is a byte: an item, of which there are 40 at most, or the commit.
   plain-byte : (st : State) → plainChoice m st < 256
   unfolding items
@@ -97,32 +81,38 @@ module _ (s : List ℕ) (m : Module Expr) (e : read s ≡ ok m) (w : Sound m) (u
       by true h = omega (arith, plain-lowest m st h .0, w .threads-most, w .wires-most)
       by false h = rw (plain-commit m st h) (omega arith)
 
-  -- The phase at the list's end.
-  reached : (calls : List Call) → Cycles (instants s calls (start s .state)) →
-      Phase m (book m T (instants s calls (start s .state))) (final s calls (start s .state)) (since s calls (start s .state) 0)
-  unfolding book
-  reached calls cy =
-      every s m e w T (Phase m) (λ b old new c n f st p. phase-step m w u b old new n c st p) low high takes-in
-      calls (start s .state) (opening m T) 0 standing (to-fall cy)
-      (subst (λ (st : State). Phase m (opening m T) st 0) (sym from-start) (phase-start m w u T))
+  -- ---- the list, from the start with these allowances
 
-  pub at-the-end : (calls : List Call) → Cycles (instants s calls (start s .state)) → AtTheEnd s m T calls
-  at-the-end calls cy =
-      let p = reached calls cy in
-      let b = book m T (instants s calls (start s .state)) in
-      let st = final s calls (start s .state) in
-      let n = since s calls (start s .state) 0 in
-      let tally = tallied s m e w calls (start s .state) standing in
-      let stands = all-standing s m e w calls (start s .state) standing in
-      record {
-        time = tally .time ∙ rw no-time (omega arith);
-        count = tally .count ∙ rw no-count (omega arith);
-        bound = phase-bound m w u b st n p;
-        progress = λ q room. (
-          plainChoice m st,
-          plain-byte st,
-          ap (λ r. r .number) (choose-in s m e w st stands (plainChoice m st)) ∙ plain-refusal m st w q ∙ spend-zero (st .counters .count) room,
-        );
-        values = λ q. phase-quiet m w u b st n q p .0;
-        places = λ q. phase-quiet m w u b st n q p .1;
-      }
+  module _ (allowances : List ℕ) (right : length allowances ≡ users) where
+    abbrev begins : State
+    begins = start s allowances .state
+
+    -- The phase at the list's end.
+    reached : (calls : List Call) → Cycles (instants s calls begins) →
+        Phase m (book m T (instants s calls begins)) (final s calls begins) (since s calls begins 0)
+    unfolding book
+    reached calls cy =
+        every s m e w T (Phase m) (λ b old new who c n f st p. phase-step m w u b old new n c st p) low high takes-in
+        calls begins (opening m T) 0 (standing-start s m e w allowances right) (to-fall cy)
+        (subst (λ (st : State). Phase m (opening m T) st 0) (sym (from-start s m e w allowances right)) (phase-start m w u T allowances))
+
+    pub at-the-end : (calls : List Call) → Cycles (instants s calls begins) → AtTheEnd s m T allowances calls
+    at-the-end calls cy =
+        let p = reached calls cy in
+        let b = book m T (instants s calls begins) in
+        let st = final s calls begins in
+        let n = since s calls begins 0 in
+        let stands = all-standing s m e w calls begins (standing-start s m e w allowances right) in
+        record {
+          tallied = tallied s m e w allowances right calls;
+          bound = phase-bound m w u b st n p;
+          progress = λ q v l room.
+              let most : countOf st v ≤ allowanceOf st v = stands .fits .counts v l in
+              let some : countOf st v < allowanceOf st v = omega arith in (
+                plainChoice m st,
+                plain-byte st,
+                ap (λ r. r .number) (choose-in s m e w st stands v (plainChoice m st)) ∙ plain-refusal m st v w l q ∙ spend-zero st v some,
+              );
+          values = λ q. phase-quiet m w u b st n q p .0;
+          places = λ q. phase-quiet m w u b st n q p .1;
+        }

@@ -1,4 +1,5 @@
 pub mod Outcomes
+pub mod Users
 pub mod List
 pub mod Ending
 pub mod Kept

@@ -1,5 +1,5 @@
 -- A list of calls, call by call. Whatever holds of a state and a book where steps, low and high instants keep it, holds at the list's
--- end with the book fed the accepted instants (`every`); time and count are the accepted instants and choices (`tallied`).
+-- end with the book fed the accepted instants (`every`).
 use mathlib.Core.Path.{_≡_, refl, sym, subst, _∙_}
 use mathlib.Core.Logic.{_≢_}
 use mathlib.Core.Bool.{true}
@@ -14,50 +14,18 @@ use Rattle.sheet.specs.Reading.{ok}
 use Rattle.sheet.specs.Expression.{Expr}
 use Rattle.sheet.specs.Module.{Module, read}
 use Rattle.state.specs.declared.State.{State}
+use Rattle.state.specs.State.{users}
 use Rattle.soundness.specs.Soundness.{Sound}
 use Rattle.events.specs.declared.Inputs.{Inputs}
 use Rattle.events.specs.Calls.{inputOf, inputsFit}
 use Rattle.events.specs.Steps.{Step, Instant}
 use Rattle.events.proofs.Cycle.{and-left}
-use Rattle.events.proofs.Fits.{Fits, fits-step}
-use Rattle.events.proofs.Runs.{Chain, done, after, count-chain, time-chain}
+use Rattle.events.proofs.Fits.{Fits, CountsFit, fits-step}
+use Rattle.events.proofs.Runs.{Chain, done, after, count-chain, allowance-chain}
 use Rattle.nextstate.specs.Extraction.{Tables}
 use Rattle.nextstate.specs.Book.{Book, turned, turnedAll}
-use Rattle.order.specs.Calls.{Call, Outcome, called, final, choices, before, instants, onwards, since, SameButClock, Cycles}
-use Rattle.order.proofs.Outcomes.{Did, chose, was-fed, Standing, did, standing}
-
--- ---- time and count
-
-module _ (s : List ℕ) (m : Module Expr) (e : read s ≡ ok m) (w : Sound m) where
-  pub record Tallied (ks : List Call) (st : State) : Type 0 where
-    pub time : final s ks st .counters .time ≡ st .counters .time + length (instants s ks st)
-    pub count : final s ks st .counters .count ≡ st .counters .count + choices s ks st
-
-  one-time : (st : State) (o : Outcome) (l : List Inputs) → Did m st o → o .state .counters .time + length l ≡ st .counters .time + length (before s (o .fed) l)
-  unfolding before
-  one-time st o l (chose cs c a f) = let t = time-chain m c in rw f (omega arith)
-  one-time st o l (was-fed a h i z f) = let t = i .time in rw f (omega arith)
-
-  one-count : (st : State) (o : Outcome) → Did m st o → o .state .counters .count ≡ st .counters .count + o .accepted
-  one-count st o (chose cs c a f) = let t = count-chain m c in omega arith
-  one-count st o (was-fed a h i z f) = let t = i .count in omega arith
-
-  pub tallied : (ks : List Call) (st : State) → Standing m st → Tallied ks st
-  unfolding final instants choices
-  tallied [] st h = record { time = omega arith; count = omega arith }
-  tallied (k ∷ ks) st h =
-      let o = called s st k in
-      let d = did s m e w st h k in
-      let r = tallied ks (o .state) (standing s m e w st h k) in
-      record {
-        time = r .time ∙ one-time st o (instants s ks (o .state)) d;
-        count = let a = r .count in let b = one-count st o d in omega arith;
-      }
-
-  pub all-standing : (ks : List Call) (st : State) → Standing m st → Standing m (final s ks st)
-  unfolding final
-  all-standing [] st h = h
-  all-standing (k ∷ ks) st h = all-standing ks (called s st k .state) (standing s m e w st h k)
+use Rattle.order.specs.Calls.{Call, Outcome, called, final, before, instants, onwards, since, SameButClock, Cycles}
+use Rattle.order.proofs.Outcomes.{Did, nothing, chose, was-fed, Standing, did, standing}
 
 -- ---- cycles, one instant at a time
 
@@ -79,7 +47,7 @@ count-inputs m a h = eqb-true (a .count) (m .scope .inputs) (and-left _ _ h)
 
 module _ (s : List ℕ) (m : Module Expr) (e : read s ≡ ok m) (w : Sound m) (T : Tables)
     (Holds : Book → State → ℕ → Type 0)
-    (step : (b : Book) (old new : State) (c n : ℕ) → Fits m old → Step m old new c → Holds b old n → Holds b new (n + 1))
+    (step : (b : Book) (old new : State) (who c n : ℕ) → Fits m old → Step m old new who c → Holds b old n → Holds b new (n + 1))
     (low : (b : Book) (old new : State) (n : ℕ) (a : ℕ → Value) → Fits m old → Instant m old new a → a 0 ≡ Known 0 →
     Holds b old n → Holds (turned m T a b) new 0)
     (high : (b : Book) (old new : State) (n : ℕ) (a : ℕ → Value) → Fits m old → Instant m old new a → a 0 ≡ Known 1 →
@@ -95,10 +63,16 @@ module _ (s : List ℕ) (m : Module Expr) (e : read s ≡ ok m) (w : Sound m) (T
       to-fall : Cycles l → Next b l
       to-rise : (a : Inputs) → inputOf a 0 ≡ Known 0 → Has a b → Rises a l → Next b l
 
-    chain : (b : Book) (old new : State) (cs : List ℕ) (n k : ℕ) → k ≡ n + length cs → Fits m old → Chain m old cs new → Holds b old n → Holds b new k
-    chain b old new [] n k q f done h = subst (λ (j : ℕ). Holds b old j) (omega arith) h
-    chain b old new (c ∷ cs) n k q f (after {mid = mid} s t) h =
-        chain b mid new cs (n + 1) k (omega arith) (fits-step m w old mid f c s) t (step b old mid c n f s h)
+    -- Counts only rise, so that every step of accepted choices has room where the last has.
+    chain : (who : ℕ) → who < users → (b : Book) (old new : State) (cs : List ℕ) (n k : ℕ) → k ≡ n + length cs → Fits m old →
+        CountsFit new → Chain m who old cs new → Holds b old n → Holds b new k
+    chain who l b old new [] n k q f most done h = subst (λ (j : ℕ). Holds b old j) (omega arith) h
+    chain who l b old new (c ∷ cs) n k q f most (after {mid = mid} s t) h =
+        let a = count-chain m who (after s t) in
+        let z = allowance-chain m who (after s t) who in
+        let x = most who l in
+        chain who l b mid new cs (n + 1) k (omega arith) (fits-step m w old mid f who c s (omega arith)) most t
+        (step b old mid who c n f s h)
 
     -- The low instant's inputs but the clock are the high one's.
     rise-inputs : (b : Book) (a high : Inputs) → inputsFit m high ≡ true → Has a b → SameButClock high a →
@@ -125,18 +99,24 @@ module _ (s : List ℕ) (m : Module Expr) (e : read s ≡ ok m) (w : Sound m) (T
     )
 
     -- One call, and what the rest of the list keeps.
-    one : (ks : List Call) (st : State) (b : Book) (n : ℕ) (o : Outcome) → Fits m st → Did m st o →
+    one : (ks : List Call) (st : State) (b : Book) (n : ℕ) (k : Call) (o : Outcome) → Fits m st → CountsFit (o .state) → Did m st k o →
         ((b : Book) (n : ℕ) → Next b (instants s ks (o .state)) → Holds b (o .state) n →
         Holds (turnedAll m T (instants s ks (o .state)) b) (final s ks (o .state)) (since s ks (o .state) n)) →
         Next b (before s (o .fed) (instants s ks (o .state))) → Holds b st n →
         Holds (turnedAll m T (before s (o .fed) (instants s ks (o .state))) b) (final s ks (o .state))
         (since s ks (o .state) (onwards s (o .fed) (n + o .accepted)))
     unfolding before onwards turnedAll
-    one ks st b n o f (chose cs c a z) rest next h =
+    one ks st b n k o f most (nothing same a z) rest next h =
         let x : Next b (instants s ks (o .state)) = rw z at next in
-        let k = chain b st (o .state) cs n (n + o .accepted) (omega arith) f c h in
-        rw z (rest b (n + o .accepted) x k)
-    one ks st b n o f (was-fed a fa i y z) rest next h =
+        let e : n ≡ n + o .accepted = omega arith in
+        let y : Holds b (o .state) (n + o .accepted) =
+        subst (λ (j : ℕ). Holds b (o .state) j) e (subst (λ (u : State). Holds b u n) (sym same) h) in
+        rw z (rest b (n + o .accepted) x y)
+    one ks st b n k o f most (chose who l by cs c a z) rest next h =
+        let x : Next b (instants s ks (o .state)) = rw z at next in
+        let y = chain who l b st (o .state) cs n (n + o .accepted) (omega arith) f most c h in
+        rw z (rest b (n + o .accepted) x y)
+    one ks st b n k o f most (was-fed a fa i y z) rest next h =
         let x : Next b (a ∷ instants s ks (o .state)) = rw z at next in
         let r = instant-next b st (o .state) n a (instants s ks (o .state)) f fa i x h in
         rw z (rest (turned m T (inputOf a) b) 0 (r .1) (r .0))
@@ -146,4 +126,6 @@ module _ (s : List ℕ) (m : Module Expr) (e : read s ≡ ok m) (w : Sound m) (T
     unfolding final instants since turnedAll
     every [] st b n h c p = p
     every (k ∷ ks) st b n h c p =
-        one ks st b n (called s st k) (h .fits) (did s m e w st h k) (λ b n. every ks (called s st k .state) b n (standing s m e w st h k)) c p
+        let next = standing s m e w st h k in
+        one ks st b n k (called s st k) (h .fits) (next .fits .counts) (did s m e w st h k)
+        (λ b n. every ks (called s st k .state) b n next) c p

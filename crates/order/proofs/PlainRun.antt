@@ -6,8 +6,8 @@ use Rattle.settling.proofs.Plain.{plain-stores}
 use Rattle.order.specs.PlainRun.{PlainRun}
 
 pub plain-run : PlainRun
-plain-run s ns rs h st shaped n =
+plain-run s ns rs h who l st shaped n =
     let A = accepted s ns rs h in
     let m = A .contents in
     let u = ruled m (sound s (A .reads)) (extracted-rule m (A .extracts)) in
-    record { m = m; reads = A .reads; once = λ f. plain-stores s m (A .reads) u st shaped f n }
+    record { m = m; reads = A .reads; once = λ f. plain-stores s m (A .reads) u who l st shaped f n }

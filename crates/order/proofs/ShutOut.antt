@@ -21,10 +21,10 @@ use Rattle.evaluation.specs.Evaluation.{eval, reads}
 use Rattle.pseudocode.specs.Translation.{translate, threadCode}
 use Rattle.state.specs.declared.State.{State}
 use Rattle.state.specs.Saved.{allBelow}
-use Rattle.state.specs.State.{withPlanes, withSlots, withPlaces, withMarks, withCounters, valueOf, withValue, pendingOf, withPending, withoutPending, placeOf, withPlace, isDue, withDue}
+use Rattle.state.specs.State.{countOf, allowanceOf, withPlanes, withSlots, withPlaces, withMarks, withCounters, valueOf, withValue, pendingOf, withPending, withoutPending, placeOf, withPlace, isDue, withDue}
 use Rattle.events.specs.declared.Inputs.{Inputs}
 use Rattle.events.specs.Cycle.{variables, codeOf, instrAt, current, wireExpr, wireVariable, anyBelow, isWait, threadEnabled, items, enabled, anyEnabled, isSome, anyPending, quiet, changed, termsFire, waitFires, fireBelow, touched, markBelow, react, runInstr, runThread, runWire, storeOne, storePending, commit, storeInputs, feed}
-use Rattle.events.specs.Calls.{dueBelow, started, startOf, start, widthOf, pendingFits, stateFits, judged, answer, spend, counted, timed, refusal, performed, chooseIn, onward, runIn, runList, resting, runBy, lowest, plainChoice, runPlain, inputOf, inputsFit, instantRefusal, instantIn, instant}
+use Rattle.events.specs.Calls.{dueBelow, started, startOf, start, widthOf, pendingFits, stateFits, judged, answer, spendTime, spend, byUser, countedBy, counted, timed, refusal, performed, chooseIn, onward, runIn, runList, resting, runBy, lowest, plainChoice, runPlain, inputOf, inputsFit, instantRefusal, instantIn, instant}
 use Rattle.events.proofs.Samples.{posedge-clock}
 use Rattle.nextstate.specs.Nodes.{aVariable, aConstant, aBranch}
 use Rattle.nextstate.specs.Extraction.{Tables, extracted}
@@ -36,20 +36,24 @@ use Rattle.order.specs.Misread.{Reading, ShutOut, Misreadings, turnedBy,
 -- ---- what is computed with
 
 unfoldable simulating : Unit {0}
-unfolding same fits holds level moves fires valueAt numberOf isUnknown size eval reads translate threadCode withPlanes withSlots withPlaces withMarks withCounters valueOf withValue pendingOf withPending withoutPending placeOf withPlace isDue withDue variables codeOf instrAt current wireExpr wireVariable anyBelow allBelow isWait threadEnabled items enabled anyEnabled isSome anyPending quiet changed termsFire waitFires fireBelow touched markBelow react runInstr runThread runWire storeOne storePending commit storeInputs feed dueBelow started startOf start widthOf pendingFits stateFits judged answer spend counted timed refusal performed chooseIn resting runBy lowest plainChoice runPlain inputOf inputsFit instantRefusal instantIn instant rested instanced called final before instants
+unfolding same fits holds level moves fires valueAt numberOf isUnknown size eval reads translate threadCode withPlanes withSlots withPlaces withMarks withCounters valueOf withValue pendingOf withPending withoutPending placeOf withPlace isDue withDue variables codeOf instrAt current wireExpr wireVariable anyBelow allBelow isWait threadEnabled items enabled anyEnabled isSome anyPending quiet changed termsFire waitFires fireBelow touched markBelow react runInstr runThread runWire storeOne storePending commit storeInputs feed dueBelow started startOf start widthOf pendingFits stateFits judged countOf allowanceOf answer spendTime spend byUser countedBy counted timed refusal performed chooseIn resting runBy lowest plainChoice runPlain inputOf inputsFit instantRefusal instantIn instant rested instanced called final before instants
 simulating = tt
 
 -- ---- a list of calls on a sheet that extraction accepts, and a variable's value at its end
+
+-- One user, with choices enough.
+abbrev enough : List ℕ
+enough = 999 ∷ 0 ∷ 0 ∷ 0 ∷ []
 
 record Ended (s : List ℕ) (m : Module Expr) (T : Tables) (l : List Inputs) (v : ℕ) (a : Value) : Type 0 where
   is-read : read s ≡ ok m
   is-extracted : extracted m ≡ ok T
   calls : List Call
-  feeds : instants s calls (start s .state) ≡ l
+  feeds : instants s calls (start s enough .state) ≡ l
   in-cycles : Cycles l
-  at-rest : quiet m (final s calls (start s .state)) ≡ true
+  at-rest : quiet m (final s calls (start s enough .state)) ≡ true
   inside : v < variables m
-  leaves : valueOf (final s calls (start s .state)) v ≡ a
+  leaves : valueOf (final s calls (start s enough .state)) v ≡ a
 
 -- A reading that has another value there is shut out.
 shut : {s : List ℕ} {m : Module Expr} {T : Tables} {l : List Inputs} {v : ℕ} {a : Value} → Ended s m T l v a → (R : Reading) →
@@ -61,6 +65,7 @@ shut {s} {m} {T} {l} {v} {a} E R d =
       T = T;
       reads = E .is-read;
       expressions = E .is-extracted;
+      allowances = enough;
       calls = E .calls;
       cycles = rw (E .feeds) (E .in-cycles);
       rests = E .at-rest;
@@ -82,8 +87,8 @@ two-cycles = both 0 5 ∷ both 1 5 ∷ both 0 7 ∷ both 1 7 ∷ []
 
 -- A run to rest before and after each.
 unfoldable run-through : List Inputs → List Call
-run-through [] = a-plain-run 20 ∷ []
-run-through (a ∷ l) = a-plain-run 20 ∷ an-instant a ∷ run-through l
+run-through [] = a-plain-run 0 20 ∷ []
+run-through (a ∷ l) = a-plain-run 0 20 ∷ an-instant a ∷ run-through l
 
 only-the-clock : (n : ℕ) → SameButClock (both 1 n) (both 0 n)
 unfolding inputOf valueAt

@@ -2,6 +2,7 @@
 -- the state that the last gave back, and what is accepted along the way. The calls are those that the public contracts cite.
 use Prim.Native.Nat.{ℕ, _+_, _<_}
 use mathlib.Core.Path.{_≡_}
+use mathlib.Core.Bool.{Bool, false}
 use mathlib.Core.List.{List, [], _∷_}
 use mathlib.Core.Option.{Option, none, some}
 use lib.Dec.{eqb}
@@ -14,11 +15,11 @@ use Rattle.events.specs.declared.Ran.{Ran}
 use Rattle.events.specs.declared.Rested.{Rested}
 use Rattle.events.specs.Calls.{choose, runList, runPlain, inputOf, instant}
 
--- "every list of choices, runs and instants"
+-- "every list of choices, runs and instants". "Each accepted choice names its user", and either run has one user.
 pub data Call : Type 0 where
-  a-choice : ℕ → Call
-  a-run : List ℕ → Call
-  a-plain-run : ℕ → Call
+  a-choice : ℕ → ℕ → Call
+  a-run : ℕ → List ℕ → Call
+  a-plain-run : ℕ → ℕ → Call
   an-instant : Inputs → Call
 
 -- What came of a call: the state that it gave back, how many choices it accepted, and the inputs of an accepted instant.
@@ -39,11 +40,18 @@ rested r = record { state = r .state; accepted = r .accepted; fed = none }
 unfoldable pub instanced : Inputs → Chosen → Outcome
 instanced a r = record { state = r .state; accepted = 0; fed = pick (eqb (r .number) 0) (some a) none }
 
+-- Is it a call of user u?
+unfoldable pub isBy : ℕ → Call → Bool
+isBy u (a-choice v c) = eqb v u
+isBy u (a-run v cs) = eqb v u
+isBy u (a-plain-run v n) = eqb v u
+isBy u (an-instant a) = false
+
 module _ (s : List ℕ) where
   unfoldable pub called : State → Call → Outcome
-  called st (a-choice c) = chosen (choose s st c)
-  called st (a-run cs) = ran (runList s st cs)
-  called st (a-plain-run n) = rested (runPlain s st n)
+  called st (a-choice u c) = chosen (choose s st u c)
+  called st (a-run u cs) = ran (runList s st u cs)
+  called st (a-plain-run u n) = rested (runPlain s st u n)
   called st (an-instant a) = instanced a (instant s st a)
 
   -- ---- the list, from a state on: "refused ones included, each handed the state that the last gave back"
@@ -57,6 +65,11 @@ module _ (s : List ℕ) where
   unfoldable pub choices : List Call → State → ℕ
   choices [] st = 0
   choices (k ∷ ks) st = called st k .accepted + choices ks (called st k .state)
+
+  -- How many of user u.
+  unfoldable pub choicesOf : ℕ → List Call → State → ℕ
+  choicesOf u [] st = 0
+  choicesOf u (k ∷ ks) st = pick (isBy u k) (called st k .accepted) 0 + choicesOf u ks (called st k .state)
 
   -- The inputs of the accepted instants, in turn.
   unfoldable pub before : Option Inputs → List Inputs → List Inputs

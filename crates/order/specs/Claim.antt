@@ -10,7 +10,7 @@ use Rattle.sheet.specs.Reading.{ok}
 use Rattle.sheet.specs.Expression.{Expr}
 use Rattle.sheet.specs.Module.{Module, read}
 use Rattle.state.specs.declared.State.{State}
-use Rattle.state.specs.State.{full, valueOf, placeOf}
+use Rattle.state.specs.State.{users, countOf, allowanceOf, valueOf, placeOf}
 use Rattle.events.specs.declared.Inputs.{Inputs}
 use Rattle.events.specs.Cycle.{variables, wireVariable, quiet}
 use Rattle.events.specs.Calls.{start, choose, inputOf, inputsFit}
@@ -20,29 +20,30 @@ use Rattle.nextstate.specs.Extraction.{Tables, extracted, extract}
 use Rattle.nextstate.specs.Book.{Book, book}
 use Rattle.nextstate.specs.CycleRun.{cycleRun}
 use Rattle.phases.specs.Phases.{allInstructions}
-use Rattle.order.specs.Calls.{Call, final, choices, instants, since, Cycles, WholeCycles}
+use Rattle.order.specs.Calls.{Call, final, instants, since, Cycles, WholeCycles}
+use Rattle.order.specs.Users.{Tallied}
 
 -- ---- "Wherever the list ends"
 
-module _ (s : List ℕ) (m : Module Expr) (T : Tables) where
+module _ (s : List ℕ) (m : Module Expr) (T : Tables) (allowances : List ℕ) where
   -- The state reached, and the inputs of the accepted instants.
   abbrev pub end : List Call → State
-  end calls = final s calls (start s .state)
+  end calls = final s calls (start s allowances .state)
 
   abbrev pub fed : List Call → List Inputs
-  fed calls = instants s calls (start s .state)
+  fed calls = instants s calls (start s allowances .state)
 
   pub record AtTheEnd (calls : List Call) : Type 0 where
-    -- "time and count equal the instants and choices (those in runs too) accepted"
-    pub time : end calls .counters .time ≡ length (fed calls)
-    pub count : end calls .counters .count ≡ choices s calls (start s .state)
+    -- "time and count equal the instants and choices (those in runs too) accepted", each user's count that user's choices
+    pub tallied : Tallied s allowances calls
     -- "the count has risen since the last accepted instant, or the start, by at most P + 2^W, P being all threads' instructions and
-    -- W the wires"
-    pub bound : since s calls (start s .state) 0 ≤ allInstructions m + 2 ^ length (m .wires)
-    -- "a state that isn't quiet has a choice that is accepted unless the count is full". A choice is a byte.
+    -- W the wires"; "demand 3's bound is on the four counts together"
+    pub bound : since s calls (start s allowances .state) 0 ≤ allInstructions m + 2 ^ length (m .wires)
+    -- "a state that isn't quiet has a choice that is accepted unless the count is full": "what can stop a choice .. is now its user's used
+    -- allowance". So every user whose allowance isn't used up has one. A choice is a byte.
     pub progress :
-        quiet m (end calls) ≡ false → end calls .counters .count ≢ full →
-        (c : ℕ) × (c < 256) × (choose s (end calls) c .number ≡ 0)
+        quiet m (end calls) ≡ false → (u : ℕ) → u < users → countOf (end calls) u ≢ allowanceOf (end calls) u →
+        (c : ℕ) × (c < 256) × (choose s (end calls) u c .number ≡ 0)
     -- "a quiet one has the book's inputs, registers, places (demand 3's waits) and wires"
     pub values : quiet m (end calls) ≡ true → (v : ℕ) → v < variables m → valueOf (end calls) v ≡ book m T (fed calls) .values v
     pub places : quiet m (end calls) ≡ true → (i : ℕ) → i < length (m .threads) → placeOf (end calls) i ≡ book m T (fed calls) .places i
@@ -79,8 +80,9 @@ pub record Demand3 (s ns rs : List ℕ) : Type 0 where
   pub T : Tables
   pub reads : read s ≡ ok m
   pub expressions : extracted m ≡ ok T
-  -- For every list of calls from the start whose accepted instants form cycles.
-  pub list : (calls : List Call) → Cycles (instants s calls (start s .state)) → AtTheEnd s m T calls
+  -- For every four allowances and every list of calls from the start whose accepted instants form cycles.
+  pub list : (allowances : List ℕ) → length allowances ≡ users → (calls : List Call) →
+      Cycles (instants s calls (start s allowances .state)) → AtTheEnd s m T allowances calls
   -- For every cycle: after whole cycles, a low and a high instant more.
   pub cycle :
       (past : List Inputs) (low high : Inputs) → AllFit m past → inputsFit m low ≡ true → inputsFit m high ≡ true →

@@ -1,4 +1,5 @@
 pub mod Calls
+pub mod Users
 pub mod Claim
 pub mod PlainRun
 pub mod Misread

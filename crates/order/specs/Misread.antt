@@ -114,12 +114,15 @@ pub record ShutOut (R : Reading) : Type 0 where
   pub T : Tables
   pub reads : read s ≡ ok m
   pub expressions : extracted m ≡ ok T
+  pub allowances : List ℕ
   pub calls : List Call
-  pub cycles : Cycles (instants s calls (start s .state))
-  pub rests : quiet m (final s calls (start s .state)) ≡ true
+  pub cycles : Cycles (instants s calls (start s allowances .state))
+  pub rests : quiet m (final s calls (start s allowances .state)) ≡ true
   pub variable : ℕ
   pub within : variable < variables m
-  pub differs : valueOf (final s calls (start s .state)) variable ≢ R m T (instants s calls (start s .state)) .values variable
+  pub differs :
+      valueOf (final s calls (start s allowances .state)) variable
+      ≢ R m T (instants s calls (start s allowances .state)) .values variable
 
 pub record Misreadings : Type 0 where
   pub branch : ShutOut conditionalForBranch

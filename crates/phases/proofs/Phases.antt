@@ -6,6 +6,7 @@
 use mathlib.Core.Path.{_≡_, refl, sym, ap, _∙_, subst}
 use mathlib.Core.Logic.{_≢_}
 use mathlib.Core.Bool.{true, false}
+use mathlib.Core.List.{List}
 use Prim.Native.Nat.{ℕ, _+_, _^_, _≤_, _<_}
 use native.Mathlib.Decide.{ℕ-discrete, decLt}
 use native.Mathlib.Omega.{arith}
@@ -95,18 +96,18 @@ module _ (m : Module Expr) (w : Sound m) (u : Ruled m) where
 
   -- ---- the start
 
-  pub phase-start : (T : Tables) → Phase m (opening m T) (started (length (m .wires))) 0
+  pub phase-start : (T : Tables) (allowances : List ℕ) → Phase m (opening m T) (started (length (m .wires)) allowances) 0
   unfolding opening settled current
-  phase-start T =
+  phase-start T allowances =
       let W = length (m .wires) in
-      let z = room-below (started W) in
+      let z = room-below (started W allowances) in
       settling
       (record {
-        still = λ i l. rw (place-started W i) (u .first i l);
-        clear = λ r l. pending-started W r;
-        settles = settles-start m w;
-        values = settle-agree m w u (valueOf (started W)) (λ v. Unknown) (λ v l. value-started W v);
-        places = λ i l. place-started W i;
+        still = λ i l. rw (place-started W allowances i) (u .first i l);
+        clear = λ r l. pending-started W allowances r;
+        settles = settles-start m w allowances;
+        values = settle-agree m w u (valueOf (started W allowances)) (λ v. Unknown) (λ v l. value-started W allowances v);
+        places = λ i l. place-started W allowances i;
         bound = omega arith;
       })
 
@@ -134,7 +135,7 @@ module _ (m : Module Expr) (w : Sound m) (u : Ruled m) where
   -- ---- the steps
 
   thread-step :
-      (b : Book) (old new : State) (n i : ℕ) → i < length (m .threads) → Step m old new i → Running m b old n →
+      (b : Book) (old new : State) (n i : ℕ) → i < length (m .threads) → {who : ℕ} → Step m old new who i → Running m b old n →
       Running m b new (n + 1)
   thread-step b old new n i l s B =
       record {
@@ -159,7 +160,7 @@ module _ (m : Module Expr) (w : Sound m) (u : Ruled m) where
           rw (more-other (B .steps) i j d) (view-other m w u old new i l s (start j) j (B .steps j) d (B .view j k))
 
   wire-phase :
-      (b : Book) (old new : State) (n k : ℕ) → k < length (m .wires) → Step m old new (length (m .threads) + k) →
+      (b : Book) (old new : State) (n k : ℕ) → k < length (m .wires) → {who : ℕ} → Step m old new who (length (m .threads) + k) →
       Settling m b old n → Settling m b new (n + 1)
   unfolding wireVariable
   wire-phase b old new n k l s A =
@@ -179,13 +180,13 @@ module _ (m : Module Expr) (w : Sound m) (u : Ruled m) where
   -- A thread's step: where all are at waits there is none.
   thread-phase :
       (b : Book) (old new : State) (n i : ℕ) → i < length (m .threads) → isWait (current m old i) ≡ false →
-      Step m old new i → Phase m b old n → Phase m b new (n + 1)
+      {who : ℕ} → Step m old new who i → Phase m b old n → Phase m b new (n + 1)
   thread-phase b old new n i l h s (settling A) = absurd-bool (A .still i l) h
   thread-phase b old new n i l h s (running B) = running (thread-step b old new n i l s B)
 
   -- The commit: the pending values are stored, and settling begins.
   commit-phase :
-      (b : Book) (old new : State) (n : ℕ) → Step m old new 255 → Still m old →
+      (b : Book) (old new : State) (n : ℕ) {who : ℕ} → Step m old new who 255 → Still m old →
       ((r : ℕ) → r < m .scope .registers →
       valueOf new (m .scope .inputs + r) ≡ latest (pendingOf old r) (valueOf old (m .scope .inputs + r))) →
       ((v : ℕ) → v < m .scope .inputs → valueOf new v ≡ valueOf old v) →
@@ -203,7 +204,7 @@ module _ (m : Module Expr) (w : Sound m) (u : Ruled m) where
       }
 
   acts-phase :
-      (b : Book) (old new : State) (n : ℕ) {c : ℕ} → Step m old new c → Acts m old new c → Phase m b old n →
+      (b : Book) (old new : State) (n : ℕ) {who c : ℕ} → Step m old new who c → Acts m old new c → Phase m b old n →
       Phase m b new (n + 1)
   unfolding isWait
   acts-phase b old new n s (assigns {i = i} l h value others place reacted same) p = thread-phase b old new n i l (rw h) s p
@@ -221,7 +222,7 @@ module _ (m : Module Expr) (w : Sound m) (u : Ruled m) where
       (commit-phase b old new n s (still-none m old h) values inputs emptied
       (λ i. place-kept m u old new (inputs 0 (w .inputs-some)) i (reacted .threads i (λ z. z))) B)
 
-  pub phase-step : (b : Book) (old new : State) (n c : ℕ) → Step m old new c → Phase m b old n → Phase m b new (n + 1)
+  pub phase-step : (b : Book) (old new : State) (n c : ℕ) {who : ℕ} → Step m old new who c → Phase m b old n → Phase m b new (n + 1)
   phase-step b old new n c s p = acts-phase b old new n s (s .acts) p
 
   -- ---- a phase looks at the book's variables and threads of the sheet only

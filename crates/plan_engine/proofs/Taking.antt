@@ -18,7 +18,7 @@ use Rattle.plan_engine.specs.Taking.{Taken, taken, unless, takeInstructi
 -- ---- unless
 
 module _ (room : ℕ) (l d : Live) where
-  pub unless-full : room ≡ 0 → taken 36 l ≡ unless room l d
+  pub unless-full : room ≡ 0 → taken 47 l ≡ unless room l d
   unfolding unless
   unless-full e = rw (eq-eqb room 0 e)
 
@@ -43,7 +43,7 @@ module _ (q : Plan) (room : ℕ) where
       unfolding takeCommit
       commit-none e = rw (r, w, e)
 
-      pub commit-full : anyMark (l .held) ≡ true → room ≡ 0 → taken 36 l ≡ takeCommit q room l
+      pub commit-full : anyMark (l .held) ≡ true → room ≡ 0 → taken 47 l ≡ takeCommit q room l
       unfolding takeCommit
       commit-full e h = rw (r, w, e) (unless-full room l _ h)
 
@@ -83,7 +83,7 @@ either false t u h k = k
 module _ (q : Plan) (room : ℕ) (full : room ≡ 0) where
   room-unless : (l d : Live) → unless room l d .number ≡ 0 → ⊥
   room-unless l d e =
-      let z : _≡_ {A = ℕ} 36 0 = ap (λ (t : Taken). t .number) (unless-full room l d full) ∙ e in
+      let z : _≡_ {A = ℕ} 47 0 = ap (λ (t : Taken). t .number) (unless-full room l d full) ∙ e in
       omega arith
 
   room-instruction : (i p : ℕ) (a : Instruction) (l : Live) → takeInstruction q room i p a l .number ≡ 0 → ⊥

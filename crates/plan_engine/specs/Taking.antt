@@ -18,9 +18,9 @@ pub record Taken : Type 0 where
 abbrev pub taken : ℕ → Live → Taken
 taken n l = record { number = n; left = l }
 
--- 36 where no room is left, judged last: then nothing is done.
+-- 47 where no room is left, judged last: then nothing is done.
 unfoldable pub unless : ℕ → Live → Live → Taken
-unless room l done = pick (eqb room 0) (taken 36 l) (taken 0 done)
+unless room l done = pick (eqb room 0) (taken 47 l) (taken 0 done)
 
 -- "A choice that finds its thread at a wait is refused, else the instruction is taken apart and run."
 unfoldable pub takeInstruction : Plan → ℕ → ℕ → ℕ → Instruction → Live → Taken

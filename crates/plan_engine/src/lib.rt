@@ -1,5 +1,6 @@
 // One choice of the simulation cycle, and runs of them, on a plan that was filled once (document 01, "The simulation cycle"). Each
-// function equals its definition in specs/ for plans and states of any contents. Of the count only the room that is left is asked.
+// function equals its definition in specs/ for plans and states of any contents. Of a user's count and allowance only the room that
+// is left is asked.
 use plan::Action;
 use plan::Cells;
 use plan::Expression;
@@ -334,7 +335,7 @@ pub fn take_thread(
         return Taken { number: 33, marks };
     };
     if room == 0 {
-        return Taken { number: 36, marks };
+        return Taken { number: 47, marks };
     }
     let m = act(plan, cells, pending, places, marks, i, p, action);
     Taken {
@@ -363,7 +364,7 @@ pub fn take_wire(
         return Taken { number: 33, marks };
     }
     if room == 0 {
-        return Taken { number: 36, marks };
+        return Taken { number: 47, marks };
     }
     let m = settle(plan, cells, places, marks, k);
     Taken {
@@ -397,7 +398,7 @@ pub fn take_commit(
         return Taken { number: 35, marks };
     }
     if room == 0 {
-        return Taken { number: 36, marks };
+        return Taken { number: 47, marks };
     }
     let m = commit(plan, cells, pending, places, marks);
     Taken {

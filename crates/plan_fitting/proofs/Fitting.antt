@@ -5,7 +5,7 @@ use mathlib.Core.List.{List}
 use mathlib.Core.Option.{none, some}
 use Prim.Native.Nat.{ℕ, _+_, _-_, _<_}
 use native.Mathlib.Omega.{arith}
-use lib.Dec.{ltb, eqb}
+use lib.Dec.{ltb, leb, eqb}
 use lib.ListN.{length, getD}
 use Rattle.values.specs.declared.Value.{Value}
 use Rattle.values.specs.Values.{pick, fits}
@@ -13,7 +13,7 @@ use Rattle.values.specs.Planes.{valueAt}
 use Rattle.sheet.specs.Expression.{Expr}
 use Rattle.sheet.specs.Module.{Module}
 use Rattle.state.specs.declared.State.{State}
-use Rattle.state.specs.State.{valueOf, pendingOf, placeOf, isDue}
+use Rattle.state.specs.State.{users, countOf, allowanceOf, valueOf, pendingOf, placeOf, isDue}
 use Rattle.soundness.specs.Soundness.{Sound}
 use Rattle.events.specs.declared.Inputs.{Inputs}
 use Rattle.events.specs.Cycle.{codeOf, allBelow, isSome}
@@ -21,7 +21,7 @@ use Rattle.events.specs.Calls.{widthOf, pendingFits, stateFits, inputOf, inputs
 use Rattle.events.proofs.Cycle.{all-same}
 use Rattle.plan.specs.Plan.{Plan}
 use Rattle.plan_fill.specs.Holding.{Holds}
-use Rattle.plan_fitting.specs.Fitting.{valuesFit, slotsFit, placesFit, nonePast, planFits, planInputsFit}
+use Rattle.plan_fitting.specs.Fitting.{valuesFit, slotsFit, placesFit, nonePast, countsFit, planFits, planInputsFit}
 
 isSome-held : (d : Bool) (a : Value) → isSome (pick d (some a) none) ≡ d
 unfolding isSome
@@ -75,11 +75,15 @@ module _ {m : Module Expr} {q : Plan} (z : Sound m) (h : Holds m q) where
       ∙ all-same (λ r. not (getD (st .held) (n + r) false)) (λ r. not (isSome (pendingOf st (n + r)))) (32 - n)
       (λ r l. ap not (sym (isSome-held (getD (st .held) (n + r) false) (valueAt (st .pending) (st .unsure) (n + r)))))
 
+  counts-fit : (st : State) → countsFit (st .counters) ≡ allBelow users (λ u. leb (countOf st u) (allowanceOf st u))
+  unfolding countsFit countOf allowanceOf
+  counts-fit st = refl
+
   -- ---- 31 and 25
 
   pub plan-fits : (st : State) → planFits q st ≡ stateFits m st
   unfolding planFits stateFits
-  plan-fits st = λ i. values-fit st i && slots-fit st i && places-fit st i && marks-fit st i && pending-fit st i
+  plan-fits st = λ i. values-fit st i && slots-fit st i && places-fit st i && marks-fit st i && pending-fit st i && counts-fit st i
 
   pub plan-inputs-fit : (a : Inputs) → planInputsFit q a ≡ inputsFit m a
   unfolding planInputsFit inputsFit

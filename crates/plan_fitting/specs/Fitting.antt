@@ -4,16 +4,17 @@ use Prim.Native.Nat.{ℕ, _+_, _-_}
 use mathlib.Core.Bool.{Bool, false, not, _&&_}
 use mathlib.Core.List.{List}
 use lib.ListN.{getD}
-use lib.Dec.{ltb, eqb}
+use lib.Dec.{ltb, leb, eqb}
 use Rattle.values.specs.Values.{fits}
+use Rattle.state.specs.declared.Counters.{Counters}
 use Rattle.state.specs.declared.State.{State}
-use Rattle.state.specs.State.{valueOf, pendingOf, placeOf}
+use Rattle.state.specs.State.{users, valueOf, pendingOf, placeOf}
 use Rattle.events.specs.declared.Inputs.{Inputs}
 use Rattle.events.specs.Cycle.{allBelow}
 use Rattle.events.specs.Calls.{pendingFits, inputOf}
 use Rattle.plan.specs.Plan.{Plan}
 
--- ---- 31: "value or pending too wide; place outside its thread ..; mark or pending past the sheet's"
+-- ---- 31: "value or pending too wide; place outside its thread ..; mark or pending past the sheet's", and "(a count above it is 31)"
 
 unfoldable pub valuesFit : Plan → State → Bool
 valuesFit q st = allBelow (q .inputs + q .registers + q .wires) (λ v. fits (q .width v) (valueOf st v))
@@ -28,9 +29,18 @@ placesFit q ps = allBelow (q .threads) (λ i. ltb (getD ps i 0) (q .size i))
 unfoldable pub nonePast : List Bool → ℕ → Bool
 nonePast bs n = allBelow (32 - n) (λ k. not (getD bs (n + k) false))
 
+-- Is no user's count above its allowance?
+unfoldable pub countsFit : Counters → Bool
+countsFit c = allBelow users (λ u. leb (getD (c .counts) u 0) (getD (c .allowances) u 0))
+
 unfoldable pub planFits : Plan → State → Bool
 planFits q st =
-    valuesFit q st && slotsFit q st && placesFit q (st .places) && nonePast (st .due) (q .wires) && nonePast (st .held) (q .registers)
+    valuesFit q st
+    && slotsFit q st
+    && placesFit q (st .places)
+    && nonePast (st .due) (q .wires)
+    && nonePast (st .held) (q .registers)
+    && countsFit (st .counters)
 
 -- ---- 25: "input values of wrong number or too wide"
 

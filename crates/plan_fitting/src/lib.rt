@@ -3,6 +3,7 @@
 use events::Inputs;
 use plan::PlanTable;
 use sheet::byte_at;
+use state::Counters;
 use state::State;
 use values::Value;
 use values::fits;
@@ -16,7 +17,7 @@ ghost use Rattle.values.specs.Planes.{valueAt};
 ghost use Rattle.events.specs.Cycle.{allBelow};
 ghost use Rattle.events.specs.Calls.{pendingFits};
 ghost use Rattle.plan.specs.Plan.{planOf};
-ghost use Rattle.plan_fitting.specs.Fitting.{slotsFit, placesFit, nonePast, planFits, planInputsFit};
+ghost use Rattle.plan_fitting.specs.Fitting.{slotsFit, placesFit, nonePast, countsFit, planFits, planInputsFit};
 
 // A byte as a number of places.
 fn wide(b: u8) -> usize
@@ -102,6 +103,20 @@ fn none_past(flags: &[bool; 32], n: usize) -> bool
     true
 }
 
+// Is no user's count above its allowance?
+fn counts_fit(c: Counters) -> bool
+    ensures { λ r. ⌜ r ≡ countsFit c ⌝ }
+{
+    let mut u: usize = 0;
+    while u < 4 {
+        if c.counts[u] > c.allowances[u] as u64 {
+            return false;
+        }
+        u += 1;
+    }
+    true
+}
+
 // 31: does the state fit?
 pub fn state_fits(plan: &PlanTable, st: State) -> bool
     ensures { λ r. ⌜ r ≡ planFits (planOf (now (plan .entry))) st ⌝ }
@@ -119,7 +134,11 @@ pub fn state_fits(plan: &PlanTable, st: State) -> bool
     if !none_past(&st.due, plan::wires(plan)) {
         return false;
     }
-    none_past(&st.held, plan::registers(plan))
+    if !none_past(&st.held, plan::registers(plan)) {
+        return false;
+    }
+    let counters = st.counters;
+    counts_fit(counters)
 }
 
 // 25: are the inputs as many as the plan's, and does each fit its width?

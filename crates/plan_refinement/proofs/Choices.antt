@@ -5,7 +5,7 @@ use mathlib.Core.Bool.{Bool, true, false, not, _||_, Bool·not-not}
 use mathlib.Core.List.{List}
 use Prim.Native.Nat.{ℕ, _+_, _-_, _≤_, _<_}
 use native.Mathlib.Omega.{arith}
-use lib.ListN.{length, getD}
+use lib.ListN.{length, getD, set}
 use lib.Dec.{ltb, eqb}
 use borrow.Author.Tests.{lt-ltb, le-ltb, ltb-true, ltb-false, eqb-true, eqb-false, ne-eqb}
 use Rattle.values.specs.declared.Value.{Value}
@@ -18,11 +18,11 @@ use Rattle.masks.specs.Masks.{first, anyMark}
 use Rattle.masks.proofs.Masks.{any-none, any-some, first-lowest}
 use Rattle.state.specs.declared.Counters.{Counters}
 use Rattle.state.specs.declared.State.{State}
-use Rattle.state.specs.State.{full, countersOf, withCounters, valueOf, pendingOf, placeOf, isDue}
+use Rattle.state.specs.State.{countersOf, users, countOf, allowanceOf, withCounters, valueOf, pendingOf, placeOf, isDue}
 use Rattle.events.specs.Cycle.{current, anyBelow, isWait, threadEnabled, items, enabled, anyEnabled, isSome, anyPending}
 use Rattle.events.specs.Cycle.{quiet, runThread, runWire}
 use Rattle.events.specs.Cycle as cycle
-use Rattle.events.specs.Calls.{answer, spend, counted, timed, refusal, performed, chooseIn}
+use Rattle.events.specs.Calls.{answer, spend, countedBy, counted, timed, byUser, refusal, performed, chooseIn}
 use Rattle.events.specs.Calls as calls
 use Rattle.events.proofs.Cycle.{absurd-bool, any-below, below-none}
 use Rattle.events.proofs.Choices.{enabled-wire}
@@ -243,103 +243,105 @@ refused : {m : Module Expr} (st new : State) (l : Live) (n : ℕ) → (n ≡ 0 �
 unfolding answer
 refused st new l n h z = rw (ne-eqb n 0 h) (record { number = refl; left = z })
 
-unless-shows : {m : Module Expr} (st new : State) (room : ℕ) (l d : Live) → Room room st → Shows m st l → Shows m new d
-    → Takes m (answer (spend (st .counters .count)) st new) (unless room l d)
+unless-shows : {m : Module Expr} (st new : State) (u room : ℕ) (l d : Live) → Room u room st → Shows m st l → Shows m new d
+    → Takes m (answer (spend st u) st new) (unless room l d)
 unfolding answer spend unless
-unless-shows {m} st new room l d e z y = by (eqb room 0) refl (eqb (st .counters .count) full) refl
+unless-shows {m} st new u room l d e z y = by (eqb room 0) refl (ltb (countOf st u) (allowanceOf st u)) refl
   where
-    by : (t : Bool) → eqb room 0 ≡ t → (s : Bool) → eqb (st .counters .count) full ≡ s
+    by : (t : Bool) → eqb room 0 ≡ t → (s : Bool) → ltb (countOf st u) (allowanceOf st u) ≡ s
         → Takes m
-        (pick (eqb (pick s 36 0) 0) (record { number = 0; state = new }) (record { number = pick s 36 0; state = st }))
-        (pick t (taken 36 l) (taken 0 d))
-    by true p true r = record { number = refl; left = z }
-    by true p false r =
+        (pick (eqb (pick s 0 47) 0) (record { number = 0; state = new }) (record { number = pick s 0 47; state = st }))
+        (pick t (taken 47 l) (taken 0 d))
+    by true p true r =
         let a = eqb-true room 0 p in
-        let b = eqb-false (st .counters .count) full r in
-        absurd (b (omega arith))
-    by false p true r =
+        let b = ltb-true (countOf st u) (allowanceOf st u) r in
+        absurd (omega arith)
+    by true p false r = record { number = refl; left = z }
+    by false p true r = record { number = refl; left = y }
+    by false p false r =
         let a = eqb-false room 0 p in
-        let b = eqb-true (st .counters .count) full r in
+        let b = ltb-false (countOf st u) (allowanceOf st u) r in
         absurd (a (omega arith))
-    by false p false r = record { number = refl; left = y }
 
 -- ---- take: a choice
 
-module _ {m : Module Expr} {q : Plan} (w : PlanOf m q) (st : State) (k : Kept m st) (room : ℕ) (some : Room room st) (l : Live)
-    (z : Shows m st l) where
-  -- A choice is made on the state with one more in the count.
-  shows-counted : Shows m (counted st) l
-  unfolding counted
-  shows-counted = shows-withCounters m st (countersOf (st .counters .time) (st .counters .count + 1)) l z
+module _ {m : Module Expr} {q : Plan} (w : PlanOf m q) (st : State) (k : Kept m st) (u : ℕ) (user : u < users) (room : ℕ)
+    (some : Room u room st) (l : Live) (z : Shows m st l) where
+  -- A choice is made on the state with one more in its user's count.
+  shows-counted : Shows m (counted u st) l
+  unfolding counted countedBy
+  shows-counted =
+      shows-withCounters m st
+      (countersOf (st .counters .time) (set (st .counters .counts) u (countOf st u + 1)) (st .counters .allowances)) l z
 
   thread-at : (i : ℕ) → i < length (m .threads) → (y : Instruction) → q .instruction i (placeOf st i) ≡ y
-      → Takes m (answer (pick (not (isWait (current m st i))) (spend (st .counters .count)) 33) st (runThread m i (counted st)))
+      → Takes m (answer (pick (not (isWait (current m st i))) (spend st u) 33) st (runThread m i (counted u st)))
       (takeInstruction q room i (placeOf st i) y l)
-  unfolding takeInstruction current placeOf counted withCounters
+  unfolding takeInstruction current placeOf counted countedBy withCounters
   thread-at i h (Wait t) e =
       rw (waits-fetched (rw e at (w .instruction i (placeOf st i) h (k .places i h))))
-      (refused st (runThread m i (counted st)) l 33 (λ u. omega arith) z)
+      (refused st (runThread m i (counted u st)) l 33 (λ n. omega arith) z)
   thread-at i h (Act a) e =
       rw (acts-fetched (rw e at (w .instruction i (placeOf st i) h (k .places i h))))
-      (unless-shows st (runThread m i (counted st)) room l (act q i (placeOf st i) a l) some z
-      (act-shows w i (counted st) l h (kept-counted k) shows-counted a e))
+      (unless-shows st (runThread m i (counted u st)) u room l (act q i (placeOf st i) a l) some z
+      (act-shows w i (counted u st) l h (kept-counted k u) shows-counted a e))
 
   thread-takes : (i : ℕ) → i < length (m .threads)
-      → Takes m (answer (pick (threadEnabled m st i) (spend (st .counters .count)) 33) st (runThread m i (counted st)))
+      → Takes m (answer (pick (threadEnabled m st i) (spend st u) 33) st (runThread m i (counted u st)))
       (takeThread q room i l)
   unfolding takeThread threadEnabled placeOf
   thread-takes i h =
       rw (lt-ltb i 8 (omega (arith, w .sound .threads-most)))
       (subst
-      (λ (p : ℕ). Takes m (answer (pick (not (isWait (current m st i))) (spend (st .counters .count)) 33) st (runThread m i (counted st)))
+      (λ (p : ℕ). Takes m (answer (pick (not (isWait (current m st i))) (spend st u) 33) st (runThread m i (counted u st)))
       (takeInstruction q room i p (q .instruction i p) l))
       (ap (λ (ps : List ℕ). getD ps i 0) (sym (z .scene .places)))
       (thread-at i h (q .instruction i (placeOf st i)) refl))
 
   wire-takes : (j : ℕ) → j < length (m .wires)
-      → Takes m (answer (pick (isDue st j) (spend (st .counters .count)) 33) st (runWire m j (counted st))) (takeWire q room j l)
+      → Takes m (answer (pick (isDue st j) (spend st u) 33) st (runWire m j (counted u st))) (takeWire q room j l)
   unfolding takeWire isDue
   wire-takes j h =
       subst
-      (λ (t : Bool). Takes m (answer (pick (isDue st j) (spend (st .counters .count)) 33) st (runWire m j (counted st)))
+      (λ (t : Bool). Takes m (answer (pick (isDue st j) (spend st u) 33) st (runWire m j (counted u st)))
       (pick t (unless room l (withScene (settle q j (sceneOf l)) l)) (taken 33 l)))
       (ap (λ (ds : List Bool). getD ds j false) (sym (z .scene .due)))
       (by (isDue st j))
     where
-      by : (t : Bool) → Takes m (answer (pick t (spend (st .counters .count)) 33) st (runWire m j (counted st)))
+      by : (t : Bool) → Takes m (answer (pick t (spend st u) 33) st (runWire m j (counted u st)))
           (pick t (unless room l (withScene (settle q j (sceneOf l)) l)) (taken 33 l))
       by true =
-          unless-shows st (runWire m j (counted st)) room l (withScene (settle q j (sceneOf l)) l) some z
-          (settle-shows w j (counted st) l h (kept-counted k) shows-counted)
-      by false = refused st (runWire m j (counted st)) l 33 (λ u. omega arith) z
+          unless-shows st (runWire m j (counted u st)) u room l (withScene (settle q j (sceneOf l)) l) some z
+          (settle-shows w j (counted u st) l h (kept-counted k u) shows-counted)
+      by false = refused st (runWire m j (counted u st)) l 33 (λ n. omega arith) z
 
   abbrev commit-number : Bool → Bool → ℕ
-  commit-number a b = pick a 34 (pick b (spend (st .counters .count)) 35)
+  commit-number a b = pick a 34 (pick b (spend st u) 35)
 
   abbrev commit-choice : Bool → Bool → Taken
   commit-choice a b = pick a (taken 34 l) (pick b (unless room l (commit q l)) (taken 35 l))
 
-  commit-takes : Takes m (answer (commit-number (anyEnabled m st) (anyPending m st)) st (cycle.commit m (counted st)))
+  commit-takes : Takes m (answer (commit-number (anyEnabled m st) (anyPending m st)) st (cycle.commit m (counted u st)))
       (takeCommit q room l)
   unfolding takeCommit
   commit-takes =
-      subst (Takes m (answer (commit-number (anyEnabled m st) (anyPending m st)) st (cycle.commit m (counted st))))
+      subst (Takes m (answer (commit-number (anyEnabled m st) (anyPending m st)) st (cycle.commit m (counted u st))))
       (λ i. commit-choice (sym (any-ready w st k l z) i) (sym (any-held w st k l z) i))
       (by (anyEnabled m st) (anyPending m st))
     where
-      by : (a b : Bool) → Takes m (answer (commit-number a b) st (cycle.commit m (counted st))) (commit-choice a b)
-      by true b = refused st (cycle.commit m (counted st)) l 34 (λ u. omega arith) z
+      by : (a b : Bool) → Takes m (answer (commit-number a b) st (cycle.commit m (counted u st))) (commit-choice a b)
+      by true b = refused st (cycle.commit m (counted u st)) l 34 (λ n. omega arith) z
       by false true =
-          unless-shows st (cycle.commit m (counted st)) room l (commit q l) some z
-          (commit-shows w (counted st) (kept-counted k) l shows-counted)
-      by false false = refused st (cycle.commit m (counted st)) l 35 (λ u. omega arith) z
+          unless-shows st (cycle.commit m (counted u st)) u room l (commit q l) some z
+          (commit-shows w (counted u st) (kept-counted k u) l shows-counted)
+      by false false = refused st (cycle.commit m (counted u st)) l 35 (λ n. omega arith) z
 
   -- A choice has the number that it has in the simulation cycle, and leaves the state that it leaves there.
-  pub take-shows : (c : ℕ) → Takes m (chooseIn m st c) (takeChoice q room c l)
-  unfolding takeChoice chooseIn refusal performed items enabled
+  pub take-shows : (c : ℕ) → Takes m (chooseIn m st u c) (takeChoice q room c l)
+  unfolding takeChoice chooseIn refusal byUser performed items enabled
   take-shows c =
-      subst (Takes m (chooseIn m st c)) (λ i. tests (sym (w .threads) i) (sym (w .wires) i))
-      (by (ltb c (length (m .threads))) refl (ltb c (length (m .threads) + length (m .wires))) refl (eqb c 255))
+      subst (Takes m (chooseIn m st u c)) (λ i. tests (sym (w .threads) i) (sym (w .wires) i))
+      (rw (lt-ltb u users user) (by (ltb c (length (m .threads))) refl (ltb c (length (m .threads) + length (m .wires))) refl (eqb c 255)))
     where
       tests : ℕ → ℕ → Taken
       tests threads wires =
@@ -352,13 +354,13 @@ module _ {m : Module Expr} {q : Plan} (w : PlanOf m q) (st : State) (k : Kept m 
           (b : Bool) → ltb c (length (m .threads) + length (m .wires)) ≡ b → (d : Bool) →
           Takes m
           (answer
-          (pick b (pick (pick a (threadEnabled m st c) (isDue st (c - length (m .threads)))) (spend (st .counters .count)) 33)
-          (pick d (pick (anyEnabled m st) 34 (pick (anyPending m st) (spend (st .counters .count)) 35))
+          (pick b (pick (pick a (threadEnabled m st c) (isDue st (c - length (m .threads)))) (spend st u) 33)
+          (pick d (pick (anyEnabled m st) 34 (pick (anyPending m st) (spend st u) 35))
           22))
           st
-          (pick a (runThread m c (counted st))
-          (pick b (runWire m (c - length (m .threads)) (counted st))
-          (cycle.commit m (counted st)))))
+          (pick a (runThread m c (counted u st))
+          (pick b (runWire m (c - length (m .threads)) (counted u st))
+          (cycle.commit m (counted u st)))))
           (pick a (takeThread q room c l)
           (pick b (takeWire q room (c - length (m .threads)) l)
           (pick d (takeCommit q room l)
@@ -373,13 +375,14 @@ module _ {m : Module Expr} {q : Plan} (w : PlanOf m q) (st : State) (k : Kept m 
           let g = ltb-true c (length (m .threads) + length (m .wires)) f in
           wire-takes (c - length (m .threads)) (omega arith)
       by false e false f true = commit-takes
-      by false e false f false = refused st (cycle.commit m (counted st)) l 22 (λ u. omega arith) z
+      by false e false f false = refused st (cycle.commit m (counted u st)) l 22 (λ n. omega arith) z
 
-  -- ---- the inputs of an instant
+-- ---- the inputs of an instant
 
-  -- An instant is made on the state with one more in time.
-  pub feed-timed-shows : (a : ℕ → Value) → ((n : ℕ) → n < m .scope .inputs → fits 32 (a n) ≡ true)
-      → Shows m (cycle.feed m a (timed st)) (feed q a l)
-  unfolding timed
-  feed-timed-shows a fit =
-      feed-shows w (timed st) (kept-timed k) l (shows-withCounters m st (countersOf (st .counters .time + 1) (st .counters .count)) l z) a fit
+-- An instant is made on the state with one more in time.
+pub feed-timed-shows : {m : Module Expr} {q : Plan} (w : PlanOf m q) (st : State) → Kept m st → (l : Live) → Shows m st l
+    → (a : ℕ → Value) → ((n : ℕ) → n < m .scope .inputs → fits 32 (a n) ≡ true) → Shows m (cycle.feed m a (timed st)) (feed q a l)
+unfolding timed
+feed-timed-shows {m} w st k l z a fit =
+    feed-shows w (timed st) (kept-timed k) l
+    (shows-withCounters m st (countersOf (st .counters .time + 1) (st .counters .counts) (st .counters .allowances)) l z) a fit

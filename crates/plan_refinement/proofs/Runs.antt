@@ -2,7 +2,7 @@
 use mathlib.Core.Path.{_≡_, refl, sym, ap, _∙_, subst}
 use mathlib.Core.Bool.{Bool, true, false, not}
 use mathlib.Core.List.{List, [], _∷_}
-use Prim.Native.Nat.{ℕ, zero, suc, _+_, _-_}
+use Prim.Native.Nat.{ℕ, zero, suc, _+_, _-_, _<_}
 use native.Mathlib.Omega.{arith}
 use lib.Dec.{eqb}
 use borrow.Author.Tests.{eqb-true, eqb-false}
@@ -10,17 +10,17 @@ use Rattle.values.specs.Values.{pick}
 use Rattle.sheet.specs.Expression.{Expr}
 use Rattle.sheet.specs.Module.{Module}
 use Rattle.state.specs.declared.State.{State}
-use Rattle.state.specs.State.{Shaped}
+use Rattle.state.specs.State.{Shaped, users, countOf, allowanceOf}
 use Rattle.events.specs.declared.Chosen.{Chosen}
 use Rattle.events.specs.declared.Ran.{Ran}
 use Rattle.events.specs.declared.Verdict.the-variants.{Quiet, Spent, Stopped}
 use Rattle.events.specs.declared.Rested.{Rested}
 use Rattle.events.specs.Verdict.{numberOfVerdict}
 use Rattle.events.specs.Cycle.{quiet}
-use Rattle.events.specs.Calls.{chooseIn, runIn, resting, runBy}
+use Rattle.events.specs.Calls.{refusal, chooseIn, runIn, resting, runBy}
 use Rattle.events.specs.Calls as calls
 use Rattle.events.proofs.Cycle.{absurd-bool}
-use Rattle.events.proofs.Choices.{number-chooseIn, chooseIn-accepted, state-refused, count-performed, shaped-chooseIn}
+use Rattle.events.proofs.Choices.{number-chooseIn, chooseIn-accepted, state-refused, count-performed, allowance-performed, shaped-chooseIn}
 use Rattle.events.proofs.Fits.{Fits, fits-chooseIn}
 use Rattle.refinement.proofs.Kept.{Kept, fits-kept}
 use Rattle.plan.specs.Plan.{Plan}
@@ -31,21 +31,15 @@ use Rattle.plan_engine.proofs.Taking.{choice-room}
 use Rattle.plan_refinement.specs.Refinement.{Shows, Takes, Runs, Rests, Room, PlanOf}
 use Rattle.plan_refinement.proofs.Choices.{busy-shows, plain-shows, take-shows}
 
--- ---- the count after an accepted choice
-
-count-accepted :
-    (m : Module Expr) (st : State) (c : ℕ) → chooseIn m st c .number ≡ 0 → chooseIn m st c .state .counters .count ≡ st .counters .count + 1
-count-accepted m st c h =
-    ap (λ r. r .state .counters .count) (chooseIn-accepted m st c (sym (number-chooseIn m st c) ∙ h)) ∙ count-performed m st c
-
-module _ {m : Module Expr} {q : Plan} (w : PlanOf m q) where
+module _ {m : Module Expr} {q : Plan} (w : PlanOf m q) (u : ℕ) (user : u < users) where
   -- The room that an accepted choice leaves.
-  room-accepted : (st : State) (room c : ℕ) (l : Live) → Room room st → Takes m (chooseIn m st c) (takeChoice q room c l)
-      → chooseIn m st c .number ≡ 0 → Room (room - 1) (chooseIn m st c .state)
-  room-accepted st room c l e t h =
-      let n = count-accepted m st c h in
-      let f : room ≡ 0 → ⊥ = λ u. choice-room q room u c l (t .number ∙ h) in
-      rw n (omega arith)
+  room-accepted : (st : State) (room c : ℕ) (l : Live) → Shaped st → Room u room st
+      → Takes m (chooseIn m st u c) (takeChoice q room c l) → chooseIn m st u c .number ≡ 0
+      → Room u (room - 1) (chooseIn m st u c .state)
+  room-accepted st room c l g e t h =
+      let x : refusal m st u c ≡ 0 = sym (number-chooseIn m st u c) ∙ h in
+      let f : room ≡ 0 → ⊥ = λ z. choice-room q room z c l (t .number ∙ h) in
+      rw (chooseIn-accepted m st u c x) (omega (arith, count-performed m st u c g user, allowance-performed m st u c u))
 
   -- ---- over a list
 
@@ -69,26 +63,26 @@ module _ {m : Module Expr} {q : Plan} (w : PlanOf m q) where
       by false e true f = absurd-bool f (same ∙ e)
       by false e false f = record { accepted = refl; number = z .number; left = z .left }
 
-  pub runList-shows : (cs : List ℕ) (st : State) (room : ℕ) (l : Live) → Shaped st → Fits m st → Room room st → Shows m st l
-      → Runs m (runIn m cs st) (runList q cs room l)
+  pub runList-shows : (cs : List ℕ) (st : State) (room : ℕ) (l : Live) → Shaped st → Fits m st → Room u room st → Shows m st l
+      → Runs m (runIn m u cs st) (runList q cs room l)
   unfolding runList runIn
   runList-shows [] st room l g f e z = record { accepted = refl; number = refl; left = z }
   runList-shows (c ∷ cs) st room l g f e z =
-      let t = take-shows w st (fits-kept g f) room e l z c in
-      let u = chooseIn m st c .state in
-      onward-runs (chooseIn m st c) (takeChoice q room c l) (runList q cs (room - 1) (takeChoice q room c l .left)) (runIn m cs u) t
-      (λ h. runList-shows cs u (room - 1) (takeChoice q room c l .left) (shaped-chooseIn m st c g)
-      (fits-chooseIn m (w .sound) st g f c) (room-accepted st room c l e t h) (t .left))
+      let t = take-shows w st (fits-kept g f) u user room e l z c in
+      let x = chooseIn m st u c .state in
+      onward-runs (chooseIn m st u c) (takeChoice q room c l) (runList q cs (room - 1) (takeChoice q room c l .left)) (runIn m u cs x) t
+      (λ h. runList-shows cs x (room - 1) (takeChoice q room c l .left) (shaped-chooseIn m st u c g)
+      (fits-chooseIn m (w .sound) st g f u c) (room-accepted st room c l g e t h) (t .left))
 
   -- ---- the plain run
 
-  resting-rests : (st : State) (c : ℕ) (t : Taken) (a : Run) (b : Rested) → Takes m (chooseIn m st c) t
-      → (chooseIn m st c .number ≡ 0 → Rests m b a) → Rests m (resting st (chooseIn m st c) b) (onward t a)
+  resting-rests : (st : State) (c : ℕ) (t : Taken) (a : Run) (b : Rested) → Takes m (chooseIn m st u c) t
+      → (chooseIn m st u c .number ≡ 0 → Rests m b a) → Rests m (resting st (chooseIn m st u c) b) (onward t a)
   unfolding onward resting numberOfVerdict
   resting-rests st c t a b z h = by (eqb (r .number) 0) refl (eqb (t .number) 0) refl
     where
       r : Chosen
-      r = chooseIn m st c
+      r = chooseIn m st u c
 
       same : eqb (t .number) 0 ≡ eqb (r .number) 0
       same = ap (λ (n : ℕ). eqb n 0) (z .number)
@@ -107,7 +101,7 @@ module _ {m : Module Expr} {q : Plan} (w : PlanOf m q) where
           record {
             accepted = refl;
             number = z .number;
-            left = subst (λ (u : State). Shows m u (t .left)) (state-refused m st c (eqb-false (r .number) 0 e)) (z .left);
+            left = subst (λ (x : State). Shows m x (t .left)) (state-refused m st u c (eqb-false (r .number) 0 e)) (z .left);
           }
 
   spent-rests : (st : State) (l : Live) (t : Bool) → Shows m st l
@@ -118,17 +112,17 @@ module _ {m : Module Expr} {q : Plan} (w : PlanOf m q) where
 
   -- One choice of the plain run; `rest` is the run that follows.
   plain-step : (st : State) (room : ℕ) (l : Live) → Kept m st → Shows m st l → (rest : Live → Run) (b : Rested)
-      → Rests m (resting st (chooseIn m st (calls.plainChoice m st)) b)
+      → Rests m (resting st (chooseIn m st u (calls.plainChoice m st)) b)
       (onward (takeChoice q room (calls.plainChoice m st) l) (rest (takeChoice q room (calls.plainChoice m st) l .left)))
       → Rests m
       (pick (quiet m st) (record { accepted = 0; verdict = Quiet; state = st })
-      (resting st (chooseIn m st (calls.plainChoice m st)) b))
+      (resting st (chooseIn m st u (calls.plainChoice m st)) b))
       (pick (busy l)
       (onward (takeChoice q room (plainChoice q l) l) (rest (takeChoice q room (plainChoice q l) l .left)))
       (run 0 0 l))
   unfolding numberOfVerdict
   plain-step st room l k z rest b h =
-      subst (Rests m (pick (quiet m st) (record { accepted = 0; verdict = Quiet; state = st }) (resting st (chooseIn m st c) b)))
+      subst (Rests m (pick (quiet m st) (record { accepted = 0; verdict = Quiet; state = st }) (resting st (chooseIn m st u c) b)))
       (λ i. choices (sym (busy-shows w st k l z) i) (sym (plain-shows w st k l z) i))
       (by (quiet m st))
     where
@@ -139,21 +133,21 @@ module _ {m : Module Expr} {q : Plan} (w : PlanOf m q) where
       choices t x = pick t (onward (takeChoice q room x l) (rest (takeChoice q room x l .left))) (run 0 0 l)
 
       by : (t : Bool)
-          → Rests m (pick t (record { accepted = 0; verdict = Quiet; state = st }) (resting st (chooseIn m st c) b))
+          → Rests m (pick t (record { accepted = 0; verdict = Quiet; state = st }) (resting st (chooseIn m st u c) b))
           (choices (not t) c)
       by true = record { accepted = refl; number = refl; left = z }
       by false = h
 
-  pub runPlain-shows : (n : ℕ) (st : State) (room : ℕ) (l : Live) → Shaped st → Fits m st → Room room st → Shows m st l
-      → Rests m (runBy m (calls.plainChoice m) n st) (runPlain q n room l)
+  pub runPlain-shows : (n : ℕ) (st : State) (room : ℕ) (l : Live) → Shaped st → Fits m st → Room u room st → Shows m st l
+      → Rests m (runBy m u (calls.plainChoice m) n st) (runPlain q n room l)
   unfolding runPlain runBy
   runPlain-shows zero st room l g f e z = spent-rests st l (quiet m st) z
   runPlain-shows (suc n) st room l g f e z =
       let c = calls.plainChoice m st in
-      let t = take-shows w st (fits-kept g f) room e l z c in
-      let u = chooseIn m st c .state in
-      let x = takeChoice q room c l in
-      plain-step st room l (fits-kept g f) z (runPlain q n (room - 1)) (runBy m (calls.plainChoice m) n u)
-      (resting-rests st c x (runPlain q n (room - 1) (x .left)) (runBy m (calls.plainChoice m) n u) t
-      (λ h. runPlain-shows n u (room - 1) (x .left) (shaped-chooseIn m st c g) (fits-chooseIn m (w .sound) st g f c)
-      (room-accepted st room c l e t h) (t .left)))
+      let t = take-shows w st (fits-kept g f) u user room e l z c in
+      let x = chooseIn m st u c .state in
+      let y = takeChoice q room c l in
+      plain-step st room l (fits-kept g f) z (runPlain q n (room - 1)) (runBy m u (calls.plainChoice m) n x)
+      (resting-rests st c y (runPlain q n (room - 1) (y .left)) (runBy m u (calls.plainChoice m) n x) t
+      (λ h. runPlain-shows n x (room - 1) (y .left) (shaped-chooseIn m st u c g) (fits-chooseIn m (w .sound) st g f u c)
+      (room-accepted st room c l g e t h) (t .left)))

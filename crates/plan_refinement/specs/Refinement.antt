@@ -13,7 +13,7 @@ use Rattle.evaluation.specs.Evaluation.{eval, reads}
 use Rattle.pseudocode.specs.Translation.{Instr, wait!, set!, later!, go, ifnot}
 use Rattle.pseudocode.specs.Instruction.{noTerm, termsOf}
 use Rattle.state.specs.declared.State.{State}
-use Rattle.state.specs.State.{full}
+use Rattle.state.specs.State.{countOf, allowanceOf}
 use Rattle.soundness.specs.Soundness.{Sound}
 use Rattle.events.specs.Cycle.{codeOf, instrAt, isWait, wireExpr}
 use Rattle.events.specs.declared.Chosen.{Chosen}
@@ -72,9 +72,9 @@ pub record Rests (m : Module Expr) (r : Rested) (t : Run) : Type 0 where
   pub number : t .number ≡ numberOfVerdict (r .verdict)
   pub left : Shows m (r .state) (t .left)
 
--- The room that is left beside a count, up to a full one.
-abbrev pub Room : ℕ → State → Type 0
-Room room st = room + st .counters .count ≡ full
+-- The room that is left beside user u's count, up to his allowance.
+abbrev pub Room : ℕ → ℕ → State → Type 0
+Room u room st = room + countOf st u ≡ allowanceOf st u
 
 -- ---- PlanOf: the plan of a module
 

@@ -42,28 +42,28 @@ module _ (s : List ℕ) (m : Module Expr) (e : read s ≡ ok m) where
     abbrev q : Plan
     q = planOf (preparedPlan s ws)
 
-    pub start-prepared : startAt q ≡ start s .state
+    pub start-prepared : (allowances : List ℕ) → startAt q allowances ≡ start s allowances .state
     unfolding startAt start startOf
-    start-prepared = ap started (prepared-holds ws l .wires) ∙ sym (rw e refl)
+    start-prepared allowances = ap (λ (n : ℕ). started n allowances) (prepared-holds ws l .wires) ∙ sym (rw e refl)
 
     module _ (st : State) (h : Shaped st) (b : Bounded st) where
-      pub choose-prepared : (c : ℕ) → chooseAt q st c ≡ choose s st c
+      pub choose-prepared : (u c : ℕ) → chooseAt q st u c ≡ choose s st u c
       unfolding choose judged
-      choose-prepared c =
+      choose-prepared u c =
           let y = prepared-holds ws l in
-          rw e (choose-at (plan-of (preparedPlan s ws) (sound s e) y) st (plan-fits (sound s e) y st) h b c)
+          rw e (choose-at (plan-of (preparedPlan s ws) (sound s e) y) st (plan-fits (sound s e) y st) h b u c)
 
-      pub run-prepared : (cs : List ℕ) → runAt q st cs ≡ runList s st cs
+      pub run-prepared : (u : ℕ) (cs : List ℕ) → runAt q st u cs ≡ runList s st u cs
       unfolding runList judged
-      run-prepared cs =
+      run-prepared u cs =
           let y = prepared-holds ws l in
-          rw e (run-at (plan-of (preparedPlan s ws) (sound s e) y) st (plan-fits (sound s e) y st) h b cs)
+          rw e (run-at (plan-of (preparedPlan s ws) (sound s e) y) st (plan-fits (sound s e) y st) h b u cs)
 
-      pub plain-prepared : (n : ℕ) → plainAt q st n ≡ runPlain s st n
+      pub plain-prepared : (u n : ℕ) → plainAt q st u n ≡ runPlain s st u n
       unfolding runPlain judged
-      plain-prepared n =
+      plain-prepared u n =
           let y = prepared-holds ws l in
-          rw e (plain-at (plan-of (preparedPlan s ws) (sound s e) y) st (plan-fits (sound s e) y st) h b n)
+          rw e (plain-at (plan-of (preparedPlan s ws) (sound s e) y) st (plan-fits (sound s e) y st) h b u n)
 
       -- The inputs are numbers of 32 bits, as every caller's are.
       pub instant-prepared : (a : Inputs) → ((v : ℕ) → fits 32 (inputOf a v) ≡ true) → instantAt q st a ≡ instant s st a

@@ -10,8 +10,9 @@ use borrow.Author.Tests.{ltb-true, ltb-false}
 use Rattle.sheet.specs.Expression.{Expr}
 use Rattle.sheet.specs.Module.{Module}
 use Rattle.masks.proofs.Masks.{flags-same}
+use Rattle.state.specs.declared.Counters.{Counters}
 use Rattle.state.specs.declared.State.{State}
-use Rattle.state.specs.State.{Bounded, countersOf, placeOf}
+use Rattle.state.specs.State.{Bounded, placeOf}
 use Rattle.events.specs.Cycle.{current, threadEnabled}
 use Rattle.refinement.specs.Refinement.{readyIn}
 use Rattle.refinement.proofs.Kept.{Kept}
@@ -72,8 +73,7 @@ module _ {m : Module Expr} {q : Plan} (w : PlanOf m q) {st : State} (k : Kept m 
             };
       }
 
-pub packed-shows : {m : Module Expr} {st : State} {l : Live} → Shows m st l → (time count : ℕ) → st .counters .time ≡ time → st .counters .count ≡ count
-    → packed l (countersOf time count) ≡ st
-packed-shows {m} {st} {l} z time count t n =
-    (λ i. packed l (countersOf (sym t i) (sym n i)))
+pub packed-shows : {m : Module Expr} {st : State} {l : Live} → Shows m st l → (c : Counters) → st .counters ≡ c → packed l c ≡ st
+packed-shows {m} {st} {l} z c e =
+    ap (packed l) (sym e)
     ∙ packed-planes st l (z .scene .planes) (z .slots .planes) (z .scene .places) (z .scene .due) (z .slots .held)

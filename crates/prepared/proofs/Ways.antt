@@ -1,34 +1,36 @@
--- Each way through the code of a call gives what the call's definition says; no counter overflows. Assumes nothing.
+-- Each way through the code of a call gives what the call's definition says. Assumes nothing.
 use mathlib.Core.Path.{_≡_, refl, sym, ap, _∙_}
 use mathlib.Core.Bool.{Bool, true, false}
 use mathlib.Core.List.{List}
 use Prim.Native.Nat.{ℕ, _+_, _-_, _≤_, _<_}
-use native.Mathlib.Decide.{ℕ-discrete}
+use native.Mathlib.Nat.{zero-sub}
 use native.Mathlib.Omega.{arith}
-use lib.Dec.{eqb}
-use borrow.Author.Tests.{eq-eqb, ne-eqb}
+use lib.Dec.{leb, eqb}
+use lib.ListN.{length, getD, set, List·getD-eq-default}
+use lib.Seq.{set-out}
+use borrow.Author.Tests.{eq-eqb, ne-eqb, lt-ltb, le-ltb, lt-leb, le-leb}
 use Rattle.values.specs.Values.{pick}
 use Rattle.sheet.specs.declared.SheetRead.{SheetRead}
+use Rattle.state.specs.declared.Counters.{Counters}
 use Rattle.state.specs.declared.State.{State}
-use Rattle.state.specs.State.{full, countersOf}
+use Rattle.state.specs.State.{full, countersOf, users}
 use Rattle.events.specs.declared.Inputs.{Inputs}
 use Rattle.events.specs.declared.Verdict.{Verdict}
 use Rattle.events.specs.declared.Verdict.the-variants.{Quiet, Spent, Stopped, Refused}
-use Rattle.events.specs.Calls.{spend, answer, inputOf}
+use Rattle.events.specs.Calls.{spendTime, answer, inputOf}
 use Rattle.plan.specs.Plan.{Plan}
 use Rattle.plan_changes.specs.declared.Marks.{Marks}
 use Rattle.plan_engine.specs.Live.{Live, live}
 use Rattle.plan_engine.specs.Acting.{feed}
-use Rattle.plan_engine.specs.Taking.{Taken, taken, takeChoice}
-use Rattle.plan_engine.specs.Running.{Run, run, runList, runPlain, busy}
-use Rattle.plan_engine.proofs.Taking.{choice-room}
-use Rattle.plan_engine.proofs.Running.{list-room, plain-room}
+use Rattle.plan_engine.specs.Taking.{taken, takeChoice}
+use Rattle.plan_engine.specs.Running.{run, runList, runPlain, busy}
 use Rattle.plan_state.specs.Packing.{slotsOf, unpackedIn, unpacked, packed}
 use Rattle.plan_fill.specs.Filling.{filledPlan}
 use Rattle.plan_fitting.specs.Fitting.{planFits, planInputsFit}
 use Rattle.prepared.specs.declared.Prepared.{Prepared}
 use Rattle.prepared.specs.Prepared.{readOf, preparedPlan}
-use Rattle.prepared.specs.Prepared.{roomOf, counting, verdictOf, chooseAt, runAt, plainAt, instantNumber, fedAt, instantAt}
+use Rattle.prepared.specs.Prepared.{roomIn, raised, accepted, userless, verdictOf, chooseAt, runAt, plainAt}
+use Rattle.prepared.specs.Prepared.{later, instantNumber, fedAt, instantAt}
 
 -- ---- prepare
 
@@ -51,64 +53,103 @@ pub laid : (q : Plan) (st : State) (k : Marks) (cs ds ns : List ℕ) → ns ≡ 
     → live ds (slotsOf st) (st .places) k ≡ unpackedIn cs q st → live ds ns (st .places) k ≡ unpackedIn cs q st
 laid q st k cs ds ns e h = ap (λ (xs : List ℕ). live ds xs (st .places) k) e ∙ h
 
--- ---- room
+-- ---- counting
 
-pub choice-left : (q : Plan) (room count c n : ℕ) (l d : Live) → room ≡ full - count → taken n d ≡ takeChoice q room c l
-    → n ≡ 0 → count < full
-choice-left q room count c n l d r t z = by (ℕ-discrete room 0)
-  where
-    by : Dec (room ≡ 0) → count < full
-    by (yes e) = absurd (choice-room q room e c l (sym (ap (λ (x : Taken). x .number) t) ∙ z))
-    by (no e) = by-count (ℕ-discrete (full - count) 0)
+module _ (c : Counters) (u : ℕ) where
+  pub room-none : length (c .counts) ≡ 4 → length (c .allowances) ≡ 4 → 4 ≤ u → 0 ≡ roomIn c u
+  room-none p q h = sym (rw (List·getD-eq-default (c .allowances) 0 {n = u} (omega arith)) (zero-sub (getD (c .counts) u 0)))
+
+  module _ (n : ℕ) where
+    pub raised-none : roomIn c u < n → c ≡ raised n u c
+    unfolding raised
+    raised-none h = rw (lt-leb n (roomIn c u) h) refl
+
+    -- A user above 3 has no count.
+    pub raised-other : length (c .counts) ≡ 4 → 4 ≤ u → c ≡ raised n u c
+    unfolding raised
+    raised-other p h = rw (set-out (c .counts) u (getD (c .counts) u 0 + n) (omega arith)) (either (leb n (roomIn c u)))
       where
-        by-count : Dec (full - count ≡ 0) → count < full
-        by-count (yes f) = absurd (e (r ∙ f))
-        by-count (no f) = omega arith
+        either : (t : Bool) → c ≡ pick t (countersOf (c .time) (c .counts) (c .allowances)) c
+        either true = refl
+        either false = refl
 
-pub list-left : (q : Plan) (room a n : ℕ) (cs : List ℕ) (l d : Live) → run a n d ≡ runList q cs room l → a ≤ room
-list-left q room a n cs l d t = rw (sym (ap (λ (x : Run). x .accepted) t)) at (list-room q cs room l)
+    pub raised-some : n ≤ roomIn c u → countersOf (c .time) (set (c .counts) u (getD (c .counts) u 0 + n)) (c .allowances) ≡ raised n u c
+    unfolding raised
+    raised-some l = rw (le-leb n (roomIn c u) l) refl
 
-pub plain-left : (q : Plan) (room a n limit : ℕ) (l d : Live) → run a n d ≡ runPlain q limit room l → a ≤ room
-plain-left q room a n limit l d t = rw (sym (ap (λ (x : Run). x .accepted) t)) at (plain-room q limit room l)
+-- ---- a choice whose user is above 3
+
+module _ (q : Plan) (c : ℕ) where
+  pub userless-item : c < q .threads + q .wires → 46 ≡ userless q c
+  unfolding userless
+  userless-item h = rw (lt-ltb c (q .threads + q .wires) h) refl
+
+  module _ (h : q .threads + q .wires ≤ c) where
+    pub userless-commit : c ≡ 255 → 46 ≡ userless q c
+    unfolding userless
+    userless-commit e = rw (le-ltb c (q .threads + q .wires) h, eq-eqb c 255 e) refl
+
+    pub userless-none : (c ≡ 255 → ⊥) → 22 ≡ userless q c
+    unfolding userless
+    userless-none d = rw (le-ltb c (q .threads + q .wires) h, ne-eqb c 255 d) refl
 
 module _ (q : Plan) (st : State) where
   -- ---- a state that doesn't fit
 
-  pub choose-unfit : (c : ℕ) → planFits q st ≡ false → record { number = 31; state = st } ≡ chooseAt q st c
-  unfolding chooseAt
-  choose-unfit c f = rw f refl
+  module _ (u : ℕ) (f : planFits q st ≡ false) where
+    pub choose-unfit : (c : ℕ) → record { number = 31; state = st } ≡ chooseAt q st u c
+    unfolding chooseAt
+    choose-unfit c = rw f refl
 
-  pub run-unfit : (cs : List ℕ) → planFits q st ≡ false → record { accepted = 0; number = 31; state = st } ≡ runAt q st cs
-  unfolding runAt
-  run-unfit cs f = rw f refl
+    pub run-unfit : (cs : List ℕ) → record { accepted = 0; number = 31; state = st } ≡ runAt q st u cs
+    unfolding runAt
+    run-unfit cs = rw f refl
 
-  pub plain-unfit : (n : ℕ) → planFits q st ≡ false → record { accepted = 0; verdict = Refused 31; state = st } ≡ plainAt q st n
-  unfolding plainAt
-  plain-unfit n f = rw f refl
+    pub plain-unfit : (n : ℕ) → record { accepted = 0; verdict = Refused 31; state = st } ≡ plainAt q st u n
+    unfolding plainAt
+    plain-unfit n = rw f refl
 
   pub instant-unfit : (a : Inputs) → planFits q st ≡ false → record { number = 31; state = st } ≡ instantAt q st a
   unfolding instantAt
   instant-unfit a f = rw f refl
 
-  -- ---- one that fits, laid out as l
+  -- ---- a user above 3
 
-  module _ (f : planFits q st ≡ true) (l : Live) (e : l ≡ unpacked q st) where
-    pub choose-fit : (c n room count : ℕ) (d : Live) (u : State) → room ≡ roomOf st → taken n d ≡ takeChoice q room c l
-        → count ≡ counting n (st .counters .count) → u ≡ packed d (countersOf (st .counters .time) count) → record { number = n; state = u } ≡ chooseAt q st c
+  module _ (u : ℕ) (f : planFits q st ≡ true) (h : users ≤ u) where
+    pub choose-userless : (c n : ℕ) → n ≡ userless q c → record { number = n; state = st } ≡ chooseAt q st u c
     unfolding chooseAt
-    choose-fit c n room count d u r t k p = rw (f, ← e, ← r, ← t, p, k) refl
+    choose-userless c n e = rw (f, le-ltb u users h, e) refl
 
-    pub run-fit : (cs : List ℕ) (a n room count : ℕ) (d : Live) (u : State) → room ≡ roomOf st → run a n d ≡ runList q cs room l
-        → count ≡ st .counters .count + a → u ≡ packed d (countersOf (st .counters .time) count)
-        → record { accepted = a; number = n; state = u } ≡ runAt q st cs
+    pub run-userless : (cs : List ℕ) → record { accepted = 0; number = 46; state = st } ≡ runAt q st u cs
     unfolding runAt
-    run-fit cs a n room count d u r t k p = rw (f, ← e, ← r, ← t, p, k) refl
+    run-userless cs = rw (f, le-ltb u users h) refl
 
-    pub plain-fit : (limit a n room count : ℕ) (v : Verdict) (d : Live) (u : State) → room ≡ roomOf st
-        → run a n d ≡ runPlain q limit room l → v ≡ verdictOf n d → count ≡ st .counters .count + a → u ≡ packed d (countersOf (st .counters .time) count)
-        → record { accepted = a; verdict = v; state = u } ≡ plainAt q st limit
+    pub plain-userless : (n : ℕ) → record { accepted = 0; verdict = Refused 46; state = st } ≡ plainAt q st u n
     unfolding plainAt
-    plain-fit limit a n room count v d u r t w k p = rw (f, ← e, ← r, ← t, p, k, w) refl
+    plain-userless n = rw (f, le-ltb u users h) refl
+
+  -- ---- a state that fits, laid out as l, and a user
+
+  module _ (u : ℕ) (f : planFits q st ≡ true) (h : u < users) (l : Live) (e : l ≡ unpacked q st) where
+    pub choose-fit : (c n room k : ℕ) (d : Live) (x : Counters) (v : State) → room ≡ roomIn (st .counters) u
+        → taken n d ≡ takeChoice q room c l → k ≡ accepted n → x ≡ raised k u (st .counters) → v ≡ packed d x
+        → record { number = n; state = v } ≡ chooseAt q st u c
+    unfolding chooseAt
+    choose-fit c n room k d x v r t y z p = rw (f, lt-ltb u users h, ← e, ← r, ← t, p, z, y) refl
+
+    pub run-fit : (cs : List ℕ) (a n room : ℕ) (d : Live) (x : Counters) (v : State) → room ≡ roomIn (st .counters) u
+        → run a n d ≡ runList q cs room l → x ≡ raised a u (st .counters) → v ≡ packed d x
+        → record { accepted = a; number = n; state = v } ≡ runAt q st u cs
+    unfolding runAt
+    run-fit cs a n room d x v r t y p = rw (f, lt-ltb u users h, ← e, ← r, ← t, p, y) refl
+
+    pub plain-fit : (limit a n room : ℕ) (w : Verdict) (d : Live) (x : Counters) (v : State) → room ≡ roomIn (st .counters) u
+        → run a n d ≡ runPlain q limit room l → w ≡ verdictOf n d → x ≡ raised a u (st .counters) → v ≡ packed d x
+        → record { accepted = a; verdict = w; state = v } ≡ plainAt q st u limit
+    unfolding plainAt
+    plain-fit limit a n room w d x v r t y z p = rw (f, lt-ltb u users h, ← e, ← r, ← t, p, z, y) refl
+
+  -- ---- an instant
 
   module _ (f : planFits q st ≡ true) (a : Inputs) where
     pub instant-wide : planInputsFit q a ≡ false → record { number = 25; state = st } ≡ instantAt q st a
@@ -121,13 +162,13 @@ module _ (q : Plan) (st : State) where
       instant-busy h = rw (f, g, ← e, h) refl
 
       pub instant-late : busy l ≡ false → st .counters .time ≡ full → record { number = 36; state = st } ≡ instantAt q st a
-      unfolding instantAt instantNumber answer spend
+      unfolding instantAt instantNumber answer spendTime
       instant-late h t = rw (f, g, ← e, h, eq-eqb (st .counters .time) full t) refl
 
-      pub instant-done : busy l ≡ false → (st .counters .time ≡ full → ⊥) → (time : ℕ) (d : Live) (u : State) → time ≡ st .counters .time + 1
-          → d ≡ feed q (inputOf a) l → u ≡ packed d (countersOf time (st .counters .count)) → record { number = 0; state = u } ≡ instantAt q st a
-      unfolding instantAt instantNumber answer spend fedAt
-      instant-done h t time d u k x p = rw (f, g, ← e, h, ne-eqb (st .counters .time) full t, ← x, p, k) refl
+      pub instant-done : busy l ≡ false → (st .counters .time ≡ full → ⊥) → (x : Counters) (d : Live) (v : State)
+          → x ≡ later (st .counters) → d ≡ feed q (inputOf a) l → v ≡ packed d x → record { number = 0; state = v } ≡ instantAt q st a
+      unfolding instantAt instantNumber answer spendTime fedAt
+      instant-done h t x d v k y p = rw (f, g, ← e, h, ne-eqb (st .counters .time) full t, ← y, p, k) refl
 
 -- ---- how a plain run ended
 

@@ -19,14 +19,14 @@ use Rattle.prepared.specs.Prepared.{preparedPlan, startAt, chooseAt, run
 
 -- The calls on a plan, from one state, are those on a sheet. Inputs are numbers of 32 bits, as every caller's are.
 pub record Same (s : List ℕ) (q : Plan) (st : State) : Type 0 where
-  pub choose : (c : ℕ) → chooseAt q st c ≡ calls.choose s st c
-  pub run : (cs : List ℕ) → runAt q st cs ≡ calls.runList s st cs
-  pub plain : (n : ℕ) → plainAt q st n ≡ calls.runPlain s st n
+  pub choose : (u c : ℕ) → chooseAt q st u c ≡ calls.choose s st u c
+  pub run : (u : ℕ) (cs : List ℕ) → runAt q st u cs ≡ calls.runList s st u cs
+  pub plain : (u n : ℕ) → plainAt q st u n ≡ calls.runPlain s st u n
   pub instant : (a : Inputs) → ((v : ℕ) → fits 32 (calls.inputOf a v) ≡ true) → instantAt q st a ≡ calls.instant s st a
 
 pub record Prepares (s : List ℕ) (m : Module Expr) (q : Plan) : Type 0 where
   pub holds : Holds m q
-  pub start : startAt q ≡ calls.start s .state
+  pub start : (allowances : List ℕ) → startAt q allowances ≡ calls.start s allowances .state
   -- Every state that code has is of such lengths and numbers.
   pub calls : (st : State) → Shaped st → Bounded st → Same s q st
 

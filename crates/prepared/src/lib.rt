@@ -14,11 +14,15 @@ ghost use mathlib.Core.Path.{_≡_};
 ghost use mathlib.Core.List.{List};
 ghost use Prim.Native.Nat.{ℕ, _<_};
 ghost use Rattle.state.specs.State.{full};
+ghost use Rattle.events.specs.declared.Verdict.the-variants.{Refused};
 ghost use Rattle.events.specs.Calls.{dueBelow};
 ghost use Rattle.plan.specs.Plan.{planOf};
 ghost use Rattle.plan_engine.specs.Live.{live};
-ghost use Rattle.prepared.specs.Prepared.{readOf, preparedPlan, startAt, roomOf, counting, verdictOf};
-ghost use Rattle.prepared.specs.Prepared.{chooseAt, runAt, plainAt, instantAt};
+ghost use Rattle.prepared.specs.Prepared.{readOf, preparedPlan, startAt, roomIn, raised, accepted, userless, verdictOf};
+ghost use Rattle.prepared.specs.Prepared.{chooseAt, runAt, plainAt, later, instantAt};
+
+// The users' numbers lie below it.
+pub const USERS: u8 = 4;
 
 // Whether a sheet was accepted: 0, or the number that refuses it and the place.
 pub struct Prepared {
@@ -57,9 +61,9 @@ fn due_below(n: usize) -> [bool; 32]
     masks::flags(due)
 }
 
-// The state at the start.
-pub fn start(plan: &PlanTable) -> State
-    ensures { λ r. ⌜ r ≡ startAt (planOf (now (plan .entry))) ⌝ }
+// The state at the start. "Each has an allowance of choices fixed at the start".
+pub fn start(plan: &PlanTable, allowances: [u32; 4]) -> State
+    ensures { λ r. ⌜ r ≡ startAt (planOf (now (plan .entry))) allowances ⌝ }
 {
     State {
         value: [0u32; 80],
@@ -69,43 +73,101 @@ pub fn start(plan: &PlanTable) -> State
         held: [false; 32],
         places: [0u8; 8],
         due: due_below(plan::wires(plan)),
-        counters: Counters { time: 0, count: 0 },
+        counters: Counters {
+            time: 0,
+            counts: [0u64; 4],
+            allowances,
+        },
     }
+}
+
+// ---- counting
+
+// An allowance as a count.
+fn wide(n: u32) -> u64
+    ensures { λ r. ⌜ r ≡ n ⌝ }
+{
+    n as u64
+}
+
+// The choices that a user's allowance has left.
+pub fn room_in(c: Counters, user: u8) -> u64
+    ensures { λ r. ⌜ r ≡ roomIn c user ⌝ }
+{
+    if user >= USERS {
+        return 0;
+    }
+    let u = user as usize;
+    let counts = c.counts;
+    let allowances = c.allowances;
+    let count = counts[u];
+    let most = wide(allowances[u]);
+    if most < count { 0 } else { most - count }
+}
+
+// `n` more accepted choices of a user, where his allowance has so many left.
+pub fn raised(n: u64, user: u8, c: Counters) -> Counters
+    ensures { λ r. ⌜ r ≡ raised n user c ⌝ }
+{
+    if user >= USERS {
+        return c;
+    }
+    if room_in(c, user) < n {
+        return c;
+    }
+    let u = user as usize;
+    let mut counts = c.counts;
+    counts[u] = counts[u] + n;
+    let allowances = c.allowances;
+    Counters {
+        time: c.time,
+        counts,
+        allowances,
+    }
+}
+
+// How many choices were accepted where one was answered by `number`.
+pub fn accepted(number: u8) -> u64
+    ensures { λ r. ⌜ r ≡ accepted number ⌝ }
+{
+    if number == 0 { 1 } else { 0 }
 }
 
 // ---- the calls
 
-// The choices that may still be accepted.
-fn room_of(st: State) -> u64
-    ensures { λ r. ⌜ r ≡ roomOf st ⌝ }
+// What a refused choice or instant gives.
+fn refused(number: u8, state: State) -> Chosen
+    ensures { λ r. ⌜ r ≡ record { number = number; state = state } ⌝ }
 {
-    let count = st.counters.count;
-    FULL - count
+    Chosen { number, state }
 }
 
-// The count once a choice was answered by `number`.
-fn counting(number: u8, count: u64) -> u64
-    requires { ⌜ (number ≡ 0 → count < full) ⌝ }
-    ensures { λ r. ⌜ r ≡ counting number count ⌝ }
+// The number of a choice whose user is above 3.
+fn userless(plan: &PlanTable, c: u8) -> u8
+    ensures { λ r. ⌜ r ≡ userless (planOf (now (plan .entry))) c ⌝ }
 {
-    if number == 0 { count + 1 } else { count }
+    if (c as usize) < plan::threads(plan) + plan::wires(plan) {
+        return 46;
+    }
+    if c == 255 { 46 } else { 22 }
 }
 
-// A choice: an item by its number, or 255 for the commit.
-pub fn choose(plan: &PlanTable, st: State, c: u8) -> Chosen
-    ensures { λ r. ⌜ r ≡ chooseAt (planOf (now (plan .entry))) st c ⌝ }
+// A choice of a user: an item by its number, or 255 for the commit.
+pub fn choose(plan: &PlanTable, st: State, user: u8, c: u8) -> Chosen
+    ensures { λ r. ⌜ r ≡ chooseAt (planOf (now (plan .entry))) st user c ⌝ }
 {
     if !plan_fitting::state_fits(plan, st) {
-        return Chosen {
-            number: 31,
-            state: st,
-        };
+        return refused(31, st);
+    }
+    if user >= USERS {
+        return refused(userless(plan, c), st);
     }
     let mut cells = [0u64; 4176];
     let marks = plan_state::unpack(plan, st, &mut cells);
     let mut pending = plan_state::slots_of(&st.pending, &st.unsure);
     let mut places = st.places;
-    let room = room_of(st);
+    let old = st.counters;
+    let room = room_in(old, user);
     let t = plan_engine::take_choice(
         plan,
         &mut cells,
@@ -116,11 +178,7 @@ pub fn choose(plan: &PlanTable, st: State, c: u8) -> Chosen
         room,
     );
     let left = t.marks;
-    let count = counting(t.number, st.counters.count);
-    let counters = Counters {
-        time: st.counters.time,
-        count,
-    };
+    let counters = raised(accepted(t.number), user, old);
     let state = plan_state::pack(&cells, &pending, places, left, counters);
     Chosen {
         number: t.number,
@@ -128,22 +186,33 @@ pub fn choose(plan: &PlanTable, st: State, c: u8) -> Chosen
     }
 }
 
-// A run over a list of choices. It ends at the first refused one.
-pub fn run(plan: &PlanTable, st: State, choices: &[u8]) -> Ran
-    ensures { λ r. ⌜ r ≡ runAt (planOf (now (plan .entry))) st (now (choices .entry)) ⌝ }
+// What a refused run gives.
+fn not_run(number: u8, state: State) -> Ran
+    ensures { λ r. ⌜ r ≡ record { accepted = 0; number = number; state = state } ⌝ }
+{
+    Ran {
+        accepted: 0,
+        number,
+        state,
+    }
+}
+
+// A run of a user over a list of choices. It ends at the first refused one.
+pub fn run(plan: &PlanTable, st: State, user: u8, choices: &[u8]) -> Ran
+    ensures { λ r. ⌜ r ≡ runAt (planOf (now (plan .entry))) st user (now (choices .entry)) ⌝ }
 {
     if !plan_fitting::state_fits(plan, st) {
-        return Ran {
-            accepted: 0,
-            number: 31,
-            state: st,
-        };
+        return not_run(31, st);
+    }
+    if user >= USERS {
+        return not_run(46, st);
     }
     let mut cells = [0u64; 4176];
     let marks = plan_state::unpack(plan, st, &mut cells);
     let mut pending = plan_state::slots_of(&st.pending, &st.unsure);
     let mut places = st.places;
-    let room = room_of(st);
+    let old = st.counters;
+    let room = room_in(old, user);
     let t = plan_engine::run_list(
         plan,
         &mut cells,
@@ -154,11 +223,7 @@ pub fn run(plan: &PlanTable, st: State, choices: &[u8]) -> Ran
         room,
     );
     let left = t.marks;
-    let count = st.counters.count + t.accepted as u64;
-    let counters = Counters {
-        time: st.counters.time,
-        count,
-    };
+    let counters = raised(t.accepted as u64, user, old);
     let state = plan_state::pack(&cells, &pending, places, left, counters);
     Ran {
         accepted: t.accepted,
@@ -180,22 +245,33 @@ fn verdict_of(number: u8, marks: Marks) -> Verdict
     Verdict::Quiet
 }
 
-// The plain run of at most `limit` choices: it takes the lowest enabled item, else the commit.
-pub fn run_plain(plan: &PlanTable, st: State, limit: u16) -> Rested
-    ensures { λ r. ⌜ r ≡ plainAt (planOf (now (plan .entry))) st limit ⌝ }
+// What a refused plain run gives.
+fn not_rested(number: u8, state: State) -> Rested
+    ensures { λ r. ⌜ r ≡ record { accepted = 0; verdict = Refused number; state = state } ⌝ }
+{
+    Rested {
+        accepted: 0,
+        verdict: Verdict::Refused(number),
+        state,
+    }
+}
+
+// The plain run of a user, of at most `limit` choices: it takes the lowest enabled item, else the commit.
+pub fn run_plain(plan: &PlanTable, st: State, user: u8, limit: u16) -> Rested
+    ensures { λ r. ⌜ r ≡ plainAt (planOf (now (plan .entry))) st user limit ⌝ }
 {
     if !plan_fitting::state_fits(plan, st) {
-        return Rested {
-            accepted: 0,
-            verdict: Verdict::Refused(31),
-            state: st,
-        };
+        return not_rested(31, st);
+    }
+    if user >= USERS {
+        return not_rested(46, st);
     }
     let mut cells = [0u64; 4176];
     let marks = plan_state::unpack(plan, st, &mut cells);
     let mut pending = plan_state::slots_of(&st.pending, &st.unsure);
     let mut places = st.places;
-    let room = room_of(st);
+    let old = st.counters;
+    let room = room_in(old, user);
     let t = plan_engine::run_plain(
         plan,
         &mut cells,
@@ -207,11 +283,7 @@ pub fn run_plain(plan: &PlanTable, st: State, limit: u16) -> Rested
     );
     let left = t.marks;
     let verdict = verdict_of(t.number, left);
-    let count = st.counters.count + t.accepted as u64;
-    let counters = Counters {
-        time: st.counters.time,
-        count,
-    };
+    let counters = raised(t.accepted as u64, user, old);
     let state = plan_state::pack(&cells, &pending, places, left, counters);
     Rested {
         accepted: t.accepted,
@@ -220,11 +292,18 @@ pub fn run_plain(plan: &PlanTable, st: State, limit: u16) -> Rested
     }
 }
 
-// What a refused choice or instant gives.
-fn refused(number: u8, state: State) -> Chosen
-    ensures { λ r. ⌜ r ≡ record { number = number; state = state } ⌝ }
+// The time one further.
+fn later(c: Counters) -> Counters
+    requires { ⌜ c .time < full ⌝ }
+    ensures { λ r. ⌜ r ≡ later c ⌝ }
 {
-    Chosen { number, state }
+    let counts = c.counts;
+    let allowances = c.allowances;
+    Counters {
+        time: c.time + 1,
+        counts,
+        allowances,
+    }
 }
 
 // An instant: all inputs are set as one change, and the time goes on.
@@ -242,7 +321,8 @@ pub fn instant(plan: &PlanTable, st: State, a: Inputs) -> Chosen
     if plan_engine::busy(marks) {
         return refused(32, st);
     }
-    if st.counters.time == FULL {
+    let old = st.counters;
+    if old.time == FULL {
         return refused(36, st);
     }
     let mut pending = plan_state::slots_of(&st.pending, &st.unsure);
@@ -256,11 +336,7 @@ pub fn instant(plan: &PlanTable, st: State, a: Inputs) -> Chosen
         &a.value,
         &a.unknown,
     );
-    let time = st.counters.time + 1;
-    let counters = Counters {
-        time,
-        count: st.counters.count,
-    };
+    let counters = later(old);
     let state = plan_state::pack(&cells, &pending, places, left, counters);
     Chosen { number: 0, state }
 }

@@ -3,14 +3,14 @@ use mathlib.Core.Path.{_≡_, refl, sym, ap, _∙_}
 use mathlib.Core.Bool.{Bool, true, false, not}
 use mathlib.Core.List.{List}
 use Prim.Native.Nat.{ℕ, suc, _+_, _-_, _/_, _≤_, _<_}
-use native.Mathlib.Decide.{ℕ-discrete}
 use native.Mathlib.Omega.{arith}
 use lib.Dec.{eqb}
 use lib.ListN.{length}
-use borrow.Author.Tests.{ne-eqb, eq-eqb, le-leb, lt-leb}
+use borrow.Author.Tests.{ne-eqb, le-leb, lt-leb, lt-ltb, le-ltb}
 use Rattle.values.specs.Values.{pick}
+use Rattle.state.specs.declared.Counters.{Counters}
 use Rattle.state.specs.declared.State.{State}
-use Rattle.state.specs.State.{full, countersOf}
+use Rattle.state.specs.State.{users}
 use Rattle.events.specs.declared.Inputs.{Inputs}
 use Rattle.events.specs.Calls.{inputOf}
 use Rattle.events.specs.Rows.{wholeRows}
@@ -19,13 +19,12 @@ use Rattle.plan_engine.specs.Live.{Live}
 use Rattle.plan_engine.specs.Acting.{feed}
 use Rattle.plan_engine.specs.Taking.{taken, takeChoice}
 use Rattle.plan_engine.specs.Running.{run, runPlain, busy}
-use Rattle.plan_state.specs.Packing.{packed}
 use Rattle.plan_fitting.specs.Fitting.{planFits}
-use Rattle.prepared.specs.Prepared.{counting}
+use Rattle.prepared.specs.Prepared.{raised, accepted, later}
 use Rattle.prepared_cycles.specs.declared.Driven.{Driven}
 use Rattle.prepared_cycles.specs.Cycles.{rowInputs}
-use Rattle.prepared_cycles.specs.Phases.{Moment, moment, refusalAt, laidOut}
-use Rattle.prepared_cycles.specs.Traces.{written, rounds, hasRoom, stateAt}
+use Rattle.prepared_cycles.specs.Phases.{Moment, moment, roomAt, stateAt, refusalAt, laidOut}
+use Rattle.prepared_cycles.specs.Traces.{written, rounds, hasRoom}
 use Rattle.prepared_cycles.specs.Drives.{Going, going, Drive, driven, onPlan, plainMost, drawnMost, nextSeed, drawnChoice}
 use Rattle.prepared_cycles.specs.Drives.{draw, drawn, plainly, toRest, drive, drives, rows, told, arrived}
 use Rattle.prepared_cycles.specs.Drives.{settledAt, driveAt, drivenAt}
@@ -37,11 +36,12 @@ module _ (q : Plan) (g : Going Moment) where
   -- ---- a draw
 
   pub draw-is : (seed items k room : ℕ) → seed ≡ nextSeed (g .seed) → items ≡ q .threads + q .wires → k ≡ drawnChoice seed items
-      → room ≡ full - g .after .count
-      → (n : ℕ) (d : Live) → taken n d ≡ takeChoice q room k (g .after .left) → (count : ℕ) → count ≡ counting n (g .after .count)
-      → going 0 (eqb n 35) seed (moment d (g .after .time) count) ≡ draw (onPlan q) g
+      → room ≡ roomAt (g .after)
+      → (n : ℕ) (d : Live) → taken n d ≡ takeChoice q room k (g .after .left) → (j : ℕ) → j ≡ accepted n → (x : Counters)
+      → x ≡ raised j (g .after .user) (g .after .counters)
+      → going 0 (eqb n 35) seed (moment d x (g .after .user)) ≡ draw (onPlan q) g
   unfolding draw
-  draw-is seed items k room a b c e n d t count f = rw (← a, ← b, ← c, ← e, ← t, f) refl
+  draw-is seed items k room a b c e n d t j i x f = rw (← a, ← b, ← c, ← e, ← t, f, i) refl
 
   module _ (n : ℕ) where
     pub drawn-none : n ≤ 0 → drawn (onPlan q) n g ≡ g
@@ -67,11 +67,12 @@ module _ (q : Plan) (g : Going Moment) where
 
   -- ---- to rest
 
-  pub plainly-is : (room : ℕ) → room ≡ full - g .after .count → (a n : ℕ) (d : Live)
-      → run a n d ≡ runPlain q plainMost room (g .after .left) → (t : Bool) → t ≡ busy d
-      → going 0 (not t) (g .seed) (moment d (g .after .time) (g .after .count + a)) ≡ plainly (onPlan q) g
+  pub plainly-is : (room : ℕ) → room ≡ roomAt (g .after) → (a n : ℕ) (d : Live)
+      → run a n d ≡ runPlain q plainMost room (g .after .left) → (t : Bool) → t ≡ busy d → (x : Counters)
+      → x ≡ raised a (g .after .user) (g .after .counters)
+      → going 0 (not t) (g .seed) (moment d x (g .after .user)) ≡ plainly (onPlan q) g
   unfolding plainly
-  plainly-is room e a n d h t f = rw (← e, ← h, f) refl
+  plainly-is room e a n d h t f x i = rw (← e, ← h, f, i) refl
 
   pub rest-drawn : (t : Bool) → t ≡ true → drawn (onPlan q) drawnMost g ≡ toRest (onPlan q) t g
   unfolding toRest
@@ -88,10 +89,10 @@ module _ (q : Plan) (g : Going Moment) where
     unfolding drive
     drive-off d = rw (← e, ne-eqb n 0 d) refl
 
-    pub drive-on : n ≡ 0 → (l : Live) → l ≡ feed q (inputOf a) (g .after .left)
-        → toRest (onPlan q) t (going 0 false (g .seed) (moment l (g .after .time + 1) (g .after .count))) ≡ drive (onPlan q) t a g
+    pub drive-on : n ≡ 0 → (l : Live) → l ≡ feed q (inputOf a) (g .after .left) → (x : Counters) → x ≡ later (g .after .counters)
+        → toRest (onPlan q) t (going 0 false (g .seed) (moment l x (g .after .user))) ≡ drive (onPlan q) t a g
     unfolding drive
-    drive-on z l f = rw (← e, z, ← f) refl
+    drive-on z l f x i = rw (← e, z, ← f, i) refl
 
 -- ---- instants
 
@@ -141,24 +142,28 @@ module _ (q : Plan) (t : Bool) (inputs : ℕ → Inputs) (n p : ℕ) (g : Going 
 
 -- ---- the calls
 
-pub arrived-is : (p : ℕ) (g : Going Moment) (st : State) → st ≡ packed (g .after .left) (countersOf (g .after .time) (g .after .count))
+pub arrived-is : (p : ℕ) (g : Going Moment) (st : State) → st ≡ stateAt (g .after)
     → told p (g .number) (g .rested) (g .seed) st ≡ arrived stateAt (driven p g)
 unfolding arrived
 arrived-is p g st e = rw e refl
 
-module _ (q : Plan) (t : Bool) (seed : ℕ) (st : State) where
-  pub settled-unfit : planFits q st ≡ false → (r : Driven) → r ≡ told 0 31 false seed st → r ≡ settledAt q t seed st
+module _ (q : Plan) (t : Bool) (seed : ℕ) (st : State) (u : ℕ) where
+  pub settled-unfit : planFits q st ≡ false → (r : Driven) → r ≡ told 0 31 false seed st → r ≡ settledAt q t seed st u
   unfolding settledAt
   settled-unfit f r e = rw f e
 
-  pub settled-run : planFits q st ≡ true → (r : Driven)
-      → r ≡ arrived stateAt (driven 0 (toRest (onPlan q) t (going 0 false seed (laidOut q st)))) → r ≡ settledAt q t seed st
+  pub settled-userless : planFits q st ≡ true → users ≤ u → (r : Driven) → r ≡ told 0 46 false seed st → r ≡ settledAt q t seed st u
   unfolding settledAt
-  settled-run f r e = rw f e
+  settled-userless f h r e = rw (f, le-ltb u users h) e
+
+  pub settled-run : planFits q st ≡ true → u < users → (r : Driven)
+      → r ≡ arrived stateAt (driven 0 (toRest (onPlan q) t (going 0 false seed (laidOut q st u)))) → r ≡ settledAt q t seed st u
+  unfolding settledAt
+  settled-run f h r e = rw (f, lt-ltb u users h) e
 
   module _ (ns : List ℕ) (xs : List Bool) (w : List ℕ) where
     abbrev Answers : Driven → List ℕ → Type 0
-    Answers r v = (r ≡ driveAt q t seed st ns xs w) × (v ≡ drivenAt q t seed st ns xs w)
+    Answers r v = (r ≡ driveAt q t seed st u ns xs w) × (v ≡ drivenAt q t seed st u ns xs w)
 
     pub drive-short : length w / 88 < rounds ns → (r : Driven) → r ≡ told 0 23 false seed st → Answers r w
     unfolding driveAt drivenAt
@@ -174,13 +179,19 @@ module _ (q : Plan) (t : Bool) (seed : ℕ) (st : State) where
       unfolding driveAt drivenAt
       drive-unfit f r e = (rw (h, f) e, rw (h, f) refl)
 
-      pub drive-ragged : planFits q st ≡ true → wholeRows ns xs ≡ false → (r : Driven) → r ≡ told 0 25 false seed st → Answers r w
-      unfolding driveAt drivenAt
-      drive-ragged f g r e = (rw (h, f, g) e, rw (h, f, g) refl)
+      module _ (f : planFits q st ≡ true) where
+        pub drive-userless : users ≤ u → (r : Driven) → r ≡ told 0 46 false seed st → Answers r w
+        unfolding driveAt drivenAt
+        drive-userless b r e = (rw (h, f, le-ltb u users b) e, rw (h, f, le-ltb u users b) refl)
 
-      pub drive-run : planFits q st ≡ true → wholeRows ns xs ≡ true → (r : Driven) (v : List ℕ)
-          → r
-          ≡ arrived stateAt (drives (onPlan q) t (rowInputs (q .inputs) ns xs) (rounds ns) 0 (going 0 true seed (laidOut q st)))
-          → v ≡ rows (onPlan q) t (rowInputs (q .inputs) ns xs) (rounds ns) 0 (going 0 true seed (laidOut q st)) w → Answers r v
-      unfolding driveAt drivenAt
-      drive-run f g r v d e = (rw (h, f, g) d, rw (h, f, g) e)
+        module _ (b : u < users) where
+          pub drive-ragged : wholeRows ns xs ≡ false → (r : Driven) → r ≡ told 0 25 false seed st → Answers r w
+          unfolding driveAt drivenAt
+          drive-ragged g r e = (rw (h, f, lt-ltb u users b, g) e, rw (h, f, lt-ltb u users b, g) refl)
+
+          pub drive-run : wholeRows ns xs ≡ true → (r : Driven) (v : List ℕ)
+              → r
+              ≡ arrived stateAt (drives (onPlan q) t (rowInputs (q .inputs) ns xs) (rounds ns) 0 (going 0 true seed (laidOut q st u)))
+              → v ≡ rows (onPlan q) t (rowInputs (q .inputs) ns xs) (rounds ns) 0 (going 0 true seed (laidOut q st u)) w → Answers r v
+          unfolding driveAt drivenAt
+          drive-run g r v d e = (rw (h, f, lt-ltb u users b, g) d, rw (h, f, lt-ltb u users b, g) e)

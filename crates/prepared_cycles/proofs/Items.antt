@@ -10,8 +10,7 @@ use lib.ListN.{length, getD, set}
 use lib.Seq.{sets}
 use borrow.Author.Tests.{eqb-true}
 use Rattle.state.specs.Saved.{listOf}
-use Rattle.state.specs.declared.State.{State}
-use Rattle.state.specs.State.{countersOf}
+use Rattle.state.specs.declared.Counters.{Counters}
 use Rattle.state.proofs.Rows.{and-both, sets-append, length-listOf, getD-listOf, listOf-is, listOf-whole}
 use Rattle.events.specs.Rows.{wholeRows}
 use Rattle.plan_engine.specs.Live.{Live}
@@ -48,9 +47,9 @@ unfolding listOf
 listOf-on f l at k = sym (rw add-one (sets-append l at (listOf k f) (f k ∷ []) ∙ rw (length-listOf f k) refl))
 
 -- The row of a state that is packed, as it lies in cells and places.
-pub row-packed : (l : Live) (time count : ℕ) → rowOf (packed l (countersOf time count)) ≡ rowIn (l .cells) (l .places)
+pub row-packed : (l : Live) (c : Counters) → rowOf (packed l c) ≡ rowIn (l .cells) (l .places)
 unfolding rowOf packed
-row-packed l time count =
+row-packed l c =
     ap (λ (ws : List ℕ). ws ++ placesIn (l .places))
     (listOf-is _ (wordsIn (l .cells)) 0 80 (length-listOf (λ v. wordIn (getD (l .cells) v 0)) 80)
     (λ k h.
@@ -68,7 +67,7 @@ row-parts p w cs ps us vs e f =
     (sym (length-listOf (λ v. wordIn (getD cs v 0)) 80))
     ∙ sym (sets-append w (88 * p) (wordsIn cs) (placesIn ps))
 
-pub row-written : (p : ℕ) (w : List ℕ) (l : Live) (time count : ℕ) (us : List ℕ) → us ≡ sets w (88 * p) (rowIn (l .cells) (l .places))
-    → us ≡ written p (packed l (countersOf time count)) w
+pub row-written : (p : ℕ) (w : List ℕ) (l : Live) (c : Counters) (us : List ℕ) → us ≡ sets w (88 * p) (rowIn (l .cells) (l .places))
+    → us ≡ written p (packed l c) w
 unfolding written
-row-written p w l time count us e = e ∙ ap (sets w (88 * p)) (sym (row-packed l time count))
+row-written p w l c us e = e ∙ ap (sets w (88 * p)) (sym (row-packed l c))

@@ -6,16 +6,17 @@ use Prim.Native.Nat.{ℕ, suc, _+_, _-_, _*_, _/_, _≤_, _<_}
 use native.Mathlib.Omega.{arith}
 use lib.ListN.{length}
 use lib.Seq.{length-sets}
-use borrow.Author.Tests.{ne-eqb, le-leb, lt-leb}
+use borrow.Author.Tests.{ne-eqb, le-leb, lt-leb, lt-ltb, le-ltb}
 use Rattle.state.specs.declared.State.{State}
+use Rattle.state.specs.State.{users}
 use Rattle.events.specs.declared.Inputs.{Inputs}
 use Rattle.events.specs.Rows.{wholeRows}
 use Rattle.plan.specs.Plan.{Plan}
 use Rattle.plan_fitting.specs.Fitting.{planFits}
 use Rattle.prepared_cycles.specs.declared.Cycled.{Cycled}
 use Rattle.prepared_cycles.specs.Cycles.{cycled, rowInputs}
-use Rattle.prepared_cycles.specs.Phases.{Moment, Phase, phaseAt, phasesAt, ended, laidOut, cyclesAt}
-use Rattle.prepared_cycles.specs.Traces.{rowOf, written, hasRoom, rounds, stateAt, traceFromAt, traceAt, tracedAt}
+use Rattle.prepared_cycles.specs.Phases.{Moment, stateAt, Phase, phaseAt, phasesAt, ended, laidOut, cyclesAt}
+use Rattle.prepared_cycles.specs.Traces.{rowOf, written, hasRoom, rounds, traceFromAt, traceAt, tracedAt}
 
 -- ---- phases
 
@@ -46,9 +47,9 @@ module _ (q : Plan) (inputs : ℕ → Inputs) (n p : ℕ) (o : Moment) (w : List
 
 -- ---- the call
 
-module _ (q : Plan) (st : State) (ns : List ℕ) (xs : List Bool) (w : List ℕ) where
+module _ (q : Plan) (st : State) (u : ℕ) (ns : List ℕ) (xs : List Bool) (w : List ℕ) where
   abbrev Answers : Cycled → List ℕ → Type 0
-  Answers r v = (r ≡ traceAt q st ns xs w) × (v ≡ tracedAt q st ns xs w)
+  Answers r v = (r ≡ traceAt q st u ns xs w) × (v ≡ tracedAt q st u ns xs w)
 
   pub trace-short : length w / 88 < rounds ns → (r : Cycled) → r ≡ cycled 0 23 false st → Answers r w
   unfolding traceAt tracedAt
@@ -64,15 +65,21 @@ module _ (q : Plan) (st : State) (ns : List ℕ) (xs : List Bool) (w : List ℕ)
     unfolding traceAt tracedAt cyclesAt
     trace-unfit f r e = (rw (h, f) e, rw (h, f) refl)
 
-    pub trace-ragged : planFits q st ≡ true → wholeRows ns xs ≡ false → (r : Cycled) → r ≡ cycled 0 25 false st → Answers r w
-    unfolding traceAt tracedAt cyclesAt
-    trace-ragged f g r e = (rw (h, f, g) e, rw (h, f, g) refl)
+    module _ (f : planFits q st ≡ true) where
+      pub trace-userless : users ≤ u → (r : Cycled) → r ≡ cycled 0 46 false st → Answers r w
+      unfolding traceAt tracedAt cyclesAt
+      trace-userless b r e = (rw (h, f, le-ltb u users b) e, rw (h, f, le-ltb u users b) refl)
 
-    pub trace-run : planFits q st ≡ true → wholeRows ns xs ≡ true → (r : Cycled) (v : List ℕ)
-        → r ≡ ended (phasesAt q (rowInputs (q .inputs) ns xs) (rounds ns) 0 (laidOut q st))
-        → v ≡ traceFromAt q (rowInputs (q .inputs) ns xs) (rounds ns) 0 (laidOut q st) w → Answers r v
-    unfolding traceAt tracedAt cyclesAt
-    trace-run f g r v d e = (rw (h, f, g) d, rw (h, f, g) e)
+      module _ (b : u < users) where
+        pub trace-ragged : wholeRows ns xs ≡ false → (r : Cycled) → r ≡ cycled 0 25 false st → Answers r w
+        unfolding traceAt tracedAt cyclesAt
+        trace-ragged g r e = (rw (h, f, lt-ltb u users b, g) e, rw (h, f, lt-ltb u users b, g) refl)
+
+        pub trace-run : wholeRows ns xs ≡ true → (r : Cycled) (v : List ℕ)
+            → r ≡ ended (phasesAt q (rowInputs (q .inputs) ns xs) (rounds ns) 0 (laidOut q st u))
+            → v ≡ traceFromAt q (rowInputs (q .inputs) ns xs) (rounds ns) 0 (laidOut q st u) w → Answers r v
+        unfolding traceAt tracedAt cyclesAt
+        trace-run g r v d e = (rw (h, f, lt-ltb u users b, g) d, rw (h, f, lt-ltb u users b, g) e)
 
 -- ---- what a loop over the instants keeps: their number, and the length of what is lent
 

@@ -4,10 +4,11 @@ use Prim.Native.Nat.{ℕ, zero, suc, _+_, _*_, _/_, _%_}
 use mathlib.Core.Bool.{Bool, true, false}
 use mathlib.Core.List.{List, [], _∷_}
 use lib.ListN.{length, getD}
-use lib.Dec.{eqb}
+use lib.Dec.{ltb, eqb}
 use Rattle.values.specs.Values.{pick}
 use Rattle.sheet.specs.Module.{read}
 use Rattle.state.specs.declared.State.{State}
+use Rattle.state.specs.State.{users}
 use Rattle.events.specs.declared.Inputs.{Inputs}
 use Rattle.events.specs.Verdict.{numberOfVerdict}
 use Rattle.events.specs.Calls.{judged, instant, runPlain}
@@ -35,13 +36,13 @@ rowInputs inputs ns xs p =
 abbrev pub cycled : ℕ → ℕ → Bool → State → Cycled
 cycled p n running st = record { phases = p; number = n; running = running; state = st }
 
-module _ (s : List ℕ) (inputs : ℕ → Inputs) where
-  -- From instant number p on, n of them: the rest is what the later ones give.
+module _ (s : List ℕ) (u : ℕ) (inputs : ℕ → Inputs) where
+  -- From instant number p on, n of them, the runs those of user u: the rest is what the later ones give.
   unfoldable pub phases : ℕ → ℕ → State → Cycled
   phases zero p st = cycled p 0 false st
   phases (suc n) p st =
       let i = instant s st (inputs p) in
-      let r = runPlain s (i .state) 65535 in
+      let r = runPlain s (i .state) u 65535 in
       let k = numberOfVerdict (r .verdict) in
       pick (eqb (i .number) 0)
       (pick (eqb k 0) (phases n (p + 1) (r .state)) (cycled p k true (r .state)))
@@ -49,10 +50,12 @@ module _ (s : List ℕ) (inputs : ℕ → Inputs) where
 
 -- ---- run_cycles: the rows, one after the other
 
--- "1 to 11, 31, 25": a sheet, a state or rows that aren't whole are refused at once.
-unfoldable pub runCycles : List ℕ → State → List ℕ → List Bool → Cycled
-runCycles s st ns xs =
+-- "1 to 11, 31", a user above 3, 25: a sheet, a state, a user or rows that aren't whole are refused at once.
+unfoldable pub runCycles : List ℕ → State → ℕ → List ℕ → List Bool → Cycled
+runCycles s st u ns xs =
     judged (read s) st
     (λ n. cycled 0 n false st)
     (λ m.
-    pick (wholeRows ns xs) (phases s (rowInputs (m .scope .inputs) ns xs) (2 * (length ns / 16)) 0 st) (cycled 0 25 false st))
+    pick (ltb u users)
+    (pick (wholeRows ns xs) (phases s u (rowInputs (m .scope .inputs) ns xs) (2 * (length ns / 16)) 0 st) (cycled 0 25 false st))
+    (cycled 0 46 false st))

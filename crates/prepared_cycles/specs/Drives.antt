@@ -1,16 +1,16 @@
 -- Driven cycles: each instant is run to rest, by the plain run or by choices that are drawn, and the first one that is refused or doesn't
 -- come to rest ends the call. Defined by three calls on whatever they work on: `onSheet` has the single calls on states, `onPlan` the same
 -- on a state as it lies in cells. Row p of what is lent has the state after instant number p, where that came to rest.
-use Prim.Native.Nat.{ℕ, zero, suc, _+_, _-_, _*_, _/_, _%_}
+use Prim.Native.Nat.{ℕ, zero, suc, _+_, _*_, _/_, _%_}
 use mathlib.Core.Bool.{Bool, true, false, not}
 use mathlib.Core.List.{List}
-use lib.Dec.{eqb, ltb}
+use lib.Dec.{ltb, eqb}
 use lib.ListN.{length}
 use Rattle.values.specs.Values.{pick}
 use Rattle.sheet.specs.Expression.{Expr}
 use Rattle.sheet.specs.Module.{Module, read}
 use Rattle.state.specs.declared.State.{State}
-use Rattle.state.specs.State.{full}
+use Rattle.state.specs.State.{users}
 use Rattle.events.specs.declared.Inputs.{Inputs}
 use Rattle.events.specs.declared.Verdict.{Verdict}
 use Rattle.events.specs.declared.Verdict.the-variants.{Quiet, Spent, Stopped, Refused}
@@ -21,12 +21,12 @@ use Rattle.plan_engine.specs.Acting.{feed}
 use Rattle.plan_engine.specs.Taking.{takeChoice}
 use Rattle.plan_engine.specs.Running.{runPlain, busy}
 use Rattle.plan_fitting.specs.Fitting.{planFits}
-use Rattle.prepared.specs.Prepared.{counting}
+use Rattle.prepared.specs.Prepared.{raised, accepted, later}
 use Rattle.prepared_cycles.specs.declared.Went.{Went}
 use Rattle.prepared_cycles.specs.declared.Driven.{Driven}
 use Rattle.prepared_cycles.specs.Cycles.{rowInputs}
-use Rattle.prepared_cycles.specs.Phases.{Moment, moment, momentOf, laidOut, refusalAt}
-use Rattle.prepared_cycles.specs.Traces.{written, rounds, hasRoom, stateAt}
+use Rattle.prepared_cycles.specs.Phases.{Moment, moment, momentOf, roomAt, stateAt, laidOut, refusalAt}
+use Rattle.prepared_cycles.specs.Traces.{written, rounds, hasRoom}
 
 -- ---- the calls
 
@@ -156,34 +156,38 @@ isQuiet Spent = false
 isQuiet (Stopped n) = false
 isQuiet (Refused n) = false
 
-abbrev pub onSheet : List ℕ → Module Expr → Calls State
-onSheet s m =
+abbrev pub onSheet : List ℕ → Module Expr → ℕ → Calls State
+onSheet s m u =
     record {
       items = length (m .threads) + length (m .wires);
       instant = λ st a. answer (calls.instant s st a .number) (calls.instant s st a .state);
-      choose = λ st c. answer (calls.choose s st c .number) (calls.choose s st c .state);
-      plain = λ st. resting (isQuiet (calls.runPlain s st plainMost .verdict)) (calls.runPlain s st plainMost .state);
+      choose = λ st c. answer (calls.choose s st u c .number) (calls.choose s st u c .state);
+      plain = λ st. resting (isQuiet (calls.runPlain s st u plainMost .verdict)) (calls.runPlain s st u plainMost .state);
       state = λ st. st;
     }
 
-module _ (s : List ℕ) (byDraws : Bool) (seed : ℕ) (st : State) where
-  -- "1 to 11, 31", and then to rest.
+module _ (s : List ℕ) (byDraws : Bool) (seed : ℕ) (st : State) (u : ℕ) where
+  -- "1 to 11, 31", a user above 3, and then to rest.
   unfoldable pub settled : Driven
   settled =
       calls.judged (read s) st (λ n. told 0 n false seed st)
-      (λ m. arrived (λ x. x) (driven 0 (toRest (onSheet s m) byDraws (going 0 false seed st))))
+      (λ m.
+      pick (ltb u users) (arrived (λ x. x) (driven 0 (toRest (onSheet s m u) byDraws (going 0 false seed st))))
+      (told 0 46 false seed st))
 
   module _ (ns : List ℕ) (xs : List Bool) (w : List ℕ) where
-    -- 23, 1 to 11, 31, 25, and then instant by instant.
+    -- 23, 1 to 11, 31, 46, 25, and then instant by instant.
     unfoldable pub driveCycles : Driven
     driveCycles =
         pick (hasRoom (rounds ns) w)
         (calls.judged (read s) st (λ n. told 0 n false seed st)
         (λ m.
-        pick (wholeRows ns xs)
+        pick (ltb u users)
+        (pick (wholeRows ns xs)
         (arrived (λ x. x)
-        (drives (onSheet s m) byDraws (rowInputs (m .scope .inputs) ns xs) (rounds ns) 0 (going 0 true seed st)))
-        (told 0 25 false seed st)))
+        (drives (onSheet s m u) byDraws (rowInputs (m .scope .inputs) ns xs) (rounds ns) 0 (going 0 true seed st)))
+        (told 0 25 false seed st))
+        (told 0 46 false seed st)))
         (told 0 23 false seed st)
 
     unfoldable pub drivenCycles : List ℕ
@@ -191,8 +195,10 @@ module _ (s : List ℕ) (byDraws : Bool) (seed : ℕ) (st : State) where
         pick (hasRoom (rounds ns) w)
         (calls.judged (read s) st (λ n. w)
         (λ m.
-        pick (wholeRows ns xs)
-        (rows (onSheet s m) byDraws (rowInputs (m .scope .inputs) ns xs) (rounds ns) 0 (going 0 true seed st) w)
+        pick (ltb u users)
+        (pick (wholeRows ns xs)
+        (rows (onSheet s m u) byDraws (rowInputs (m .scope .inputs) ns xs) (rounds ns) 0 (going 0 true seed st) w)
+        w)
         w))
         w
 
@@ -205,22 +211,24 @@ onPlan q =
       instant =
           λ o a.
           answer (refusalAt q a o)
-          (pick (eqb (refusalAt q a o) 0) (moment (feed q (calls.inputOf a) (o .left)) (o .time + 1) (o .count)) o);
+          (pick (eqb (refusalAt q a o) 0) (moment (feed q (calls.inputOf a) (o .left)) (later (o .counters)) (o .user)) o);
       choose =
           λ o c.
-          let t = takeChoice q (full - o .count) c (o .left) in
-          answer (t .number) (moment (t .left) (o .time) (counting (t .number) (o .count)));
+          let t = takeChoice q (roomAt o) c (o .left) in
+          answer (t .number) (moment (t .left) (raised (accepted (t .number)) (o .user) (o .counters)) (o .user));
       plain =
           λ o.
-          let r = runPlain q plainMost (full - o .count) (o .left) in
-          resting (not (busy (r .left))) (moment (r .left) (o .time) (o .count + r .accepted));
+          let r = runPlain q plainMost (roomAt o) (o .left) in
+          resting (not (busy (r .left))) (moment (r .left) (raised (r .accepted) (o .user) (o .counters)) (o .user));
       state = stateAt;
     }
 
-module _ (q : Plan) (byDraws : Bool) (seed : ℕ) (st : State) where
+module _ (q : Plan) (byDraws : Bool) (seed : ℕ) (st : State) (u : ℕ) where
   unfoldable pub settledAt : Driven
   settledAt =
-      pick (planFits q st) (arrived stateAt (driven 0 (toRest (onPlan q) byDraws (going 0 false seed (laidOut q st)))))
+      pick (planFits q st)
+      (pick (ltb u users) (arrived stateAt (driven 0 (toRest (onPlan q) byDraws (going 0 false seed (laidOut q st u)))))
+      (told 0 46 false seed st))
       (told 0 31 false seed st)
 
   module _ (ns : List ℕ) (xs : List Bool) (w : List ℕ) where
@@ -228,10 +236,12 @@ module _ (q : Plan) (byDraws : Bool) (seed : ℕ) (st : State) where
     driveAt =
         pick (hasRoom (rounds ns) w)
         (pick (planFits q st)
+        (pick (ltb u users)
         (pick (wholeRows ns xs)
         (arrived stateAt
-        (drives (onPlan q) byDraws (rowInputs (q .inputs) ns xs) (rounds ns) 0 (going 0 true seed (laidOut q st))))
+        (drives (onPlan q) byDraws (rowInputs (q .inputs) ns xs) (rounds ns) 0 (going 0 true seed (laidOut q st u))))
         (told 0 25 false seed st))
+        (told 0 46 false seed st))
         (told 0 31 false seed st))
         (told 0 23 false seed st)
 
@@ -239,8 +249,10 @@ module _ (q : Plan) (byDraws : Bool) (seed : ℕ) (st : State) where
     drivenAt =
         pick (hasRoom (rounds ns) w)
         (pick (planFits q st)
+        (pick (ltb u users)
         (pick (wholeRows ns xs)
-        (rows (onPlan q) byDraws (rowInputs (q .inputs) ns xs) (rounds ns) 0 (going 0 true seed (laidOut q st)) w)
+        (rows (onPlan q) byDraws (rowInputs (q .inputs) ns xs) (rounds ns) 0 (going 0 true seed (laidOut q st u)) w)
+        w)
         w)
         w)
         w

@@ -2,16 +2,17 @@
 // pending cells and places that are lent through all instants, and no state is packed in between.
 use crate::Standing;
 use crate::Went;
+use crate::phases::later;
 use crate::phases::refusal;
 use events::Inputs;
 use plan::Cells;
 use plan::PlanTable;
-use state::FULL;
+use prepared::accepted;
+use prepared::raised;
+use prepared::room_in;
 ghost use mathlib.Core.Path.{_≡_};
-ghost use Prim.Native.Nat.{_+_, _<_};
-ghost use Rattle.state.specs.State.{full};
+ghost use Prim.Native.Nat.{_+_};
 ghost use Rattle.plan.specs.Plan.{planOf};
-ghost use Rattle.prepared.specs.Prepared.{counting};
 ghost use Rattle.prepared_cycles.specs.Drives.{nextSeed, drawnChoice, drawnMost, goingOf, onPlan};
 ghost use Rattle.prepared_cycles.specs.Drives.{draw, drawn, plainly, toRest, drive};
 
@@ -46,14 +47,6 @@ fn items(plan: &PlanTable) -> u64
     (plan::threads(plan) + plan::wires(plan)) as u64
 }
 
-// The count once a choice was answered by `number`.
-fn counted(number: u8, count: u64) -> u64
-    requires { ⌜ (number ≡ 0 → count < full) ⌝ }
-    ensures { λ r. ⌜ r ≡ counting number count ⌝ }
-{
-    if number == 0 { count + 1 } else { count }
-}
-
 // A choice that is drawn. A commit that is refused with 35 says that nothing is enabled and nothing pending; a refused choice changes
 // nothing.
 fn draw(
@@ -71,20 +64,22 @@ fn draw(
 {
     let s = g.standing;
     let marks = s.marks;
+    let old = s.counters;
+    let user = s.user;
     let seed = next_seed(g.seed);
     let c = drawn_choice(seed, items(plan));
-    let room = FULL - s.count;
+    let room = room_in(old, user);
     let t = plan_engine::take_choice(plan, cells, pending, places, marks, c as usize, room);
     let left = t.marks;
-    let count = counted(t.number, s.count);
+    let counters = raised(accepted(t.number), user, old);
     Went {
         number: 0,
         rested: t.number == 35,
         seed,
         standing: Standing {
             marks: left,
-            time: s.time,
-            count,
+            counters,
+            user,
         },
     }
 }
@@ -131,10 +126,12 @@ fn plainly(
 {
     let s = g.standing;
     let marks = s.marks;
-    let room = FULL - s.count;
+    let old = s.counters;
+    let user = s.user;
+    let room = room_in(old, user);
     let run = plan_engine::run_plain(plan, cells, pending, places, marks, PLAIN_MOST, room);
     let left = run.marks;
-    let count = s.count + run.accepted as u64;
+    let counters = raised(run.accepted as u64, user, old);
     let rested = !plan_engine::busy(left);
     Went {
         number: 0,
@@ -142,8 +139,8 @@ fn plainly(
         seed: g.seed,
         standing: Standing {
             marks: left,
-            time: s.time,
-            count,
+            counters,
+            user,
         },
     }
 }
@@ -187,7 +184,9 @@ pub fn drive(
 {
     let s = g.standing;
     let marks = s.marks;
-    let number = refusal(plan, marks, s.time, a);
+    let old = s.counters;
+    let user = s.user;
+    let number = refusal(plan, marks, old.time, a);
     if number != 0 {
         return Went {
             number,
@@ -197,15 +196,15 @@ pub fn drive(
         };
     }
     let fed = plan_engine::feed(plan, cells, pending, places, marks, &a.value, &a.unknown);
-    let time = s.time + 1;
+    let counters = later(old);
     let begun = Went {
         number: 0,
         rested: false,
         seed: g.seed,
         standing: Standing {
             marks: fed,
-            time,
-            count: s.count,
+            counters,
+            user,
         },
     };
     to_rest(plan, cells, pending, places, drawn, begun)

@@ -9,6 +9,7 @@ mod traces;
 use plan::Cells;
 use plan::PlanTable;
 use plan_changes::Marks;
+use prepared::USERS;
 use state::Counters;
 use state::State;
 ghost use mathlib.Core.Path.{_≡_};
@@ -17,10 +18,10 @@ ghost use Prim.Native.Nat.{_*_, _/_, _≤_};
 ghost use lib.ListN.{length};
 ghost use Rattle.plan.specs.Plan.{planOf};
 ghost use Rattle.prepared_cycles.specs.Cycles.{cycled, rowInputs};
-ghost use Rattle.prepared_cycles.specs.Phases.{momentOf, course, phasesAt, ended, laidOut, cyclesAt};
+ghost use Rattle.prepared_cycles.specs.Phases.{momentOf, stateAt, course, phasesAt, ended, laidOut, cyclesAt};
 ghost use Rattle.prepared_cycles.specs.Drives.{going, goingOf, driven, told, onPlan, drives, rows, arrived};
 ghost use Rattle.prepared_cycles.specs.Drives.{toRest, settledAt, driveAt, drivenAt};
-ghost use Rattle.prepared_cycles.specs.Traces.{stateAt, rounds, traceFromAt, traceAt, tracedAt};
+ghost use Rattle.prepared_cycles.specs.Traces.{rounds, traceFromAt, traceAt, tracedAt};
 
 // What many cycles give: how many instants were accepted and run to rest or to 65,535 choices; where they were stopped earlier,
 // the number that stopped them and whether it was the run after an instant that did; the state reached.
@@ -31,11 +32,11 @@ pub struct Cycled {
     pub state: State,
 }
 
-// What goes along with the cells: the marks, the time and the count.
+// What goes along with the cells: the marks, the counters, and the user whose choices are run.
 pub struct Standing {
     pub marks: Marks,
-    pub time: u64,
-    pub count: u64,
+    pub counters: Counters,
+    pub user: u8,
 }
 
 // What a phase leaves: the number that stopped it, 0 where none did, whether a run was, and what goes along with the cells.
@@ -91,10 +92,7 @@ fn ended(
         ⌝ }
 {
     let marks = standing.marks;
-    let counters = Counters {
-        time: standing.time,
-        count: standing.count,
-    };
+    let counters = standing.counters;
     let state = plan_state::pack(cells, pending, places, marks, counters);
     Cycled {
         phases,
@@ -105,23 +103,24 @@ fn ended(
 }
 
 // Two instants to each row, up to the first that is stopped, from a state laid out.
-fn run_phases(plan: &PlanTable, st: State, value: &[u32], unknown: &[bool]) -> Cycled
+fn run_phases(plan: &PlanTable, st: State, user: u8, value: &[u32], unknown: &[bool]) -> Cycled
     requires { ⌜ length (now unknown) ≡ length (now value) ⌝ }
     ensures { λ r. ⌜
         r ≡ ended
         (phasesAt (planOf (now (plan .entry)))
         (rowInputs (planOf (now (plan .entry)) .inputs) (now (value .entry)) (now (unknown .entry)))
-        (2 * (length (now (value .entry)) / 16)) 0 (laidOut (planOf (now (plan .entry))) st))
+        (2 * (length (now (value .entry)) / 16)) 0 (laidOut (planOf (now (plan .entry))) st user))
         ⌝ }
 {
     let mut cells = [0u64; 4176];
     let marks = plan_state::unpack(plan, st, &mut cells);
     let mut pending = plan_state::slots_of(&st.pending, &st.unsure);
     let mut places = st.places;
+    let counters = st.counters;
     let mut standing = Standing {
         marks,
-        time: st.counters.time,
-        count: st.counters.count,
+        counters,
+        user,
     };
     let n = 2 * (value.len() / 16);
     let mut p: usize = 0;
@@ -137,17 +136,20 @@ fn run_phases(plan: &PlanTable, st: State, value: &[u32], unknown: &[bool]) -> C
     ended(&cells, &pending, places, standing, p, 0, false)
 }
 
-// Rows of 16 inputs, for each an instant with the clock low and one with the clock high, a plain run after each.
-pub fn run_cycles(plan: &PlanTable, st: State, value: &[u32], unknown: &[bool]) -> Cycled
-    ensures { λ r. ⌜ r ≡ cyclesAt (planOf (now (plan .entry))) st (now (value .entry)) (now (unknown .entry)) ⌝ }
+// Rows of 16 inputs, for each an instant with the clock low and one with the clock high, a plain run of the user after each.
+pub fn run_cycles(plan: &PlanTable, st: State, user: u8, value: &[u32], unknown: &[bool]) -> Cycled
+    ensures { λ r. ⌜ r ≡ cyclesAt (planOf (now (plan .entry))) st user (now (value .entry)) (now (unknown .entry)) ⌝ }
 {
     if !plan_fitting::state_fits(plan, st) {
         return refused_with(31, st);
     }
+    if user >= USERS {
+        return refused_with(46, st);
+    }
     if !fitting::rows_whole(value, unknown) {
         return refused_with(25, st);
     }
-    run_phases(plan, st, value, unknown)
+    run_phases(plan, st, user, value, unknown)
 }
 
 // ---- traces
@@ -156,6 +158,7 @@ pub fn run_cycles(plan: &PlanTable, st: State, value: &[u32], unknown: &[bool]) 
 fn trace_phases(
     plan: &PlanTable,
     st: State,
+    user: u8,
     value: &[u32],
     unknown: &[bool],
     out: &mut [u64],
@@ -166,23 +169,24 @@ fn trace_phases(
         r ≡ ended
         (phasesAt (planOf (now (plan .entry)))
         (rowInputs (planOf (now (plan .entry)) .inputs) (now (value .entry)) (now (unknown .entry)))
-        (rounds (now (value .entry))) 0 (laidOut (planOf (now (plan .entry))) st))
+        (rounds (now (value .entry))) 0 (laidOut (planOf (now (plan .entry))) st user))
         ⌝ }
     ensures { λ _. ⌜
         now (out .exit)
         ≡ traceFromAt (planOf (now (plan .entry)))
         (rowInputs (planOf (now (plan .entry)) .inputs) (now (value .entry)) (now (unknown .entry)))
-        (rounds (now (value .entry))) 0 (laidOut (planOf (now (plan .entry))) st) (now (out .entry))
+        (rounds (now (value .entry))) 0 (laidOut (planOf (now (plan .entry))) st user) (now (out .entry))
         ⌝ }
 {
     let mut cells = [0u64; 4176];
     let marks = plan_state::unpack(plan, st, &mut cells);
     let mut pending = plan_state::slots_of(&st.pending, &st.unsure);
     let mut stood = st.places;
+    let counters = st.counters;
     let mut standing = Standing {
         marks,
-        time: st.counters.time,
-        count: st.counters.count,
+        counters,
+        user,
     };
     let n = 2 * (value.len() / 16);
     let mut p: usize = 0;
@@ -205,16 +209,17 @@ fn trace_phases(
 pub fn trace(
     plan: &PlanTable,
     st: State,
+    user: u8,
     value: &[u32],
     unknown: &[bool],
     out: &mut [u64],
 ) -> Cycled
     ensures { λ r. ⌜
-        r ≡ traceAt (planOf (now (plan .entry))) st (now (value .entry)) (now (unknown .entry)) (now (out .entry))
+        r ≡ traceAt (planOf (now (plan .entry))) st user (now (value .entry)) (now (unknown .entry)) (now (out .entry))
         ⌝ }
     ensures { λ _. ⌜
         now (out .exit)
-        ≡ tracedAt (planOf (now (plan .entry))) st (now (value .entry)) (now (unknown .entry)) (now (out .entry))
+        ≡ tracedAt (planOf (now (plan .entry))) st user (now (value .entry)) (now (unknown .entry)) (now (out .entry))
         ⌝ }
 {
     let n = 2 * (value.len() / 16);
@@ -224,10 +229,13 @@ pub fn trace(
     if !plan_fitting::state_fits(plan, st) {
         return refused_with(31, st);
     }
+    if user >= USERS {
+        return refused_with(46, st);
+    }
     if !fitting::rows_whole(value, unknown) {
         return refused_with(25, st);
     }
-    trace_phases(plan, st, value, unknown, out)
+    trace_phases(plan, st, user, value, unknown, out)
 }
 
 // ---- driven cycles
@@ -251,10 +259,7 @@ fn arrived(cells: &Cells, pending: &[u64; 32], places: [u8; 8], g: Went, phases:
 {
     let standing = g.standing;
     let marks = standing.marks;
-    let counters = Counters {
-        time: standing.time,
-        count: standing.count,
-    };
+    let counters = standing.counters;
     let state = plan_state::pack(cells, pending, places, marks, counters);
     Driven {
         phases,
@@ -266,44 +271,50 @@ fn arrived(cells: &Cells, pending: &[u64; 32], places: [u8; 8], g: Went, phases:
 }
 
 // A state run to rest, from where it is.
-fn run_to_rest(plan: &PlanTable, st: State, drawn: bool, seed: u64) -> Driven
+fn run_to_rest(plan: &PlanTable, st: State, user: u8, drawn: bool, seed: u64) -> Driven
     ensures { λ r. ⌜
         r ≡ arrived stateAt
-        (driven 0 (toRest (onPlan (planOf (now (plan .entry)))) drawn (going 0 false seed (laidOut (planOf (now (plan .entry))) st))))
+        (driven 0 (toRest (onPlan (planOf (now (plan .entry)))) drawn (going 0 false seed (laidOut (planOf (now (plan .entry))) st user))))
         ⌝ }
 {
     let mut cells = [0u64; 4176];
     let marks = plan_state::unpack(plan, st, &mut cells);
     let mut pending = plan_state::slots_of(&st.pending, &st.unsure);
     let mut places = st.places;
+    let counters = st.counters;
+    let standing = Standing {
+        marks,
+        counters,
+        user,
+    };
     let begun = Went {
         number: 0,
         rested: false,
         seed,
-        standing: Standing {
-            marks,
-            time: st.counters.time,
-            count: st.counters.count,
-        },
+        standing,
     };
     let g = drives::to_rest(plan, &mut cells, &mut pending, &mut places, drawn, begun);
     arrived(&cells, &pending, places, g, 0)
 }
 
 // A state run to rest: by the plain run of 65,535 choices, or by at most 4,000,000 choices drawn from a seed on.
-pub fn settle(plan: &PlanTable, st: State, drawn: bool, seed: u64) -> Driven
-    ensures { λ r. ⌜ r ≡ settledAt (planOf (now (plan .entry))) drawn seed st ⌝ }
+pub fn settle(plan: &PlanTable, st: State, user: u8, drawn: bool, seed: u64) -> Driven
+    ensures { λ r. ⌜ r ≡ settledAt (planOf (now (plan .entry))) drawn seed st user ⌝ }
 {
     if !plan_fitting::state_fits(plan, st) {
         return undriven(31, seed, st);
     }
-    run_to_rest(plan, st, drawn, seed)
+    if user >= USERS {
+        return undriven(46, seed, st);
+    }
+    run_to_rest(plan, st, user, drawn, seed)
 }
 
 // Two instants to each row, each run to rest, up to the first that isn't; their rows are written.
 fn drive_phases(
     plan: &PlanTable,
     st: State,
+    user: u8,
     drawn: bool,
     seed: u64,
     value: &[u32],
@@ -316,28 +327,30 @@ fn drive_phases(
         r ≡ arrived stateAt
         (drives (onPlan (planOf (now (plan .entry)))) drawn
         (rowInputs (planOf (now (plan .entry)) .inputs) (now (value .entry)) (now (unknown .entry)))
-        (rounds (now (value .entry))) 0 (going 0 true seed (laidOut (planOf (now (plan .entry))) st)))
+        (rounds (now (value .entry))) 0 (going 0 true seed (laidOut (planOf (now (plan .entry))) st user)))
         ⌝ }
     ensures { λ _. ⌜
         now (out .exit)
         ≡ rows (onPlan (planOf (now (plan .entry)))) drawn
         (rowInputs (planOf (now (plan .entry)) .inputs) (now (value .entry)) (now (unknown .entry)))
-        (rounds (now (value .entry))) 0 (going 0 true seed (laidOut (planOf (now (plan .entry))) st)) (now (out .entry))
+        (rounds (now (value .entry))) 0 (going 0 true seed (laidOut (planOf (now (plan .entry))) st user)) (now (out .entry))
         ⌝ }
 {
     let mut cells = [0u64; 4176];
     let marks = plan_state::unpack(plan, st, &mut cells);
     let mut pending = plan_state::slots_of(&st.pending, &st.unsure);
     let mut stood = st.places;
+    let counters = st.counters;
+    let standing = Standing {
+        marks,
+        counters,
+        user,
+    };
     let mut went = Went {
         number: 0,
         rested: true,
         seed,
-        standing: Standing {
-            marks,
-            time: st.counters.time,
-            count: st.counters.count,
-        },
+        standing,
     };
     let n = 2 * (value.len() / 16);
     let mut p: usize = 0;
@@ -358,6 +371,7 @@ fn drive_phases(
 pub fn drive(
     plan: &PlanTable,
     st: State,
+    user: u8,
     drawn: bool,
     seed: u64,
     value: &[u32],
@@ -365,11 +379,11 @@ pub fn drive(
     out: &mut [u64],
 ) -> Driven
     ensures { λ r. ⌜
-        r ≡ driveAt (planOf (now (plan .entry))) drawn seed st (now (value .entry)) (now (unknown .entry)) (now (out .entry))
+        r ≡ driveAt (planOf (now (plan .entry))) drawn seed st user (now (value .entry)) (now (unknown .entry)) (now (out .entry))
         ⌝ }
     ensures { λ _. ⌜
         now (out .exit)
-        ≡ drivenAt (planOf (now (plan .entry))) drawn seed st (now (value .entry)) (now (unknown .entry)) (now (out .entry))
+        ≡ drivenAt (planOf (now (plan .entry))) drawn seed st user (now (value .entry)) (now (unknown .entry)) (now (out .entry))
         ⌝ }
 {
     let n = 2 * (value.len() / 16);
@@ -379,8 +393,11 @@ pub fn drive(
     if !plan_fitting::state_fits(plan, st) {
         return undriven(31, seed, st);
     }
+    if user >= USERS {
+        return undriven(46, seed, st);
+    }
     if !fitting::rows_whole(value, unknown) {
         return undriven(25, seed, st);
     }
-    drive_phases(plan, st, drawn, seed, value, unknown, out)
+    drive_phases(plan, st, user, drawn, seed, value, unknown, out)
 }

@@ -12,18 +12,30 @@ twelve : reason 12 ≡ ascii "two threads write one register"
 unfolding reason lineOf firstLine otherLines refusals ascii
 twelve = refl
 
-full : reason 36 ≡ ascii "the time or the count of choices is full"
+full : reason 36 ≡ ascii "the time is full"
 unfolding reason lineOf firstLine otherLines refusals ascii
 full = refl
 
-last : reason 43 ≡ ascii "a name is undeclared or declared twice, or a wire has not one assign"
+names : reason 43 ≡ ascii "a name is undeclared or declared twice, or a wire has not one assign"
+unfolding reason lineOf firstLine otherLines refusals ascii
+names = refl
+
+no-user : reason 46 ≡ ascii "there is no such user"
+unfolding reason lineOf firstLine otherLines refusals ascii
+no-user = refl
+
+last : reason 47 ≡ ascii "the user's allowance of choices is used up"
 unfolding reason lineOf firstLine otherLines refusals ascii
 last = refl
 
-none : reason 44 ≡ []
+none : reason 48 ≡ []
 unfolding reason lineOf firstLine otherLines refusals ascii
 none = refl
 
 nineteen : allowed 19 ≡ ascii "wires that read inputs, registers and lower wires"
 unfolding allowed lineOf firstLine otherLines permissions ascii
 nineteen = refl
+
+users : allowed 46 ≡ ascii "users 0 to 3"
+unfolding allowed lineOf firstLine otherLines permissions ascii
+users = refl

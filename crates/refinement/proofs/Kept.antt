@@ -4,7 +4,7 @@ use mathlib.Core.Bool.{Bool, true, false}
 use mathlib.Core.Option.{none, some}
 use Prim.Native.Nat.{ℕ, _+_, _≤_, _<_}
 use native.Mathlib.Omega.{arith}
-use lib.ListN.{length, getD}
+use lib.ListN.{length, getD, set, length-set}
 use Rattle.values.specs.declared.Value.{Value}
 use Rattle.values.specs.Values.{pick}
 use Rattle.values.specs.Planes.{valueAt}
@@ -13,7 +13,7 @@ use Rattle.sheet.specs.Module.{Module}
 use Rattle.pseudocode.specs.Translation.{Instr}
 use Rattle.state.specs.declared.Counters.{Counters}
 use Rattle.state.specs.declared.State.{State}
-use Rattle.state.specs.State.{Shaped, countersOf, withCounters, withValue, pendingOf, withoutPending, placeOf, isDue, withDue}
+use Rattle.state.specs.State.{Shaped, countersOf, countOf, withCounters, withValue, pendingOf, withoutPending, placeOf, isDue, withDue}
 use Rattle.state.proofs.Accessors.{shaped-withValue, place-withValue, due-withValue, pending-withValue}
 use Rattle.state.proofs.Accessors.{shaped-withoutPending, place-withoutPending, due-withoutPending}
 use Rattle.state.proofs.Accessors.{pending-withoutPending-other}
@@ -21,7 +21,7 @@ use Rattle.state.proofs.Accessors.{shaped-withDue, place-withDue, due-withDue-o
 use Rattle.state.proofs.Accessors.{shaped-withCounters, place-withCounters, due-withCounters, pending-withCounters}
 use Rattle.soundness.specs.Soundness.{Sound, SoundInstr, sound-wait, sound-set, sound-later, sound-go, sound-ifnot}
 use Rattle.events.specs.Cycle.{codeOf, instrAt, isSome, waitFires}
-use Rattle.events.specs.Calls.{counted, timed}
+use Rattle.events.specs.Calls.{countedBy, counted, timed}
 use Rattle.events.proofs.Cycle.{absurd-bool}
 use Rattle.events.proofs.Fits.{Fits}
 
@@ -78,10 +78,10 @@ module _ {m : Module Expr} (w : Sound m) (i : ℕ) (h : i < length (m .threads))
 -- ---- each part set anew
 
 module _ {m : Module Expr} {st : State} (k : Kept m st) where
-  pub kept-withCounters : (c : Counters) → Kept m (withCounters st c)
-  kept-withCounters c =
+  pub kept-withCounters : (c : Counters) → length (c .counts) ≡ 4 → length (c .allowances) ≡ 4 → Kept m (withCounters st c)
+  kept-withCounters c p q =
       record {
-        shaped = shaped-withCounters st c (k .shaped);
+        shaped = shaped-withCounters st c (k .shaped) p q;
         places = λ i h. rw (place-withCounters st c i) (k .places i h);
         marks = λ j h. due-withCounters st c j ∙ k .marks j h;
         pending = λ r h. pending-withCounters st c r ∙ k .pending r h;
@@ -114,10 +114,14 @@ module _ {m : Module Expr} {st : State} (k : Kept m st) where
         pending = λ r h. pending-withDue st j false r ∙ k .pending r h;
       }
 
-  pub kept-counted : Kept m (counted st)
-  unfolding counted
-  kept-counted = kept-withCounters (countersOf (st .counters .time) (st .counters .count + 1))
+  pub kept-counted : (u : ℕ) → Kept m (counted u st)
+  unfolding counted countedBy
+  kept-counted u =
+      kept-withCounters (countersOf (st .counters .time) (set (st .counters .counts) u (countOf st u + 1)) (st .counters .allowances))
+      (length-set (st .counters .counts) u (countOf st u + 1) ∙ k .shaped .counts) (k .shaped .allowances)
 
   pub kept-timed : Kept m (timed st)
   unfolding timed
-  kept-timed = kept-withCounters (countersOf (st .counters .time + 1) (st .counters .count))
+  kept-timed =
+      kept-withCounters (countersOf (st .counters .time + 1) (st .counters .counts) (st .counters .allowances)) (k .shaped .counts)
+      (k .shaped .allowances)

@@ -9,6 +9,7 @@ use libc::STDIN_FILENO;
 use libc::STDOUT_FILENO;
 use nextstate::Clocked;
 use nextstate::Registers;
+use state::Brought;
 use state::Counters;
 use state::State;
 ghost use Prim.Native.Nat.{_<_};
@@ -37,6 +38,12 @@ struct Given {
 struct Handed {
     found: bool,
     registers: Registers,
+}
+
+// Four allowances, where the record held them whole.
+struct Allowed {
+    found: bool,
+    allowances: [u32; 4],
 }
 
 // How many words of the two tables are lent, where the record held it.
@@ -190,30 +197,8 @@ fn say_picked(picked: u8) {
 }
 
 // A saved state in hexadecimal, without its form byte.
-fn say_state(bytes: &[u8; 649]) {
+fn say_state(bytes: &[u8; 689]) {
     say_hex(bytes, 1);
-}
-
-// The first bytes but one in hexadecimal.
-fn say_front(bytes: &[u8], n: usize) {
-    if n <= bytes.len() {
-        say_hex(&bytes[..n], 1);
-    }
-}
-
-// A saved state up to the low half of its time.
-fn say_short(bytes: &[u8; 649]) {
-    say_front(bytes, 637);
-}
-
-// The low half of a counter in hexadecimal.
-fn say_low(n: u64) {
-    let mut text = [0u8; 1024];
-    let a = put_hex((n % 256) as u8, &mut text, 0);
-    let b = put_hex((n / 256 % 256) as u8, &mut text, a);
-    let c = put_hex((n / 65536 % 256) as u8, &mut text, b);
-    let d = put_hex((n / 16777216 % 256) as u8, &mut text, c);
-    say_text(&text, d);
 }
 
 // The last line of a script that can't be read on.
@@ -255,16 +240,35 @@ fn word(low: u8, high: u8) -> usize
     low as usize + 256 * (high as usize)
 }
 
+// Four bytes, the lowest first.
+fn long_word(a: u8, b: u8, c: u8, d: u8) -> u32 {
+    let low = word(a, b) as u32;
+    let high = word(c, d) as u32;
+    low + 65536 * high
+}
+
 // One value: its flag and four bytes of number.
 fn read_input() -> Input {
     let mut bytes = [0u8; 5];
     let whole = take(&mut bytes);
-    let low = word(bytes[1], bytes[2]) as u32;
-    let high = word(bytes[3], bytes[4]) as u32;
     Input {
         found: whole && bytes[0] < 2,
-        value: low + 65536 * high,
+        value: long_word(bytes[1], bytes[2], bytes[3], bytes[4]),
         unknown: bytes[0] == 1,
+    }
+}
+
+// The allowances of four users.
+fn read_allowances() -> Allowed {
+    let mut bytes = [0u8; 16];
+    let found = take(&mut bytes);
+    let a = long_word(bytes[0], bytes[1], bytes[2], bytes[3]);
+    let b = long_word(bytes[4], bytes[5], bytes[6], bytes[7]);
+    let c = long_word(bytes[8], bytes[9], bytes[10], bytes[11]);
+    let d = long_word(bytes[12], bytes[13], bytes[14], bytes[15]);
+    Allowed {
+        found,
+        allowances: [a, b, c, d],
     }
 }
 
@@ -361,17 +365,12 @@ fn do_list(sheet: &[u8]) -> bool {
     true
 }
 
-// `D`: the state; in a script of form 1 with short counters, where these hold them.
-fn do_save(st: State, form: u8) -> bool {
-    let mut bytes = [0u8; 649];
+// `D`: the state.
+fn do_save(st: State) -> bool {
+    let mut bytes = [0u8; 689];
     state::save(st, &mut bytes);
     say(b"state ");
-    if form == 1 && st.counters.time < 4294967296 && st.counters.count < 4294967296 {
-        say_short(&bytes);
-        say_low(st.counters.count);
-    } else {
-        say_state(&bytes);
-    }
+    say_state(&bytes);
     say(b"\n");
     true
 }
@@ -547,41 +546,51 @@ fn told(text: &[u8], c: Chosen) -> Next {
     }
 }
 
+// The line of a refused call, and the state as it was.
+fn kept(text: &[u8], number: u8, st: State) -> Next {
+    say_line(text, number);
+    Next {
+        on: true,
+        state: st,
+    }
+}
+
 // `S`: the state becomes the start state, unless refused.
 fn do_start(sheet: &[u8], st: State) -> Next {
-    let c = simulator::start(sheet);
+    let a = read_allowances();
+    if !a.found {
+        return bad(st);
+    }
+    let allowances = a.allowances;
+    let c = simulator::start(sheet, allowances);
     if c.number != 0 {
-        say_line(b"start ", c.number);
-        return Next {
-            on: true,
-            state: st,
-        };
+        return kept(b"start ", c.number, st);
     }
     told(b"start ", c)
 }
 
-// `C`: a choice.
+// `C`: a choice of a user.
 fn do_choose(sheet: &[u8], st: State) -> Next {
-    let mut byte = [0u8; 1];
-    if !take(&mut byte) {
+    let mut bytes = [0u8; 2];
+    if !take(&mut bytes) {
         return bad(st);
     }
-    told(b"choose ", simulator::choose(sheet, st, byte[0]))
+    told(b"choose ", simulator::choose(sheet, st, bytes[0], bytes[1]))
 }
 
-// `R`: a run over a list.
+// `R`: a run over a list of a user's choices.
 fn do_run(sheet: &[u8], st: State) -> Next {
-    let mut count = [0u8; 2];
-    if !take(&mut count) {
+    let mut front = [0u8; 3];
+    if !take(&mut front) {
         return bad(st);
     }
-    let n = word(count[0], count[1]);
+    let n = word(front[1], front[2]);
     let mut choices = [0u8; 65536];
     let got = take_some(&mut choices, n);
     if got < n {
         return bad(st);
     }
-    ran(simulator::run(sheet, st, &choices[..got]))
+    ran(simulator::run(sheet, st, front[0], &choices[..got]))
 }
 
 // The line of a run, and the state that it gave back.
@@ -612,14 +621,14 @@ fn say_verdict(v: Verdict) {
     }
 }
 
-// `P`: the plain run.
+// `P`: the plain run of a user.
 fn do_plain(sheet: &[u8], st: State) -> Next {
-    let mut limit = [0u8; 2];
-    if !take(&mut limit) {
+    let mut bytes = [0u8; 3];
+    if !take(&mut bytes) {
         return bad(st);
     }
-    let n = word(limit[0], limit[1]) as u16;
-    let r = simulator::run_plain(sheet, st, n);
+    let n = word(bytes[1], bytes[2]) as u16;
+    let r = simulator::run_plain(sheet, st, bytes[0], n);
     say(b"plain ");
     say_number(r.accepted as u64);
     say(b" ");
@@ -644,8 +653,8 @@ fn do_instant(sheet: &[u8], st: State) -> Next {
 
 // `L`: the state becomes this one, unjudged.
 fn do_load(st: State) -> Next {
-    let mut bytes = [0u8; 649];
-    bytes[0] = 2;
+    let mut bytes = [0u8; 689];
+    bytes[0] = 3;
     if !take(&mut bytes[1..]) {
         return bad(st);
     }
@@ -661,27 +670,8 @@ fn do_load(st: State) -> Next {
     }
 }
 
-// `L` in a script of form 1.
-fn do_load_short(st: State) -> Next {
-    let mut bytes = [0u8; 641];
-    bytes[0] = 1;
-    if !take(&mut bytes[1..]) {
-        return bad(st);
-    }
-    let l = state::load(&bytes);
-    if !l.found {
-        return bad(st);
-    }
-    say(b"load\n");
-    let loaded = l.state;
-    Next {
-        on: true,
-        state: loaded,
-    }
-}
-
-// `M`: a saved state of either form is brought over.
-fn do_bring(st: State) -> Next {
+// `M`: a saved state of any form is brought over, after the sheet's own numbers; the state becomes it, unless refused.
+fn do_bring(sheet: &[u8], st: State) -> Next {
     let mut count = [0u8; 2];
     let mut bytes = [0u8; 65536];
     if !take(&mut count) {
@@ -689,40 +679,36 @@ fn do_bring(st: State) -> Next {
     }
     let n = word(count[0], count[1]);
     let got = take_some(&mut bytes, n);
-    if got < n {
+    let a = read_allowances();
+    if got < n || !a.found {
         return bad(st);
     }
-    let l = state::load(&bytes[..got]);
-    if !l.found {
-        say_line(b"bring ", 31);
-        return Next {
-            on: true,
-            state: st,
-        };
+    let r = sheet::read(sheet);
+    if r.number != 0 {
+        return kept(b"bring ", r.number, st);
+    }
+    let allowances = a.allowances;
+    brought(state::bring_over(&bytes[..got], allowances), st)
+}
+
+// The line of what was brought over, and the state from there on.
+fn brought(b: Brought, st: State) -> Next {
+    if b.number != 0 {
+        return kept(b"bring ", b.number, st);
     }
     say_line(b"bring ", 0);
-    let brought = l.state;
-    Next {
-        on: true,
-        state: brought,
-    }
+    let state = b.state;
+    Next { on: true, state }
 }
 
 // ---- the script
 
 // A record that leaves the state alone.
-fn told_of(
-    letter: u8,
-    sheet: &[u8],
-    st: State,
-    nodes: &mut [u16],
-    rows: &mut [u16],
-    form: u8,
-) -> bool {
+fn told_of(letter: u8, sheet: &[u8], st: State, nodes: &mut [u16], rows: &mut [u16]) -> bool {
     match letter {
         b'N' => do_read(sheet),
         b'Q' => do_list(sheet),
-        b'D' => do_save(st, form),
+        b'D' => do_save(st),
         b'X' => do_extract(sheet, nodes, rows),
         b'T' => do_tables(nodes, rows),
         b'W' => do_word(nodes, rows),
@@ -734,7 +720,7 @@ fn told_of(
 }
 
 // One record. The end of the script stands where a letter could.
-fn record(sheet: &[u8], st: State, nodes: &mut [u16], rows: &mut [u16], form: u8) -> Next {
+fn record(sheet: &[u8], st: State, nodes: &mut [u16], rows: &mut [u16]) -> Next {
     let mut letter = [0u8; 1];
     if !take(&mut letter) {
         return Next {
@@ -748,14 +734,10 @@ fn record(sheet: &[u8], st: State, nodes: &mut [u16], rows: &mut [u16], form: u8
         b'R' => do_run(sheet, st),
         b'P' => do_plain(sheet, st),
         b'I' => do_instant(sheet, st),
-        b'L' => if form == 1 {
-            do_load_short(st)
-        } else {
-            do_load(st)
-        },
-        b'M' => if form == 1 { bad(st) } else { do_bring(st) },
+        b'L' => do_load(st),
+        b'M' => do_bring(sheet, st),
         _ => Next {
-            on: told_of(letter[0], sheet, st, nodes, rows, form),
+            on: told_of(letter[0], sheet, st, nodes, rows),
             state: st,
         },
     }
@@ -771,13 +753,17 @@ fn zero() -> State {
         held: [false; 32],
         places: [0u8; 8],
         due: [false; 32],
-        counters: Counters { time: 0, count: 0 },
+        counters: Counters {
+            time: 0,
+            counts: [0u64; 4],
+            allowances: [0u32; 4],
+        },
     }
 }
 
 // All records, on tables whose words are all 43690 at first. A proved loop has to end, and nothing says that a script does: so it
 // counts its turns down, from a number that no run uses up.
-fn records(sheet: &[u8], form: u8) {
+fn records(sheet: &[u8]) {
     let mut nodes = [43690u16; 16385];
     let mut rows = [43690u16; 1057];
     let mut next = Next {
@@ -787,25 +773,24 @@ fn records(sheet: &[u8], form: u8) {
     let mut turns = u64::MAX;
     while turns > 0 && next.on {
         let st = next.state;
-        next = record(sheet, st, &mut nodes, &mut rows, form);
+        next = record(sheet, st, &mut nodes, &mut rows);
         turns -= 1;
     }
 }
 
-// The head: the form, 2, or 1 with short counters, the sheet's length and the sheet.
+// The head: the form, 3, the sheet's length and the sheet.
 fn main() {
     let mut head = [0u8; 3];
     let mut sheet = [0u8; 65536];
-    if !take(&mut head) || head[0] < 1 || head[0] > 2 {
+    if !take(&mut head) || head[0] != 3 {
         say(b"bad script\n");
         return;
     }
-    let form = head[0];
     let n = word(head[1], head[2]);
     let got = take_some(&mut sheet, n);
     if got < n {
         say(b"bad script\n");
         return;
     }
-    records(&sheet[..got], form);
+    records(&sheet[..got]);
 }

@@ -19,7 +19,7 @@ use Rattle.text.proofs.Samples as text
 use Rattle.state.specs.declared.State.{State}
 use Rattle.state.specs.State.{valueOf, placeOf}
 use Rattle.events.specs.Cycle.{quiet}
-use Rattle.events.specs.Calls.{started, runIn}
+use Rattle.events.specs.Calls.{runIn}
 use Rattle.events.proofs.Samples as events
 use Rattle.nextstate.specs.Extraction.{expressions}
 use Rattle.nextstate.proofs.Samples as nextstate
@@ -53,13 +53,13 @@ pub record Table : Type 0 where
       × (size (ifElse e (later a x) (assign b y)) ≡ 4)
       × (size (ifElse e (later a x) (later b y)) ≡ 4)
   -- "Register 5 assigned 5 wakes no thread." Thread 0 assigns 5 over and over, thread 1 waits for a change: the first 5 wakes it.
-  pub five-first : placeOf (runIn events.fives (2 ∷ 0 ∷ []) (started 1) .state) 1 ≡ 1
+  pub five-first : placeOf (runIn events.fives 0 (2 ∷ 0 ∷ []) (events.begun 1) .state) 1 ≡ 1
   -- Of the second, every choice is accepted, the register holds 5, the assigning thread went on, the other is still at its wait.
   pub five-again :
-      (runIn events.fives again (started 1) .accepted ≡ 6)
-      × (valueOf (runIn events.fives again (started 1) .state) 1 ≡ Known 5)
-      × (placeOf (runIn events.fives again (started 1) .state) 0 ≡ 1)
-      × (placeOf (runIn events.fives again (started 1) .state) 1 ≡ 0)
+      (runIn events.fives 0 again (events.begun 1) .accepted ≡ 6)
+      × (valueOf (runIn events.fives 0 again (events.begun 1) .state) 1 ≡ Known 5)
+      × (placeOf (runIn events.fives 0 again (events.begun 1) .state) 0 ≡ 1)
+      × (placeOf (runIn events.fives 0 again (events.begun 1) .state) 1 ≡ 0)
   -- "Two threads `a <= b`, `b <= a`: swapped in any order." In each of the six orders a and b are swapped, the state is quiet, and
   -- no choice is left.
   pub swapped :
@@ -71,8 +71,8 @@ pub record Table : Type 0 where
   pub plain-swap : expressions nextstate.plainSwapSheet ≡ no 14 0
   -- "Two pending values for one register: the second stands." All three choices are accepted.
   pub second-stands :
-      (runIn events.twice (0 ∷ 0 ∷ 255 ∷ []) (started 0) .accepted ≡ 3)
-      × (valueOf (runIn events.twice (0 ∷ 0 ∷ 255 ∷ []) (started 0) .state) 1 ≡ Known 5)
+      (runIn events.twice 0 (0 ∷ 0 ∷ 255 ∷ []) (events.begun 0) .accepted ≡ 3)
+      × (valueOf (runIn events.twice 0 (0 ∷ 0 ∷ 255 ∷ []) (events.begun 0) .state) 1 ≡ Known 5)
   -- "Flip-flop sheet (hex): `02 01 00 01 01 08 08 0C 10 01 01 00 23 02 02 01`." and what the listing program prints
   pub flip-flop :
       output

@@ -3,6 +3,7 @@
 -- (Ruled) a wire's step changes no place and no pending value, and lowers the potential. Assumes nothing.
 use mathlib.Core.Path.{_≡_, refl, sym, subst, _∙_}
 use mathlib.Core.Bool.{Bool, true, false, not, _&&_, and-true, and-false}
+use mathlib.Core.List.{List}
 use Prim.Native.Nat.{ℕ, _+_, _≤_, _<_}
 use native.Mathlib.Decide.{ℕ-discrete}
 use native.Mathlib.Omega.{arith}
@@ -109,7 +110,7 @@ module _ (m : Module Expr) (w : Sound m) (old new : State) where
   settles-acts (commits n q l z v o p u r) H k b =
       holds-marked m old new k (r .wires k) (o (wireVariable m k) (λ e. omega (arith, e .1))) (H k b)
 
-  pub settles-step : (c : ℕ) → Step m old new c → Settles m old → Settles m new
+  pub settles-step : (c : ℕ) {who : ℕ} → Step m old new who c → Settles m old → Settles m new
   settles-step c s = settles-acts (s .acts)
 
 pub settles-instant :
@@ -119,9 +120,9 @@ settles-instant m old new a s H k b =
     holds-marked m old new k (s .reacted .wires k) (s .others (wireVariable m k) (λ e. omega arith)) (H k b)
 
 -- At the start every wire is due.
-pub settles-start : (m : Module Expr) → Sound m → Settles m (started (length (m .wires)))
-settles-start m w k b d =
-    absurd-bool (lt-ltb k (length (m .wires)) b) (sym (due-started (length (m .wires)) k (w .wires-most)) ∙ d)
+pub settles-start : (m : Module Expr) → Sound m → (allowances : List ℕ) → Settles m (started (length (m .wires)) allowances)
+settles-start m w allowances k b d =
+    absurd-bool (lt-ltb k (length (m .wires)) b) (sym (due-started (length (m .wires)) allowances k (w .wires-most)) ∙ d)
 
 -- Where no wire is due, all are settled.
 pub settled-quiet :
@@ -154,7 +155,7 @@ module _ (m : Module Expr) (w : Sound m) (R : Ruled m) (old new : State) where
           mark-same m old new j (isDue old j && not (eqb j k)) (reacted .wires j)
           (λ v r. others v (λ e. omega (arith, reads-lower m R j v r)))
 
-  pub wire-kept : (k : ℕ) → k < length (m .wires) → Step m old new (length (m .threads) + k) → WireStep m old new k
+  pub wire-kept : (k : ℕ) → k < length (m .wires) → {who : ℕ} → Step m old new who (length (m .threads) + k) → WireStep m old new k
   wire-kept k b s = by (s .acts) refl
     where
       by : {c : ℕ} → Acts m old new c → c ≡ length (m .threads) + k → WireStep m old new k
@@ -169,7 +170,7 @@ module _ (m : Module Expr) (w : Sound m) (R : Ruled m) (old new : State) where
       by (commits n q l z v o p u r) e = absurd (omega (arith, w .threads-most, w .wires-most))
 
   pub wire-step :
-      (k : ℕ) → k < length (m .wires) → Step m old new (length (m .threads) + k) →
+      (k : ℕ) → k < length (m .wires) → {who : ℕ} → Step m old new who (length (m .threads) + k) →
       potential (length (m .wires)) (isDue new) < potential (length (m .wires)) (isDue old)
   wire-step k b s =
       let x = wire-kept k b s in

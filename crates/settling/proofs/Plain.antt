@@ -16,7 +16,7 @@ use Rattle.sheet.specs.Expression.{Expr}
 use Rattle.sheet.specs.Module.{Module, read}
 use Rattle.pseudocode.specs.Translation.{Instr}
 use Rattle.state.specs.declared.State.{State}
-use Rattle.state.specs.State.{Shaped, valueOf, placeOf, isDue}
+use Rattle.state.specs.State.{Shaped, users, valueOf, placeOf, isDue}
 use Rattle.soundness.specs.Soundness.{Sound}
 use Rattle.soundness.proofs.Soundness.{sound}
 use Rattle.events.specs.Cycle.{current, isWait, enabled, anyEnabled, anyBelow, changed}
@@ -119,80 +119,80 @@ plain-wire m w st k l e = by (anyEnabled m st) refl
 
 -- ---- the plain run
 
-module _ (m : Module Expr) (w : Sound m) (st : State) (s : Shaped st) (n : ℕ) where
+module _ (m : Module Expr) (w : Sound m) (u : ℕ) (st : State) (s : Shaped st) (n : ℕ) where
   abbrev accepted : ℕ
-  accepted = runBy m (plainChoice m) n st .accepted
+  accepted = runBy m u (plainChoice m) n st .accepted
 
-  course-at : (p : ℕ) → p < accepted → Course m (plainChoice m) n p st
-  course-at p l = course m (plainChoice m) w n p st s (rw (length-choicesBy m (plainChoice m) n st) l)
+  course-at : (p : ℕ) → p < accepted → Course m u (plainChoice m) n p st
+  course-at p l = course m u (plainChoice m) w n p st s (rw (length-choicesBy m u (plainChoice m) n st) l)
 
   -- Each choice that the run takes is a step from the state that it has reached to the next one.
   pub plain-course :
-      (p : ℕ) → p < runBy m (plainChoice m) n st .accepted →
-      Step m (stateAt m st p) (stateAt m st (suc p)) (plainChoice m (stateAt m st p))
+      (p : ℕ) → p < runBy m u (plainChoice m) n st .accepted →
+      Step m (stateAt m u st p) (stateAt m u st (suc p)) u (plainChoice m (stateAt m u st p))
   unfolding stateAt
   plain-course p l = course-at p l .step
 
   stored :
-      (p k : ℕ) → Stores m st n p k →
-      Past m k (stateAt m st p) × (enabled m (stateAt m st p) (length (m .threads) + k) ≡ true)
-  stored p k x = plain-wire m w (stateAt m st p) k (x .wire) (x .choice)
+      (p k : ℕ) → Stores m u st n p k →
+      Past m k (stateAt m u st p) × (enabled m (stateAt m u st p) (length (m .threads) + k) ≡ true)
+  stored p k x = plain-wire m w (stateAt m u st p) k (x .wire) (x .choice)
 
   module _ (R : Ruled m) where
-    past-stored : (p k : ℕ) → Stores m st n p k → Past m (suc k) (stateAt m st (suc p))
+    past-stored : (p k : ℕ) → Stores m u st n p k → Past m (suc k) (stateAt m u st (suc p))
     past-stored p k x =
-        let old = stateAt m st p in
-        let new = stateAt m st (suc p) in
-        let step : Step m old new (length (m .threads) + k) = rw (x .choice) at (plain-course p (x .taken)) in
+        let old = stateAt m u st p in
+        let new = stateAt m u st (suc p) in
+        let step : Step m old new u (length (m .threads) + k) = rw (x .choice) at (plain-course p (x .taken)) in
         past-wire m old new k (wire-kept m w R old new k (x .wire) step) (stored p k x .0)
 
     -- From a store of wire k on, as long as no input and no register changes, nothing is enabled up to it.
     past-until :
-        (k p q : ℕ) → Stores m st n p k → q < accepted →
-        ((r : ℕ) → p < r → r < q → Keeps m (stateAt m st r) (stateAt m st (suc r))) →
-        (r : ℕ) → p < r → r ≤ q → Past m (suc k) (stateAt m st r)
+        (k p q : ℕ) → Stores m u st n p k → q < accepted →
+        ((r : ℕ) → p < r → r < q → Keeps m (stateAt m u st r) (stateAt m u st (suc r))) →
+        (r : ℕ) → p < r → r ≤ q → Past m (suc k) (stateAt m u st r)
     past-until k p q x l same zero a b = absurd (omega arith)
     past-until k p q x l same (suc r) a b = by (ℕ-discrete p r) (past-until k p q x l same r)
       where
-        by : Dec (p ≡ r) → (p < r → r ≤ q → Past m (suc k) (stateAt m st r)) → Past m (suc k) (stateAt m st (suc r))
+        by : Dec (p ≡ r) → (p < r → r ≤ q → Past m (suc k) (stateAt m u st r)) → Past m (suc k) (stateAt m u st (suc r))
         by (yes e) before = rw (← e) (past-stored p k x)
         by (no d) before =
-            past-acts m (stateAt m st r) (stateAt m st (suc r)) w R (suc k) (before (omega arith) (omega arith))
+            past-acts m (stateAt m u st r) (stateAt m u st (suc r)) w R (suc k) (before (omega arith) (omega arith))
             (plain-course r (omega arith) .acts) (same r (omega arith) (omega arith))
 
     -- ---- does choice r change an input or a register?
 
     differs : ℕ → ℕ → Bool
-    differs r = changed (valueOf (stateAt m st r)) (valueOf (stateAt m st (suc r)))
+    differs r = changed (valueOf (stateAt m u st r)) (valueOf (stateAt m u st (suc r)))
 
     changes : ℕ → Bool
     changes r = anyBelow (m .scope .inputs + m .scope .registers) (differs r)
 
-    changes-true : (r : ℕ) → changes r ≡ true → Changes m st r
+    changes-true : (r : ℕ) → changes r ≡ true → Changes m u st r
     unfolding changes differs
     changes-true r h =
         let x = some-below (differs r) (m .scope .inputs + m .scope .registers) h in
         record {
           variable = x .0;
           not-wire = x .1;
-          differs = changed-true (valueOf (stateAt m st r)) (valueOf (stateAt m st (suc r))) (x .0) (x .2);
+          differs = changed-true (valueOf (stateAt m u st r)) (valueOf (stateAt m u st (suc r))) (x .0) (x .2);
         }
 
-    changes-false : (r : ℕ) → changes r ≡ false → Keeps m (stateAt m st r) (stateAt m st (suc r))
+    changes-false : (r : ℕ) → changes r ≡ false → Keeps m (stateAt m u st r) (stateAt m u st (suc r))
     unfolding changes differs
     changes-false r h v l =
-        changed-false (valueOf (stateAt m st r)) (valueOf (stateAt m st (suc r))) v
+        changed-false (valueOf (stateAt m u st r)) (valueOf (stateAt m u st (suc r))) v
         (none-below (differs r) (m .scope .inputs + m .scope .registers) h v l)
 
     -- ---- the claim
 
-    pub plain-rising : StoresRising m st n
+    pub plain-rising : StoresRising m u st n
     plain-rising k j p q l x y = by (anyBelow q between) refl
       where
         between : ℕ → Bool
         between r = ltb p r && changes r
 
-        by : (t : Bool) → anyBelow q between ≡ t → (k < j) ⊎ ChangeBetween m st p q
+        by : (t : Bool) → anyBelow q between ≡ t → (k < j) ⊎ ChangeBetween m u st p q
         by true e =
             let z = some-below between q e in
             let r = z .0 in
@@ -207,29 +207,29 @@ module _ (m : Module Expr) (w : Sound m) (st : State) (s : Shaped st) (n : ℕ) 
             same : (r : ℕ) → p < r → r < q → changes r ≡ false
             same r a b = let z = none-below between q e r b in rw (lt-ltb p r a) at z
 
-            past : Past m (suc k) (stateAt m st q)
+            past : Past m (suc k) (stateAt m u st q)
             past = past-until k p q x (y .taken) (λ r a b. changes-false r (same r a b)) q l (omega arith)
 
             higher : Dec (k < j) → k < j
             higher (yes b) = b
             higher (no d) = absurd-bool (stored q j y .1) (past (length (m .threads) + j) (omega arith))
 
-    pub plain-once : StoresOnce m st n
+    pub plain-once : StoresOnce m u st n
     plain-once k p q l x y = by (plain-rising k k p q l x y)
       where
-        by : (k < k) ⊎ ChangeBetween m st p q → ChangeBetween m st p q
+        by : (k < k) ⊎ ChangeBetween m u st p q → ChangeBetween m u st p q
         by (inl b) = absurd (omega arith)
         by (inr c) = c
 
 -- ---- of a sheet: the call is the run, in a module that was read
 
 pub plain-sheet :
-    (s : List ℕ) (m : Module Expr) → read s ≡ ok m → (st : State) → stateFits m st ≡ true → (n : ℕ) →
-    runPlain s st n ≡ runBy m (plainChoice m) n st
+    (s : List ℕ) (m : Module Expr) → read s ≡ ok m → (u : ℕ) → u < users → (st : State) → stateFits m st ≡ true → (n : ℕ) →
+    runPlain s st u n ≡ runBy m u (plainChoice m) n st
 unfolding runPlain judged
-plain-sheet s m r st f n = rw (r, f)
+plain-sheet s m r u l st f n = rw (r, f, lt-ltb u users l)
 
 pub plain-stores :
-    (s : List ℕ) (m : Module Expr) → read s ≡ ok m → Ruled m → (st : State) → Shaped st → stateFits m st ≡ true → (n : ℕ) →
-    (runPlain s st n ≡ runBy m (plainChoice m) n st) × StoresOnce m st n
-plain-stores s m r R st shaped f n = (plain-sheet s m r st f n, plain-once m (sound s r) st shaped n R)
+    (s : List ℕ) (m : Module Expr) → read s ≡ ok m → Ruled m → (u : ℕ) → u < users → (st : State) → Shaped st →
+    stateFits m st ≡ true → (n : ℕ) → (runPlain s st u n ≡ runBy m u (plainChoice m) n st) × StoresOnce m u st n
+plain-stores s m r R u l st shaped f n = (plain-sheet s m r u l st f n, plain-once m (sound s r) u st shaped n R)

@@ -10,15 +10,15 @@ use Rattle.state.specs.declared.State.{State}
 use Rattle.state.specs.State.{valueOf}
 use Rattle.events.specs.Calls.{runBy, plainChoice}
 
--- The plain run from a state on; its choices are counted from 0.
-module _ (m : Module Expr) (st : State) where
+-- The plain run of user u from a state on; its choices are counted from 0.
+module _ (m : Module Expr) (u : ℕ) (st : State) where
   -- The state that p choices lead to.
   unfoldable pub stateAt : ℕ → State
-  stateAt p = runBy m (plainChoice m) p st .state
+  stateAt p = runBy m u (plainChoice m) p st .state
 
   -- Choice p of the run of at most n is taken, and stores wire k.
   pub record Stores (n p k : ℕ) : Type 0 where
-    pub taken : p < runBy m (plainChoice m) n st .accepted
+    pub taken : p < runBy m u (plainChoice m) n st .accepted
     pub wire : k < length (m .wires)
     pub choice : plainChoice m (stateAt p) ≡ length (m .threads) + k
 

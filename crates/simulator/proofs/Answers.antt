@@ -3,29 +3,35 @@ use mathlib.Core.Path.{_≡_, refl, sym, ap, _∙_}
 use mathlib.Core.Bool.{Bool, true, false}
 use mathlib.Core.List.{List, [], _∷_}
 use Prim.Native.Nat.{ℕ, _^_}
+use native.Mathlib.Omega.{arith}
 use borrow.Author.Needs.{needs}
-use borrow.Author.Tests.{lt-ltb}
+use borrow.Author.Tests.{lt-ltb, ne-eqb}
 use mir.Syntax.{w32}
 use mir.Val.{Fits}
 use denote.Laws.{Is}
 use denote.Struct.Laws.{val}
 use lib.Dec.{ltb}
-use lib.ListN.{length, getD}
+use lib.ListN.{length, getD, replicate, length-replicate, getD-replicate}
 use Rattle.values.specs.declared.Value.the-variants.{Known, Unknown}
 use Rattle.values.specs.Values.{pick, fits}
 use Rattle.values.specs.Planes.{valueAt}
 use Rattle.sheet.specs.Expression.{Expr}
 use Rattle.sheet.specs.Module.{Module, read}
 use Rattle.state.specs.declared.State.{State}
+use Rattle.state.specs.State.{users}
 use Rattle.state.proofs.Accessors.{Good, shaped-good, bounded-good}
 use Rattle.events.specs.declared.Inputs.{Inputs}
+use Rattle.events.specs.declared.Ran.{Ran}
+use Rattle.events.specs.declared.Rested.{Rested}
 use Rattle.events.specs.declared.Verdict.the-variants.{Refused}
-use Rattle.events.specs.Calls.{judged, chooseIn, choose, runIn, runList, runBy, plainChoice, runPlain, inputOf, instantIn, instant}
+use Rattle.events.specs.Calls.{started, startOf, start, judged, chooseIn, choose, runIn, runList, runBy, plainChoice, runPlain}
+use Rattle.events.specs.Calls.{inputOf, instantIn, instant}
 use Rattle.events.proofs.Inputs.{the-type, the-row}
 use Rattle.events.proofs.Inputs.Laws.{the-laws}
+use Rattle.plan.specs.Sections.{countPlace}
 use Rattle.plan.specs.Plan.{planOf}
 use Rattle.prepared.specs.declared.Prepared.{Prepared}
-use Rattle.prepared.specs.Prepared.{readOf, preparedPlan}
+use Rattle.prepared.specs.Prepared.{readOf, preparedPlan, startAt}
 use Rattle.prepared.specs.Claims.{Same, OnTheSheet}
 use Rattle.prepared.proofs.Answered.{Answered, accepted, refused, answered}
 use Rattle.prepared.proofs.Claims.{on-the-sheet}
@@ -47,6 +53,41 @@ inputs-small a g v = by (ltb v (length (a .value))) (getD (a .unknown) v true)
     by true false = lt-ltb (getD (a .value) v 0) (2 ^ 32) (small .fits)
     by false u = refl
 
+-- ---- start: a plan of zeros has no wires
+
+abbrev zeros : List ℕ
+zeros = replicate 25212 0
+
+start-zeros : (allowances : List ℕ) → startAt (planOf zeros) allowances ≡ started 0 allowances
+unfolding startAt
+start-zeros allowances = rw (getD-replicate {A = ℕ} 25212 (countPlace 2) 0 0 (omega arith))
+
+module _ (s : List ℕ) (allowances : List ℕ) where
+  -- what lies in the plan after `prepare`
+  start-state : startAt (planOf (preparedPlan s zeros)) allowances ≡ start s allowances .state
+  unfolding OnTheSheet preparedPlan start startOf
+  start-state = by (answered s)
+    where
+      by : Answered s → startAt (planOf (preparedPlan s zeros)) allowances ≡ start s allowances .state
+      by (accepted m g z) = on-the-sheet s zeros m g (length-replicate {A = ℕ} 25212 0) .start allowances
+      by (refused n p g z d) = rw (z, ne-eqb n 0 d, g) (start-zeros allowances)
+
+  start-number : readOf s .number ≡ start s allowances .number
+  unfolding start startOf
+  start-number = by (answered s)
+    where
+      by : Answered s → readOf s .number ≡ start s allowances .number
+      by (accepted m g z) = rw (z, g)
+      by (refused n p g z d) = rw (z, g)
+
+  pub start-answer : (r : Prepared) → r ≡ record { number = readOf s .number; place = readOf s .place } → (vs : List ℕ)
+      → vs ≡ preparedPlan s zeros → (st : State) → st ≡ startAt (planOf vs) allowances
+      → record { number = r .number; state = st } ≡ start s allowances
+  start-answer r e vs p st f =
+      let n = ap (λ (x : Prepared). x .number) e ∙ start-number in
+      let g = f ∙ ap (λ (ws : List ℕ). startAt (planOf ws) allowances) p ∙ start-state in
+      λ i. record { number = n i; state = g i }
+
 module _ (s : List ℕ) (r : Prepared) (e : r ≡ record { number = readOf s .number; place = readOf s .place }) (st : State) where
   number-same : r .number ≡ readOf s .number
   number-same = ap (λ (x : Prepared). x .number) e
@@ -62,17 +103,21 @@ module _ (s : List ℕ) (r : Prepared) (e : r ≡ record { number = readOf s .nu
         by (accepted m g z) = absurd (d (number-same ∙ z))
         by (refused n p g z b) = rw (number-same, g, z) refl
 
-    pub choose-refused : (c : ℕ) → record { number = r .number; state = st } ≡ choose s st c
+    pub choose-refused : (u c : ℕ) → record { number = r .number; state = st } ≡ choose s st u c
     unfolding choose
-    choose-refused c = judged-refused (λ k. record { number = k; state = st }) (λ m. chooseIn m st c)
+    choose-refused u c = judged-refused (λ k. record { number = k; state = st }) (λ m. chooseIn m st u c)
 
-    pub run-refused : (cs : List ℕ) → record { accepted = 0; number = r .number; state = st } ≡ runList s st cs
+    pub run-refused : (u : ℕ) (cs : List ℕ) → record { accepted = 0; number = r .number; state = st } ≡ runList s st u cs
     unfolding runList
-    run-refused cs = judged-refused (λ k. record { accepted = 0; number = k; state = st }) (λ m. runIn m cs st)
+    run-refused u cs =
+        let refused : ℕ → Ran = λ k. record { accepted = 0; number = k; state = st } in
+        judged-refused refused (λ m. pick (ltb u users) (runIn m u cs st) (refused 46))
 
-    pub plain-refused : (n : ℕ) → record { accepted = 0; verdict = Refused (r .number); state = st } ≡ runPlain s st n
+    pub plain-refused : (u n : ℕ) → record { accepted = 0; verdict = Refused (r .number); state = st } ≡ runPlain s st u n
     unfolding runPlain
-    plain-refused n = judged-refused (λ k. record { accepted = 0; verdict = Refused k; state = st }) (λ m. runBy m (plainChoice m) n st)
+    plain-refused u n =
+        let refused : ℕ → Rested = λ k. record { accepted = 0; verdict = Refused k; state = st } in
+        judged-refused refused (λ m. pick (ltb u users) (runBy m u (plainChoice m) n st) (refused 46))
 
     pub instant-refused : (a : Inputs) → record { number = r .number; state = st } ≡ instant s st a
     unfolding instant

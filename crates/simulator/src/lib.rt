@@ -6,50 +6,22 @@ use events::Inputs;
 use events::Ran;
 use events::Rested;
 use events::Verdict;
-use state::Counters;
 use state::State;
 ghost use mathlib.Core.Path.{_≡_};
-ghost use Rattle.events.specs.Calls.{dueBelow, started, start, choose, runList, runPlain, instant};
+ghost use Rattle.events.specs.Calls.{start, choose, runList, runPlain, instant};
 
 // ---- start
 
-// The marks of the wires below n, and of no others.
-fn due_below(n: u8) -> [bool; 32]
-    ensures { λ r. ⌜ r ≡ dueBelow n ⌝ }
+// The state at the start, with each user's allowance. Where the sheet is refused, that of a sheet without wires: so says a plan of zeros.
+pub fn start(sheet: &[u8], allowances: [u32; 4]) -> Chosen
+    ensures { λ r. ⌜ r ≡ start (now (sheet .entry)) allowances ⌝ }
 {
-    let mut due: u32 = 0;
-    let mut k: u8 = 0;
-    while k < n {
-        due = masks::with(due, k as usize);
-        k += 1;
-    }
-    masks::flags(due)
-}
-
-// The state at the start of a sheet with so many wires.
-fn started(wires: u8) -> State
-    ensures { λ r. ⌜ r ≡ started wires ⌝ }
-{
-    State {
-        value: [0u32; 80],
-        unknown: [true; 80],
-        pending: [0u32; 32],
-        unsure: [false; 32],
-        held: [false; 32],
-        places: [0u8; 8],
-        due: due_below(wires),
-        counters: Counters { time: 0, count: 0 },
-    }
-}
-
-// The state at the start. Where the sheet is refused, that of a sheet without wires.
-pub fn start(sheet: &[u8]) -> Chosen
-    ensures { λ r. ⌜ r ≡ start (now (sheet .entry)) ⌝ }
-{
-    let read = sheet::read(sheet);
+    let mut plan = [0u32; 25212];
+    let answer = prepared::prepare(sheet, &mut plan);
+    let state = prepared::start(&plan, allowances);
     Chosen {
-        number: read.number,
-        state: started(read.layout.wires),
+        number: answer.number,
+        state,
     }
 }
 
@@ -62,21 +34,21 @@ fn refused(number: u8, state: State) -> Chosen
     Chosen { number, state }
 }
 
-// A choice: an item by its number, or 255 for the commit.
-pub fn choose(sheet: &[u8], st: State, c: u8) -> Chosen
-    ensures { λ r. ⌜ r ≡ choose (now (sheet .entry)) st c ⌝ }
+// A user's choice: an item by its number, or 255 for the commit.
+pub fn choose(sheet: &[u8], st: State, user: u8, c: u8) -> Chosen
+    ensures { λ r. ⌜ r ≡ choose (now (sheet .entry)) st user c ⌝ }
 {
     let mut plan = [0u32; 25212];
     let read = prepared::prepare(sheet, &mut plan);
     if read.number != 0 {
         return refused(read.number, st);
     }
-    prepared::choose(&plan, st, c)
+    prepared::choose(&plan, st, user, c)
 }
 
-// A run over a list of choices. It ends at the first refused one.
-pub fn run(sheet: &[u8], st: State, choices: &[u8]) -> Ran
-    ensures { λ r. ⌜ r ≡ runList (now (sheet .entry)) st (now (choices .entry)) ⌝ }
+// A user's run over a list of choices. It ends at the first refused one.
+pub fn run(sheet: &[u8], st: State, user: u8, choices: &[u8]) -> Ran
+    ensures { λ r. ⌜ r ≡ runList (now (sheet .entry)) st user (now (choices .entry)) ⌝ }
 {
     let mut plan = [0u32; 25212];
     let read = prepared::prepare(sheet, &mut plan);
@@ -87,12 +59,12 @@ pub fn run(sheet: &[u8], st: State, choices: &[u8]) -> Ran
             state: st,
         };
     }
-    prepared::run(&plan, st, choices)
+    prepared::run(&plan, st, user, choices)
 }
 
-// The plain run of at most `limit` choices: it takes the lowest enabled item, else the commit.
-pub fn run_plain(sheet: &[u8], st: State, limit: u16) -> Rested
-    ensures { λ r. ⌜ r ≡ runPlain (now (sheet .entry)) st limit ⌝ }
+// A user's plain run of at most `limit` choices: it takes the lowest enabled item, else the commit.
+pub fn run_plain(sheet: &[u8], st: State, user: u8, limit: u16) -> Rested
+    ensures { λ r. ⌜ r ≡ runPlain (now (sheet .entry)) st user limit ⌝ }
 {
     let mut plan = [0u32; 25212];
     let read = prepared::prepare(sheet, &mut plan);
@@ -103,7 +75,7 @@ pub fn run_plain(sheet: &[u8], st: State, limit: u16) -> Rested
             state: st,
         };
     }
-    prepared::run_plain(&plan, st, limit)
+    prepared::run_plain(&plan, st, user, limit)
 }
 
 // An instant: all inputs are set as one change, and the time goes on.

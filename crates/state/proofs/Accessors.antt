@@ -8,11 +8,11 @@ use mathlib.Core.Option.{none, some}
 use Prim.Native.Nat.{ℕ, _<_, _^_}
 use native.Mathlib.Omega.{arith}
 use borrow.Author.Needs.{needs}
-use mir.Syntax.{Width, w8, w32}
+use mir.Syntax.{Width, w8, w32, w64}
 use mir.Val.{Fits, bits}
 use denote.Laws.{Is}
 use denote.Struct.Laws.{val}
-use lib.ListN.{length, length-set}
+use lib.ListN.{length, getD, length-set}
 use lib.Seq.{getD-set-same, getD-set-other}
 use Rattle.values.specs.declared.Value.{Value}
 use Rattle.values.specs.Planes.{numberOf, isUnknown}
@@ -21,7 +21,7 @@ use Rattle.state.specs.declared.Counters.{Counters}
 use Rattle.state.specs.declared.State.{State}
 use Rattle.state.specs.State.{Shaped, Bounded, withPlanes, withSlots, withPlaces, withMarks, withCounters}
 use Rattle.state.specs.State.{valueOf, withValue, pendingOf, withPending, withoutPending}
-use Rattle.state.specs.State.{placeOf, withPlace, isDue, withDue}
+use Rattle.state.specs.State.{placeOf, withPlace, isDue, withDue, countOf, allowanceOf}
 use Rattle.state.proofs.State.{the-type, the-row}
 use Rattle.state.proofs.State.Laws.{the-laws}
 
@@ -40,6 +40,8 @@ shaped-good st g =
       held = search needs;
       places = search needs;
       due = search needs;
+      counts = search needs;
+      allowances = search needs;
     }
 
 -- a number of a width below 2 to the width
@@ -53,7 +55,8 @@ bounded-good st g =
       pending = λ r. below w32 (search needs);
       places = λ i. below w8 (search needs);
       time = search needs;
-      count = search needs;
+      counts = λ u. below w64 (search needs);
+      allowances = λ u. below w32 (search needs);
     }
 
 -- ---- two states with the same parts are the same
@@ -304,6 +307,24 @@ module _ (st : State) (c : Counters) where
   unfolding withCounters
   counters-withCounters = refl
 
+  pub count-withCounters : (u : ℕ) → countOf (withCounters st c) u ≡ getD (c .counts) u 0
+  unfolding countOf withCounters
+  count-withCounters u = refl
+
+  pub allowance-withCounters : (u : ℕ) → allowanceOf (withCounters st c) u ≡ getD (c .allowances) u 0
+  unfolding allowanceOf withCounters
+  allowance-withCounters u = refl
+
+-- states with the same counters have the same counts and allowances
+module _ (s t : State) (e : s .counters ≡ t .counters) where
+  pub count-same : (u : ℕ) → countOf s u ≡ countOf t u
+  unfolding countOf
+  count-same u = rw e
+
+  pub allowance-same : (u : ℕ) → allowanceOf s u ≡ allowanceOf t u
+  unfolding allowanceOf
+  allowance-same u = rw e
+
 -- ---- each setter keeps the lengths
 
 module _ (st : State) (ns : List ℕ) (xs : List Bool) where
@@ -318,6 +339,8 @@ module _ (st : State) (ns : List ℕ) (xs : List Bool) where
         held = s .held;
         places = s .places;
         due = s .due;
+        counts = s .counts;
+        allowances = s .allowances;
       }
 
 module _ (st : State) (v : ℕ) (a : Value) where
@@ -332,6 +355,8 @@ module _ (st : State) (v : ℕ) (a : Value) where
         held = s .held;
         places = s .places;
         due = s .due;
+        counts = s .counts;
+        allowances = s .allowances;
       }
 
 module _ (st : State) (ns : List ℕ) (xs hs : List Bool) where
@@ -346,6 +371,8 @@ module _ (st : State) (ns : List ℕ) (xs hs : List Bool) where
         held = o;
         places = s .places;
         due = s .due;
+        counts = s .counts;
+        allowances = s .allowances;
       }
 
 module _ (st : State) (r : ℕ) (a : Value) where
@@ -360,6 +387,8 @@ module _ (st : State) (r : ℕ) (a : Value) where
         held = length-set (st .held) r true ∙ s .held;
         places = s .places;
         due = s .due;
+        counts = s .counts;
+        allowances = s .allowances;
       }
 
 module _ (st : State) (r : ℕ) where
@@ -374,6 +403,8 @@ module _ (st : State) (r : ℕ) where
         held = length-set (st .held) r false ∙ s .held;
         places = s .places;
         due = s .due;
+        counts = s .counts;
+        allowances = s .allowances;
       }
 
 module _ (st : State) (ps : List ℕ) where
@@ -388,6 +419,8 @@ module _ (st : State) (ps : List ℕ) where
         held = s .held;
         places = p;
         due = s .due;
+        counts = s .counts;
+        allowances = s .allowances;
       }
 
 module _ (st : State) (i p : ℕ) where
@@ -402,6 +435,8 @@ module _ (st : State) (i p : ℕ) where
         held = s .held;
         places = length-set (st .places) i p ∙ s .places;
         due = s .due;
+        counts = s .counts;
+        allowances = s .allowances;
       }
 
 module _ (st : State) (ds : List Bool) where
@@ -416,6 +451,8 @@ module _ (st : State) (ds : List Bool) where
         held = s .held;
         places = s .places;
         due = p;
+        counts = s .counts;
+        allowances = s .allowances;
       }
 
 module _ (st : State) (k : ℕ) (b : Bool) where
@@ -430,12 +467,14 @@ module _ (st : State) (k : ℕ) (b : Bool) where
         held = s .held;
         places = s .places;
         due = length-set (st .due) k b ∙ s .due;
+        counts = s .counts;
+        allowances = s .allowances;
       }
 
 module _ (st : State) (c : Counters) where
-  pub shaped-withCounters : Shaped st → Shaped (withCounters st c)
+  pub shaped-withCounters : Shaped st → length (c .counts) ≡ 4 → length (c .allowances) ≡ 4 → Shaped (withCounters st c)
   unfolding withCounters
-  shaped-withCounters s =
+  shaped-withCounters s p q =
       record {
         value = s .value;
         unknown = s .unknown;
@@ -444,4 +483,6 @@ module _ (st : State) (c : Counters) where
         held = s .held;
         places = s .places;
         due = s .due;
+        counts = p;
+        allowances = q;
       }

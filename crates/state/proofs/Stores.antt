@@ -9,7 +9,7 @@ use lib.ListN.{length, getD, set, length-append}
 use lib.Seq.{sets}
 use Rattle.state.specs.declared.State.{State}
 use Rattle.state.specs.Saved.{rows, flagByte, wordBytes, longBytes, valueRow, slotRow, placeRow, markRow}
-use Rattle.state.specs.Saved.{valueBytes, slotBytes, placeBytes, markBytes, body, tail, saved}
+use Rattle.state.specs.Saved.{valueBytes, slotBytes, placeBytes, markBytes, body, countBytes, allowanceBytes, tail, saved}
 use Rattle.state.proofs.Rows.{sets-append, length-rows, rows-step}
 
 -- ---- four bytes of a number
@@ -121,26 +121,50 @@ module _ (ds : List Bool) where
       let e : 601 + 1 * k ≡ 601 + k = omega arith in
       rw e at (rows-step 1 (markRow ds) length-mark l 601 k)
 
+-- ---- counts and allowances
+
+module _ (ns : List ℕ) where
+  pub length-counts : length (countBytes ns) ≡ 32
+  unfolding countBytes
+  length-counts = length-rows 8 (λ u. longBytes (getD ns u 0)) (λ u. length-long (getD ns u 0)) 4
+
+  pub counts-step : (l : List ℕ) (u : ℕ)
+      → sets (sets l 641 (rows u (λ k. longBytes (getD ns k 0)))) (641 + 8 * u) (longBytes (getD ns u 0))
+      ≡ sets l 641 (rows (u + 1) (λ k. longBytes (getD ns k 0)))
+  counts-step l u = rows-step 8 (λ k. longBytes (getD ns k 0)) (λ k. length-long (getD ns k 0)) l 641 u
+
+  pub length-allowances : length (allowanceBytes ns) ≡ 16
+  unfolding allowanceBytes
+  length-allowances = length-rows 4 (λ u. wordBytes (getD ns u 0)) (λ u. length-word (getD ns u 0)) 4
+
+  pub allowances-step : (l : List ℕ) (u : ℕ)
+      → sets (sets l 673 (rows u (λ k. wordBytes (getD ns k 0)))) (673 + 4 * u) (wordBytes (getD ns u 0))
+      ≡ sets l 673 (rows (u + 1) (λ k. wordBytes (getD ns k 0)))
+  allowances-step l u = rows-step 4 (λ k. wordBytes (getD ns k 0)) (λ k. length-word (getD ns k 0)) l 673 u
+
 -- ---- the whole: parts of the lengths that the form has, one after the other
 
-join : (n : ℕ) (l vs ss ps ms ts cs : List ℕ)
-    → length vs ≡ 400 → length ss ≡ 192 → length ps ≡ 8 → length ms ≡ 32 → length ts ≡ 8
-    → sets (sets (sets (sets (sets (sets (set l 0 n) 1 vs) 401 ss) 593 ps) 601 ms) 633 ts) 641 cs
-    ≡ sets l 0 (n ∷ (vs ++ ss ++ ps ++ ms) ++ (ts ++ cs))
-join n l vs ss ps ms ts cs v s p m t = sym (simp (sets-append, length-append, v, s, p, m, t))
+join : (n : ℕ) (l vs ss ps ms ts cs qs : List ℕ)
+    → length vs ≡ 400 → length ss ≡ 192 → length ps ≡ 8 → length ms ≡ 32 → length ts ≡ 8 → length cs ≡ 32
+    → sets (sets (sets (sets (sets (sets (sets (set l 0 n) 1 vs) 401 ss) 593 ps) 601 ms) 633 ts) 641 cs) 673 qs
+    ≡ sets l 0 (n ∷ (vs ++ ss ++ ps ++ ms) ++ (ts ++ cs ++ qs))
+join n l vs ss ps ms ts cs qs v s p m t c = sym (simp (sets-append, length-append, v, s, p, m, t, c))
 
 pub saved-sets : (st : State) (l : List ℕ)
-    → sets (sets (sets (sets (sets (sets (set l 0 2)
+    → sets (sets (sets (sets (sets (sets (sets (set l 0 3)
     1 (valueBytes (st .value) (st .unknown)))
     401 (slotBytes (st .held) (st .pending) (st .unsure)))
     593 (placeBytes (st .places)))
     601 (markBytes (st .due)))
     633 (longBytes (st .counters .time)))
-    641 (longBytes (st .counters .count))
+    641 (countBytes (st .counters .counts)))
+    673 (allowanceBytes (st .counters .allowances))
     ≡ sets l 0 (saved st)
 unfolding saved body tail
 saved-sets st l =
-    join 2 l (valueBytes (st .value) (st .unknown)) (slotBytes (st .held) (st .pending) (st .unsure))
-    (placeBytes (st .places)) (markBytes (st .due)) (longBytes (st .counters .time)) (longBytes (st .counters .count))
+    join 3 l (valueBytes (st .value) (st .unknown)) (slotBytes (st .held) (st .pending) (st .unsure))
+    (placeBytes (st .places)) (markBytes (st .due)) (longBytes (st .counters .time)) (countBytes (st .counters .counts))
+    (allowanceBytes (st .counters .allowances))
     (length-values (st .value) (st .unknown)) (length-slots (st .held) (st .pending) (st .unsure))
     (length-places (st .places)) (length-marks (st .due)) (length-long (st .counters .time))
+    (length-counts (st .counters .counts))

@@ -1,5 +1,5 @@
--- The saved forms of a state: one byte that names the form, a body of 632 bytes, and the counters. Form 2 is written; form 1, with
--- counters of 4 bytes, is read as well. "Multi-byte numbers are low byte first."
+-- The saved forms of a state: one byte that names the form, a body of 632 bytes, and the counters. Form 3 is written and read. Forms 1
+-- and 2 have one count, of 4 and of 8 bytes, and are brought over. "Multi-byte numbers are low byte first."
 use Prim.Native.Nat.{ℕ, zero, suc, _+_, _*_, _/_, _%_, _<_}
 use mathlib.Core.Bool.{Bool, true, false, _&&_}
 use mathlib.Core.List.{List, [], _∷_, _++_}
@@ -11,7 +11,8 @@ use Rattle.sheet.specs.Reading.{wordOf}
 use Rattle.state.specs.declared.Counters.{Counters}
 use Rattle.state.specs.declared.State.{State}
 use Rattle.state.specs.declared.Loaded.{Loaded}
-use Rattle.state.specs.State.{countersOf}
+use Rattle.state.specs.declared.Brought.{Brought}
+use Rattle.state.specs.State.{countersOf, countOf, allowanceOf}
 
 -- ---- rows, one after the other
 
@@ -79,21 +80,31 @@ body st =
 unfoldable pub longBytes : ℕ → List ℕ
 longBytes n = wordBytes (n % 4294967296) ++ wordBytes (n / 4294967296)
 
--- time and count, 8 bytes each
+-- The four counts, 8 bytes each
+unfoldable pub countBytes : List ℕ → List ℕ
+countBytes ns = rows 4 (λ u. longBytes (getD ns u 0))
+
+-- The four allowances, 4 bytes each
+unfoldable pub allowanceBytes : List ℕ → List ℕ
+allowanceBytes ns = rows 4 (λ u. wordBytes (getD ns u 0))
+
+-- The time, the counts and the allowances
 unfoldable pub tail : Counters → List ℕ
-tail c = longBytes (c .time) ++ longBytes (c .count)
+tail c = longBytes (c .time) ++ countBytes (c .counts) ++ allowanceBytes (c .allowances)
+
+-- Form 3: 689 bytes
+unfoldable pub saved : State → List ℕ
+saved st = 3 ∷ body st ++ tail (st .counters)
+
+-- ---- the forms with one count, of a time and a count
 
 -- Form 2: 649 bytes
-unfoldable pub saved : State → List ℕ
-saved st = 2 ∷ body st ++ tail (st .counters)
+unfoldable pub savedLong : State → ℕ → ℕ → List ℕ
+savedLong st time count = 2 ∷ body st ++ (longBytes time ++ longBytes count)
 
--- "time and count (4 bytes each)"
-unfoldable pub shortTail : Counters → List ℕ
-shortTail c = wordBytes (c .time) ++ wordBytes (c .count)
-
--- Form 1, "with the short counters": 641 bytes
-unfoldable pub savedShort : State → List ℕ
-savedShort st = 1 ∷ body st ++ shortTail (st .counters)
+-- Form 1, "time and count (4 bytes each)": 641 bytes
+unfoldable pub savedShort : State → ℕ → ℕ → List ℕ
+savedShort st time count = 1 ∷ body st ++ (wordBytes time ++ wordBytes count)
 
 -- ---- loaded: the state that bytes are the saved form of
 
@@ -127,11 +138,9 @@ isForm form size b = eqb (length b) size && eqb (getD b 0 0) form && bodyFlags b
 unfoldable pub longOf : List ℕ → ℕ → ℕ
 longOf b at = wordOf b at + 4294967296 * wordOf b (at + 4)
 
+-- The time stands at 633, the counts from 641, the allowances from 673.
 unfoldable pub countersIn : List ℕ → Counters
-countersIn b = countersOf (longOf b 633) (longOf b 641)
-
-unfoldable pub shortIn : List ℕ → Counters
-shortIn b = countersOf (wordOf b 633) (wordOf b 637)
+countersIn b = countersOf (longOf b 633) (listOf 4 (λ u. longOf b (641 + 8 * u))) (listOf 4 (λ u. wordOf b (673 + 4 * u)))
 
 unfoldable pub stateIn : List ℕ → Counters → State
 stateIn b c =
@@ -146,15 +155,8 @@ stateIn b c =
       counters = c;
     }
 
--- "a saved state with the short counters is brought over with the same two numbers and all else as it was"
 unfoldable pub loaded : List ℕ → Option State
-loaded b =
-    pick (isForm 2 649 b) (some (stateIn b (countersIn b)))
-    (pick (isForm 1 641 b) (some (stateIn b (shortIn b))) none)
-
--- Bytes of either form.
-unfoldable pub isSaved : List ℕ → Bool
-isSaved b = pick (isForm 2 649 b) true (isForm 1 641 b)
+loaded b = pick (isForm 3 689 b) (some (stateIn b (countersIn b))) none
 
 -- ---- what `load` answers
 
@@ -169,10 +171,29 @@ zeroState =
       held = replicate 32 false;
       places = replicate 8 0;
       due = replicate 32 false;
-      counters = countersOf 0 0;
+      counters = countersOf 0 (replicate 4 0) (replicate 4 0);
     }
 
 -- Where nothing is found, the state says nothing: it is the one with every number 0.
 unfoldable pub loadedAnswer : Option State → Loaded
 loadedAnswer (some st) = record { found = true; state = st }
 loadedAnswer none = record { found = false; state = zeroState }
+
+-- ---- broughtOver: "A state saved with one count is brought over with that count as user 0's, 0 for the others, and allowances handed to
+-- the call; one above user 0's allowance is 31." Bytes that are no saved state are 31 too; a state of form 3 has its own allowances and
+-- is taken as it stands.
+
+unfoldable pub alone : ℕ → ℕ → List ℕ → Counters
+alone time count allowances = countersOf time (count ∷ 0 ∷ 0 ∷ 0 ∷ []) allowances
+
+-- "one above user 0's allowance is 31"
+unfoldable pub admitted : State → Brought
+admitted st =
+    pick (leb (countOf st 0) (allowanceOf st 0)) (record { number = 0; state = st }) (record { number = 31; state = zeroState })
+
+unfoldable pub broughtOver : List ℕ → List ℕ → Brought
+broughtOver b allowances =
+    pick (isForm 3 689 b) (record { number = 0; state = stateIn b (countersIn b) })
+    (pick (isForm 2 649 b) (admitted (stateIn b (alone (longOf b 633) (longOf b 641) allowances)))
+    (pick (isForm 1 641 b) (admitted (stateIn b (alone (wordOf b 633) (wordOf b 637) allowances)))
+    (record { number = 31; state = zeroState })))

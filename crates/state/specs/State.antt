@@ -21,22 +21,36 @@ pub record Shaped (st : State) : Type 0 where
   pub held : length (st .held) ≡ 32
   pub places : length (st .places) ≡ 8
   pub due : length (st .due) ≡ 32
+  pub counts : length (st .counters .counts) ≡ 4
+  pub allowances : length (st .counters .allowances) ≡ 4
 
 pub record Bounded (st : State) : Type 0 where
   pub value : (v : ℕ) → getD (st .value) v 0 < 2 ^ 32
   pub pending : (r : ℕ) → getD (st .pending) r 0 < 2 ^ 32
   pub places : (i : ℕ) → getD (st .places) i 0 < 2 ^ 8
   pub time : st .counters .time < 2 ^ 64
-  pub count : st .counters .count < 2 ^ 64
+  pub counts : (u : ℕ) → getD (st .counters .counts) u 0 < 2 ^ 64
+  pub allowances : (u : ℕ) → getD (st .counters .allowances) u 0 < 2 ^ 32
 
 -- ---- the counters
 
--- A counter at this number can't go on: "Number 36 moves to 18,446,744,073,709,551,615 for each."
+-- A time at this number can't go on: "Number 36 moves to 18,446,744,073,709,551,615 for each", and "guards time only".
 abbrev pub full : ℕ
 full = 18446744073709551615
 
-abbrev pub countersOf : ℕ → ℕ → Counters
-countersOf time count = record { time = time; count = count }
+abbrev pub countersOf : ℕ → List ℕ → List ℕ → Counters
+countersOf time counts allowances = record { time = time; counts = counts; allowances = allowances }
+
+-- "Up to four users": their number.
+abbrev pub users : ℕ
+users = 4
+
+-- The choices of user u that were accepted, and how many may be.
+unfoldable pub countOf : State → ℕ → ℕ
+countOf st u = getD (st .counters .counts) u 0
+
+unfoldable pub allowanceOf : State → ℕ → ℕ
+allowanceOf st u = getD (st .counters .allowances) u 0
 
 -- ---- the parts of a state, set anew
 

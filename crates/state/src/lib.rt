@@ -2,16 +2,19 @@
 mod loading;
 mod saving;
 
+pub use loading::bring_over;
 pub use loading::load;
 pub use saving::save;
 
-// "Time and the count of accepted choices become 64 bits wide."
+// The time, and for each user the accepted choices and how many may be: "Each accepted choice names its user, 0 to 3, and is counted for
+// that user alone", "Each has an allowance of choices fixed at the start, a number of 32 bits".
 pub struct Counters {
     pub time: u64,
-    pub count: u64,
+    pub counts: [u64; 4],
+    pub allowances: [u32; 4],
 }
 
-// A counter that can't go on: number 36.
+// A time that can't go on: number 36.
 pub const FULL: u64 = 18446744073709551615;
 
 // A state. A value is a number or, where its unknown flag is up, x. A register's pending value counts where its held flag
@@ -30,5 +33,11 @@ pub struct State {
 // What loading finds: a state, or none.
 pub struct Loaded {
     pub found: bool,
+    pub state: State,
+}
+
+// What bringing over gives: 0 and a state, or 31.
+pub struct Brought {
+    pub number: u8,
     pub state: State,
 }

@@ -1,4 +1,5 @@
 // A state out of its saved form.
+use super::Brought;
 use super::Counters;
 use super::Loaded;
 use super::State;
@@ -9,7 +10,8 @@ ghost use Prim.Native.Nat.{_+_, _*_, _≤_};
 ghost use lib.ListN.{getD};
 ghost use Rattle.sheet.specs.Reading.{wordOf};
 ghost use Rattle.state.specs.Saved.{isFlag, valueFlags, slotFlags, markFlags, bodyFlags, isForm};
-ghost use Rattle.state.specs.Saved.{flagAt, listOf, longOf, countersIn, shortIn, stateIn, zeroState, loaded, loadedAnswer};
+ghost use Rattle.state.specs.Saved.{flagAt, listOf, longOf, countersIn, stateIn, zeroState, loaded, loadedAnswer};
+ghost use Rattle.state.specs.Saved.{alone, admitted, broughtOver};
 
 // ---- are these bytes the saved form of a state?
 
@@ -180,11 +182,11 @@ fn due_in(bytes: &[u8]) -> [bool; 32]
     a
 }
 
-// ---- the state
+// ---- the counters
 
 // A number of 64 bits, low half first.
 fn long_at(bytes: &[u8], at: usize) -> u64
-    requires { ⌜ at ≤ 641 ⌝ }
+    requires { ⌜ at ≤ 665 ⌝ }
     ensures { λ r. ⌜ r ≡ longOf (now (bytes .entry)) at ⌝ }
 {
     let low = word_at(bytes, at);
@@ -192,26 +194,55 @@ fn long_at(bytes: &[u8], at: usize) -> u64
     low as u64 + 4294967296 * high as u64
 }
 
+fn counts_in(bytes: &[u8]) -> [u64; 4]
+    ensures { λ r. ⌜ r ≡ listOf 4 (λ u. longOf (now (bytes .entry)) (641 + 8 * u)) ⌝ }
+{
+    let mut a = [0u64; 4];
+    let mut u = 0;
+    while u < 4 {
+        a[u] = long_at(bytes, 641 + 8 * u);
+        u += 1;
+    }
+    a
+}
+
+fn allowances_in(bytes: &[u8]) -> [u32; 4]
+    ensures { λ r. ⌜ r ≡ listOf 4 (λ u. wordOf (now (bytes .entry)) (673 + 4 * u)) ⌝ }
+{
+    let mut a = [0u32; 4];
+    let mut u = 0;
+    while u < 4 {
+        a[u] = word_at(bytes, 673 + 4 * u);
+        u += 1;
+    }
+    a
+}
+
 fn counters_in(bytes: &[u8]) -> Counters
     ensures { λ r. ⌜ r ≡ countersIn (now (bytes .entry)) ⌝ }
 {
+    let time = long_at(bytes, 633);
+    let counts = counts_in(bytes);
+    let allowances = allowances_in(bytes);
     Counters {
-        time: long_at(bytes, 633),
-        count: long_at(bytes, 641),
+        time,
+        counts,
+        allowances,
     }
 }
 
-// The short counters.
-fn short_in(bytes: &[u8]) -> Counters
-    ensures { λ r. ⌜ r ≡ shortIn (now (bytes .entry)) ⌝ }
+// One count, user 0's.
+fn alone(time: u64, count: u64, allowances: [u32; 4]) -> Counters
+    ensures { λ r. ⌜ r ≡ alone time count allowances ⌝ }
 {
-    let time = word_at(bytes, 633);
-    let count = word_at(bytes, 637);
     Counters {
-        time: time as u64,
-        count: count as u64,
+        time,
+        counts: [count, 0, 0, 0],
+        allowances,
     }
 }
+
+// ---- the state
 
 fn state_in(bytes: &[u8], counters: Counters) -> State
     ensures { λ r. ⌜ r ≡ stateIn (now (bytes .entry)) counters ⌝ }
@@ -247,21 +278,20 @@ fn zero_state() -> State
         held: [false; 32],
         places: [0u8; 8],
         due: [false; 32],
-        counters: Counters { time: 0, count: 0 },
+        counters: Counters {
+            time: 0,
+            counts: [0u64; 4],
+            allowances: [0u32; 4],
+        },
     }
 }
 
-// The state that the bytes are a saved form of: the one that is written, or the one with short counters.
+// The state that the bytes are the saved form of.
 pub fn load(bytes: &[u8]) -> Loaded
     ensures { λ r. ⌜ r ≡ loadedAnswer (loaded (now (bytes .entry))) ⌝ }
 {
-    if is_form(2, 649, bytes) {
+    if is_form(3, 689, bytes) {
         let counters = counters_in(bytes);
-        let state = state_in(bytes, counters);
-        return Loaded { found: true, state };
-    }
-    if is_form(1, 641, bytes) {
-        let counters = short_in(bytes);
         let state = state_in(bytes, counters);
         return Loaded { found: true, state };
     }
@@ -270,4 +300,46 @@ pub fn load(bytes: &[u8]) -> Loaded
         found: false,
         state,
     }
+}
+
+// A state with one count, where user 0's allowance reaches that far.
+fn admit(state: State) -> Brought
+    ensures { λ r. ⌜ r ≡ admitted state ⌝ }
+{
+    let counters = state.counters;
+    if counters.counts[0] <= counters.allowances[0] as u64 {
+        return Brought { number: 0, state };
+    }
+    let none = zero_state();
+    Brought {
+        number: 31,
+        state: none,
+    }
+}
+
+// The state that the bytes are a saved form of: one with one count is brought over, that of `save` is taken as it stands.
+pub fn bring_over(bytes: &[u8], allowances: [u32; 4]) -> Brought
+    ensures { λ r. ⌜ r ≡ broughtOver (now (bytes .entry)) allowances ⌝ }
+{
+    if is_form(3, 689, bytes) {
+        let counters = counters_in(bytes);
+        let state = state_in(bytes, counters);
+        return Brought { number: 0, state };
+    }
+    if is_form(2, 649, bytes) {
+        let time = long_at(bytes, 633);
+        let count = long_at(bytes, 641);
+        let counters = alone(time, count, allowances);
+        let state = state_in(bytes, counters);
+        return admit(state);
+    }
+    if is_form(1, 641, bytes) {
+        let time = word_at(bytes, 633);
+        let count = word_at(bytes, 637);
+        let counters = alone(time as u64, count as u64, allowances);
+        let state = state_in(bytes, counters);
+        return admit(state);
+    }
+    let state = zero_state();
+    Brought { number: 31, state }
 }

@@ -3,7 +3,8 @@ use super::State;
 ghost use mathlib.Core.Path.{_≡_};
 ghost use Prim.Native.Nat.{_≤_};
 ghost use lib.Seq.{sets};
-ghost use Rattle.state.specs.Saved.{flagByte, wordBytes, longBytes, valueBytes, slotBytes, placeBytes, markBytes, saved};
+ghost use Rattle.state.specs.Saved.{flagByte, wordBytes, longBytes, valueBytes, slotBytes, placeBytes, markBytes};
+ghost use Rattle.state.specs.Saved.{countBytes, allowanceBytes, saved};
 
 // A flag as a byte.
 fn flag_byte(b: bool) -> u8
@@ -13,8 +14,8 @@ fn flag_byte(b: bool) -> u8
 }
 
 // A number, low byte first.
-fn put_word(n: u32, out: &mut [u8; 649], at: usize)
-    requires { ⌜ at ≤ 645 ⌝ }
+fn put_word(n: u32, out: &mut [u8; 689], at: usize)
+    requires { ⌜ at ≤ 685 ⌝ }
     ensures { λ r. ⌜ now (out .exit) ≡ sets (now (out .entry)) at (wordBytes n) ⌝ }
 {
     out[at] = (n % 256) as u8;
@@ -24,8 +25,8 @@ fn put_word(n: u32, out: &mut [u8; 649], at: usize)
 }
 
 // A number of 64 bits, low half first.
-fn put_long(n: u64, out: &mut [u8; 649], at: usize)
-    requires { ⌜ at ≤ 641 ⌝ }
+fn put_long(n: u64, out: &mut [u8; 689], at: usize)
+    requires { ⌜ at ≤ 681 ⌝ }
     ensures { λ r. ⌜ now (out .exit) ≡ sets (now (out .entry)) at (longBytes n) ⌝ }
 {
     put_word((n % 4294967296) as u32, out, at);
@@ -33,7 +34,7 @@ fn put_long(n: u64, out: &mut [u8; 649], at: usize)
 }
 
 // The values.
-fn put_values<'a>(value: &'a [u32; 80], unknown: &'a [bool; 80], out: &mut [u8; 649])
+fn put_values<'a>(value: &'a [u32; 80], unknown: &'a [bool; 80], out: &mut [u8; 689])
     ensures { λ r. ⌜ now (out .exit) ≡ sets (now (out .entry)) 1 (valueBytes (now (value .entry)) (now (unknown .entry))) ⌝ }
 {
     let mut v = 0;
@@ -50,7 +51,7 @@ fn put_slots<'a>(
     held: &'a [bool; 32],
     pending: &'a [u32; 32],
     unsure: &'a [bool; 32],
-    out: &mut [u8; 649],
+    out: &mut [u8; 689],
 )
     ensures { λ r. ⌜ now (out .exit) ≡ sets (now (out .entry)) 401
         (slotBytes (now (held .entry)) (now (pending .entry)) (now (unsure .entry))) ⌝ }
@@ -66,7 +67,7 @@ fn put_slots<'a>(
 }
 
 // The places.
-fn put_places(places: &[u8; 8], out: &mut [u8; 649])
+fn put_places(places: &[u8; 8], out: &mut [u8; 689])
     ensures { λ r. ⌜ now (out .exit) ≡ sets (now (out .entry)) 593 (placeBytes (now (places .entry))) ⌝ }
 {
     let mut i = 0;
@@ -77,7 +78,7 @@ fn put_places(places: &[u8; 8], out: &mut [u8; 649])
 }
 
 // The marks.
-fn put_marks(due: &[bool; 32], out: &mut [u8; 649])
+fn put_marks(due: &[bool; 32], out: &mut [u8; 689])
     ensures { λ r. ⌜ now (out .exit) ≡ sets (now (out .entry)) 601 (markBytes (now (due .entry))) ⌝ }
 {
     let mut k = 0;
@@ -87,17 +88,41 @@ fn put_marks(due: &[bool; 32], out: &mut [u8; 649])
     }
 }
 
+// The users' counts.
+fn put_counts(counts: &[u64; 4], out: &mut [u8; 689])
+    ensures { λ r. ⌜ now (out .exit) ≡ sets (now (out .entry)) 641 (countBytes (now (counts .entry))) ⌝ }
+{
+    let mut u = 0;
+    while u < 4 {
+        put_long(counts[u], out, 641 + 8 * u);
+        u += 1;
+    }
+}
+
+// The users' allowances.
+fn put_allowances(allowances: &[u32; 4], out: &mut [u8; 689])
+    ensures { λ r. ⌜ now (out .exit) ≡ sets (now (out .entry)) 673 (allowanceBytes (now (allowances .entry))) ⌝ }
+{
+    let mut u = 0;
+    while u < 4 {
+        put_word(allowances[u], out, 673 + 4 * u);
+        u += 1;
+    }
+}
+
 // The saved form of a state is put into the buffer, which it fills.
-pub fn save(st: State, out: &mut [u8; 649])
+pub fn save(st: State, out: &mut [u8; 689])
     ensures { λ r. ⌜ now (out .exit) ≡ saved st ⌝ }
 {
-    let mut bytes = [0u8; 649];
-    bytes[0] = 2;
+    let counters = st.counters;
+    let mut bytes = [0u8; 689];
+    bytes[0] = 3;
     put_values(&st.value, &st.unknown, &mut bytes);
     put_slots(&st.held, &st.pending, &st.unsure, &mut bytes);
     put_places(&st.places, &mut bytes);
     put_marks(&st.due, &mut bytes);
-    put_long(st.counters.time, &mut bytes, 633);
-    put_long(st.counters.count, &mut bytes, 641);
+    put_long(counters.time, &mut bytes, 633);
+    put_counts(&counters.counts, &mut bytes);
+    put_allowances(&counters.allowances, &mut bytes);
     *out = bytes;
 }

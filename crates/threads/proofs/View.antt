@@ -171,14 +171,15 @@ module _ (m : Module Expr) (w : Sound m) (u : Ruled m) (old new : State) where
   turned-acts l (settles b h x o r s) = absurd (omega arith)
   turned-acts l (commits h q b p x o y z r) = absurd (omega (arith, w .threads-most))
 
-pub turned : (m : Module Expr) → Sound m → Ruled m → (old new : State) (i : ℕ) → i < length (m .threads) → Step m old new i →
+pub turned : (m : Module Expr) → Sound m → Ruled m → (old new : State) (i : ℕ) → i < length (m .threads) → {who : ℕ} →
+    Step m old new who i →
     Turned m old new i
 turned m w u old new i l s = turned-acts m w u old new l (s .acts)
 
 -- ---- what the step keeps
 
 module _ (m : Module Expr) (w : Sound m) (u : Ruled m) (old new : State) (i : ℕ) (l : i < length (m .threads))
-    (s : Step m old new i) where
+    {who : ℕ} (s : Step m old new who i) where
   pub places-kept : (j : ℕ) → j ≢ i → placeOf new j ≡ placeOf old j
   places-kept = turned m w u old new i l s .places
 
@@ -248,7 +249,7 @@ unfolding threadReads readsAt
 reads-sees m u i p v h j d = u .apart i j v (λ e. d (sym e)) (instr-any (readsAt v) refl (codeOf m i) p h)
 
 module _ (m : Module Expr) (w : Sound m) (u : Ruled m) (old new : State) (i : ℕ) (l : i < length (m .threads))
-    (s : Step m old new i) (L : Local) where
+    {who : ℕ} (s : Step m old new who i) (L : Local) where
   -- What thread i has before it and what it would have alone agree; so they do after the instruction.
   own-agree : (n : ℕ) → View m L old i n →
       Agree (Sees m i) (λ r. (r < m .scope .registers) × SeesPending m i r) (exec m (current m old i) (seen old i))

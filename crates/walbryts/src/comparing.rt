@@ -295,6 +295,8 @@ fn plan_of(o: CompareOptions, layout: Layout, sheet: &[u8]) -> Plan {
         last: false,
         told: false,
         waved: false,
+        user: 0,
+        allowances: [allowances::MOST; 4],
     }
 }
 

@@ -12,7 +12,7 @@ use options::Way;
 use plan::PlanTable;
 
 // What a run goes by: the sheet's counts and widths, the words that name the module and the inputs, the wires shown or not, only the last
-// cycle or all, how far it has come told or not, and a waveform or none.
+// cycle or all, how far it has come told or not, and a waveform or none; whose choices they are, and how many each user has.
 pub struct Plan {
     pub inputs: u8,
     pub registers: u8,
@@ -25,6 +25,8 @@ pub struct Plan {
     pub last: bool,
     pub told: bool,
     pub waved: bool,
+    pub user: u8,
+    pub allowances: [u32; 4],
 }
 
 // The widths of a sheet's variables.
@@ -38,8 +40,9 @@ pub fn widths_of(sheet: &[u8]) -> [u8; 80] {
     widths
 }
 
-// Where a run stands: the state by events, the registers by expressions, and the two rows of the last cycle.
+// Where a run stands: whose choices they are, the state by events, the registers by expressions, and the two rows of the last cycle.
 pub struct Stand {
+    pub user: u8,
     pub rest: Rest,
     pub registers: Registers,
     pub rows: [u64; 176],
@@ -58,11 +61,13 @@ fn second(row: [u64; 88]) -> [u64; 176] {
 
 // The state at the start, at rest.
 pub fn begin(p: Plan, plan: &PlanTable, way: Way) -> Stand {
-    let rest = driving::begin(plan, way);
+    let allowances = p.allowances;
+    let rest = driving::begin(plan, allowances, p.user, way);
     let st = rest.state;
     let registers = driving::registers_of(p.inputs, st);
     let rows = second(driving::row_of(st));
     Stand {
+        user: p.user,
         rest,
         registers,
         rows,
@@ -89,9 +94,10 @@ fn by_events(plan: &PlanTable, s: Stand, value: &[u32], unknown: &[bool]) -> Sta
     let before = s.rest;
     let registers = s.registers;
     let mut rows = [0u64; 176];
-    let t = driving::trace(plan, before, value, unknown, &mut rows);
+    let t = driving::trace(plan, before, s.user, value, unknown, &mut rows);
     let rest = t.rest;
     Stand {
+        user: s.user,
         rest,
         registers,
         rows,
@@ -132,6 +138,7 @@ fn by_expressions(
     };
     let rest = driving::after_expressions(old, r.number);
     Stand {
+        user: s.user,
         rest,
         registers,
         rows,

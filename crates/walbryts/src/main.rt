@@ -39,6 +39,8 @@ fn help() -> Outcome {
       --from N, --to N            show the cycles from N on, up to N
       --every N                   show every Nth of them
       --expect FILE               hold the table to a file, and say the first difference
+      --user N                    whose choices they are, 0 to 3
+      --allowance A,B,C,D         how many choices each user has
       --seed N                    choices drawn by a seed in place of the plain run
       --by-expressions            by the extracted expressions in place of events
       --last                      show only the last cycle of all

@@ -14,7 +14,7 @@ fn say_fault(fault: u8) {
         2 => {
             io::write_all(
                 STDERR_FILENO,
-                b": no such option: --wires, --inputs, --only A,B, --hex, --binary, --csv, --from N, --to N, --every N, --expect FILE, --seed N, --by-expressions, --last, --vcd FILE, --progress, --any-order, --dot, --names FILE, --verilog, --help and --version are allowed\n",
+                b": no such option: --wires, --inputs, --only A,B, --hex, --binary, --csv, --from N, --to N, --every N, --expect FILE, --seed N, --user N, --allowance A,B,C,D, --by-expressions, --last, --vcd FILE, --progress, --any-order, --dot, --names FILE, --verilog, --help and --version are allowed\n",
             );
         }
         3 => {

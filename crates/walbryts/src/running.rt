@@ -18,6 +18,7 @@ use crate::say::say;
 use crate::showing::extracted;
 use crate::wave;
 use crate::wave::Wave;
+use allowances::Allowances;
 use clock_nodes::RowTable;
 use clock_steps::RowNumbers;
 use driving::Ending;
@@ -510,7 +511,7 @@ fn run_on(
 }
 
 // What a run goes by.
-fn plan_of(o: RunOptions, layout: Layout, sheet: &[u8]) -> Plan {
+fn plan_of(o: RunOptions, layout: Layout, sheet: &[u8], allowances: [u32; 4]) -> Plan {
     let widths = machine::widths_of(sheet);
     let shape = o.shape;
     Plan {
@@ -525,7 +526,22 @@ fn plan_of(o: RunOptions, layout: Layout, sheet: &[u8]) -> Plan {
         last: shape.last,
         told: o.progress,
         waved: o.vcd != 0,
+        user: allowances::user_of(o.user),
+        allowances,
     }
+}
+
+// How many choices each user has, by the word that says it.
+fn allowances_at(index: usize) -> Allowances {
+    if index == 0 {
+        return Allowances {
+            good: true,
+            each: [allowances::MOST; 4],
+        };
+    }
+    let mut word = io::buffer();
+    let n = os::arg(index, &mut word);
+    allowances::allowances_of(&word[..n])
 }
 
 // The run, by the name of its waveform from a place on.
@@ -567,6 +583,15 @@ pub fn run(
     layout: Layout,
     names: &[u8; 2560],
 ) -> Outcome {
+    let a = allowances_at(o.allowance);
+    if !a.good {
+        report::wrong_with(
+            o.allowance,
+            b": no allowances: four numbers from 0 to 4294967295 with commas between them are allowed\n",
+            0,
+        );
+        return Outcome::Mistaken;
+    }
     let fd = open_input(o.inputs);
     if fd < 0 {
         return Outcome::Mistaken;
@@ -576,9 +601,10 @@ pub fn run(
     if !target.good {
         return Outcome::Mistaken;
     }
+    let each = a.each;
     run_to(
         o,
-        plan_of(o, layout, sheet),
+        plan_of(o, layout, sheet, each),
         sheet,
         names,
         fd,

@@ -1,5 +1,5 @@
 -- How long is long enough (long-enough): from any state that fits, the plain run comes to quiet or to a commit within all threads'
--- instructions and the wires, while the count lasts. Assumes nothing.
+-- instructions and the wires, while the user's allowance lasts. Assumes nothing.
 use Prim.Native.Nat.{ℕ, zero, suc, _+_, _-_, _≤_, _<_}
 use mathlib.Core.Path.{_≡_, refl, ap, _∙_, subst}
 use mathlib.Core.Logic.{_≢_, inl, inr}
@@ -10,7 +10,7 @@ use lib.ListN.{length}
 use Rattle.sheet.specs.Expression.{Expr}
 use Rattle.sheet.specs.Module.{Module}
 use Rattle.state.specs.declared.State.{State}
-use Rattle.state.specs.State.{Shaped, full, isDue}
+use Rattle.state.specs.State.{Shaped, users, countOf, allowanceOf, isDue}
 use Rattle.soundness.specs.Soundness.{Sound}
 use Rattle.events.specs.Cycle.{codeOf, isWait, enabled, quiet}
 use Rattle.events.specs.Calls.{chooseIn, runBy, plainChoice}
@@ -34,7 +34,7 @@ use Rattle.phases.proofs.Counting.{oneMore, more-own, more-other, steps-more, s
 use Rattle.work.proofs.Turns.{Long, next, commit-there, long-back, lower-idle}
 use Rattle.work.proofs.Storing.{idle-thread, idle-wire}
 
-module _ (m : Module Expr) (w : Sound m) (R : Ruled m) where
+module _ (m : Module Expr) (w : Sound m) (R : Ruled m) (who : ℕ) (four : who < users) where
   -- At most q choices are ahead: threads are on their ways, or all are at waits and the wires below b are done.
   data Ahead (q : ℕ) (u : State) : Type 0 where
     on-ways : (start : ℕ → Local) (steps : ℕ → ℕ) → ((i : ℕ) → i < length (m .threads) → start i .place < length (codeOf m i)) →
@@ -55,7 +55,7 @@ module _ (m : Module Expr) (w : Sound m) (R : Ruled m) where
   Fewer q new = (p : ℕ) × (p < q) × Ahead p new
 
   module _ (old new : State) (q : ℕ) where
-    ahead-thread : (i : ℕ) → i < length (m .threads) → Step m old new i → Ahead q old → Fewer q new
+    ahead-thread : (i : ℕ) → i < length (m .threads) → Step m old new who i → Ahead q old → Fewer q new
     ahead-thread i l s (at-waits b still clear e) = absurd-bool (still i l) (turned m w R old new i l s .runs)
     ahead-thread i l s (on-ways start steps inside view e) =
         let more = steps-more steps i (length (m .threads)) l in
@@ -68,7 +68,7 @@ module _ (m : Module Expr) (w : Sound m) (R : Ruled m) where
         by j h (no d) =
             rw (more-other steps i j d) (view-other m w R old new i l s (start j) j (steps j) d (view j h))
 
-    module _ (k : ℕ) (l : k < length (m .wires)) (s : Step m old new (length (m .threads) + k))
+    module _ (k : ℕ) (l : k < length (m .wires)) (s : Step m old new who (length (m .threads) + k))
         (idle : (c : ℕ) → c < length (m .threads) + k → enabled m old c ≡ false) where
       abbrev x : WireStep m old new k
       x = wire-kept m w R old new k l s
@@ -95,7 +95,7 @@ module _ (m : Module Expr) (w : Sound m) (R : Ruled m) where
 
   -- ---- the run
 
-  comes : (n q : ℕ) (u : State) → Shaped u → Ahead q u → q < n → u .counters .count + q < full → Long m n u
+  comes : (n q : ℕ) (u : State) → Shaped u → Ahead q u → q < n → countOf u who + q < allowanceOf u who → Long m who n u
   unfolding runBy
   comes zero q u s A l room = absurd (omega arith)
   comes (suc n) q u s A l room = by (quiet m u) refl (comes n)
@@ -103,34 +103,35 @@ module _ (m : Module Expr) (w : Sound m) (R : Ruled m) where
       c : ℕ
       c = plainChoice m u
 
-      z : quiet m u ≡ false → chooseIn m u c .number ≡ 0
-      z h = plain-refusal m u w h ∙ spend-zero (u .counters .count) (λ e. omega arith)
+      z : quiet m u ≡ false → chooseIn m u who c .number ≡ 0
+      z h = plain-refusal m u who w four h ∙ spend-zero u who (omega arith)
 
-      step : (h : quiet m u ≡ false) → Step m u (next m u) c
-      step h = step-chooseIn m w u s c (z h)
+      step : (h : quiet m u ≡ false) → Step m u (next m who u) who c
+      step h = step-chooseIn m w u s who c (z h)
 
-      on : ((q : ℕ) (v : State) → Shaped v → Ahead q v → q < n → v .counters .count + q < full → Long m n v) →
-          quiet m u ≡ false → Fewer q (next m u) → Long m n (next m u)
+      on : ((q : ℕ) (v : State) → Shaped v → Ahead q v → q < n → countOf v who + q < allowanceOf v who → Long m who n v) →
+          quiet m u ≡ false → Fewer q (next m who u) → Long m who n (next m who u)
       on ih h f =
           let p = f .0 in
           let less : p < q = f .1 in
-          ih p (next m u) (shaped-chooseIn m u c s) (f .2) (omega arith) (omega (arith, step h .count))
+          ih p (next m who u) (shaped-chooseIn m u who c s) (f .2) (omega arith) (omega (arith, step h .count, step h .allowances who))
 
-      ready : ((q : ℕ) (v : State) → Shaped v → Ahead q v → q < n → v .counters .count + q < full → Long m n v) →
-          (h : quiet m u ≡ false) {d : ℕ} → Ready m u d → c ≡ d → Long m (suc n) u
+      ready : ((q : ℕ) (v : State) → Shaped v → Ahead q v → q < n → countOf v who + q < allowanceOf v who → Long m who n v) →
+          (h : quiet m u ≡ false) {d : ℕ} → Ready m u d → c ≡ d → Long m who (suc n) u
       ready ih h (thread-ready {i = i} b t) e =
-          long-back m n u h (z h) i e (λ x. omega (arith, w .threads-most))
-          (on ih h (ahead-thread u (next m u) q i b (subst (λ d. Step m u (next m u) d) e (step h)) A))
+          long-back m who n u h (z h) i e (λ x. omega (arith, w .threads-most))
+          (on ih h (ahead-thread u (next m who u) q i b (subst (λ d. Step m u (next m who u) who d) e (step h)) A))
       ready ih h (wire-ready {k = k} b t) e =
           let d = length (m .threads) + k in
           let small : d ≢ 255 = λ x. omega (arith, w .threads-most, w .wires-most) in
-          long-back m n u h (z h) d e small
+          long-back m who n u h (z h) d e small
           (on ih h
-          (ahead-wire u (next m u) q k b (subst (λ d. Step m u (next m u) d) e (step h)) (lower-idle m u d e small) A))
-      ready ih h (commit-ready t p b y) e = inr (commit-there m n u h (z h) e .2)
+          (ahead-wire u (next m who u) q k b (subst (λ d. Step m u (next m who u) who d) e (step h)) (lower-idle m who u d e small) A))
+      ready ih h (commit-ready t p b y) e = inr (commit-there m who n u h (z h) e .2)
 
       by : (t : Bool) → quiet m u ≡ t →
-          ((q : ℕ) (v : State) → Shaped v → Ahead q v → q < n → v .counters .count + q < full → Long m n v) → Long m (suc n) u
+          ((q : ℕ) (v : State) → Shaped v → Ahead q v → q < n → countOf v who + q < allowanceOf v who → Long m who n v) →
+          Long m who (suc n) u
       by true h ih = inl (rw h refl)
       by false h ih = ready ih h (plain-ready m u h) refl
 
@@ -141,5 +142,5 @@ module _ (m : Module Expr) (w : Sound m) (R : Ruled m) where
       (rw (steps-none (length (m .threads))) (omega arith))
 
   pub long-enough : (n : ℕ) (u : State) → Shaped u → Fits m u → allInstructions m + length (m .wires) < n →
-      u .counters .count + allInstructions m + length (m .wires) < full → Long m n u
+      countOf u who + allInstructions m + length (m .wires) < allowanceOf u who → Long m who n u
   long-enough n u s F l room = comes n (allInstructions m + length (m .wires)) u s (starts u F) l (omega arith)

@@ -111,13 +111,13 @@ module _ (m : Module Expr) (w : Sound m) where
           wires = λ k b. o (wireVariable m k) (λ d. absurd (omega (arith, d .1)));
         }
 
-    pub commit-fresh : Step m old new 255 → Fresh m (valueOf old) new
+    pub commit-fresh : {who : ℕ} → Step m old new who 255 → Fresh m (valueOf old) new
     commit-fresh s = commit-acts refl (s .acts)
 
-module _ (m : Module Expr) (w : Sound m) (R : Ruled m) (f : ℕ → Value) where
+module _ (m : Module Expr) (w : Sound m) (R : Ruled m) (who : ℕ) (f : ℕ → Value) where
   -- ---- a thread's step keeps a state fresh
 
-  fresh-thread : (old new : State) (i : ℕ) → i < length (m .threads) → Step m old new i → Fresh m f old → Fresh m f new
+  fresh-thread : (old new : State) (i : ℕ) → i < length (m .threads) → Step m old new who i → Fresh m f old → Fresh m f new
   unfolding wireVariable wireReads
   fresh-thread old new i l s F =
       record {
@@ -143,7 +143,7 @@ module _ (m : Module Expr) (w : Sound m) (R : Ruled m) (f : ℕ → Value) where
       subst (λ x. Marked m old new (isDue old j && not (eqb j x)) j) same (r .wires j)
   wire-reacted old new k j b e (commits h q l p v o x y r) = absurd (omega (arith, w .threads-most, w .wires-most))
 
-  module _ (old new : State) (k b : ℕ) (l : k < length (m .wires)) (s : Step m old new (length (m .threads) + k))
+  module _ (old new : State) (k b : ℕ) (l : k < length (m .wires)) (s : Step m old new who (length (m .threads) + k))
       (idle : (c : ℕ) → c < length (m .threads) + k → enabled m old c ≡ false) (P : Passed m f old b) where
     abbrev x : WireStep m old new k
     x = wire-kept m w R old new k l s
@@ -218,54 +218,57 @@ module _ (m : Module Expr) (w : Sound m) (R : Ruled m) (f : ℕ → Value) where
       readers-none m f b (length (m .wires)) (valueOf u) (P .most) (λ k a c. sym (P .marks k a c) ∙ none-due m u h k c)
 
   abbrev Rest : ℕ → Type 0
-  Rest n = (u : State) → Shaped u → (b : ℕ) → Passed m f u b → Long m n u →
-      readersBelow m b f (valueOf u) ++ stored m n u ≡ readers m f (valueOf (end m n u))
+  Rest n = (u : State) → Shaped u → (b : ℕ) → Passed m f u b → Long m who n u →
+      readersBelow m b f (valueOf u) ++ stored m who n u ≡ readers m f (valueOf (end m who n u))
 
-  wires-rest : (n : ℕ) (u : State) (b : ℕ) → anyEnabled m u ≡ false → stored m n u ≡ [] → end m n u ≡ u → Passed m f u b →
-      readersBelow m b f (valueOf u) ++ stored m n u ≡ readers m f (valueOf (end m n u))
+  wires-rest : (n : ℕ) (u : State) (b : ℕ) → anyEnabled m u ≡ false → stored m who n u ≡ [] → end m who n u ≡ u → Passed m f u b →
+      readersBelow m b f (valueOf u) ++ stored m who n u ≡ readers m f (valueOf (end m who n u))
   unfolding readers
   wires-rest n u b h e t P = rw (e, t) (append-nil (readersBelow m b f (valueOf u)) ∙ sym (all-passed u b h P))
 
-  wires-turn : (n : ℕ) → Rest n → (u : State) → Shaped u → (b : ℕ) → Passed m f u b → Turn m (suc n) u →
-      readersBelow m b f (valueOf u) ++ stored m (suc n) u ≡ readers m f (valueOf (end m (suc n) u))
+  wires-turn : (n : ℕ) → Rest n → (u : State) → Shaped u → (b : ℕ) → Passed m f u b → Turn m who (suc n) u →
+      readersBelow m b f (valueOf u) ++ stored m who (suc n) u ≡ readers m f (valueOf (end m who (suc n) u))
   wires-turn n ih u s b P (rests h e t) = wires-rest (suc n) u b h e t P
-  wires-turn n ih u s b P (thread i l step e t g) = absurd-bool (P .still i l) (turned m w R u (next m u) i l step .runs)
+  wires-turn n ih u s b P (thread i l step e t g) = absurd-bool (P .still i l) (turned m w R u (next m who u) i l step .runs)
   wires-turn n ih u s b P (wire k l step idle e t g) =
-      let new = next m u in
+      let new = next m who u in
       let done = readersBelow m b f (valueOf u) in
-      let on = ih new (shaped-chooseIn m u (plainChoice m u) s) (suc k) (passed-wire u new k b l step idle P) g in
-      ap (λ c. done ++ c) e ∙ sym (append-assoc done (k ∷ []) (stored m n new))
-      ∙ ap (λ c. c ++ stored m n new) (sym (next-reader u new k b l step idle P)) ∙ on ∙ ap (λ v. readers m f (valueOf v)) (sym t)
+      let on = ih new (shaped-chooseIn m u who (plainChoice m u) s) (suc k) (passed-wire u new k b l step idle P) g in
+      ap (λ c. done ++ c) e ∙ sym (append-assoc done (k ∷ []) (stored m who n new))
+      ∙ ap (λ c. c ++ stored m who n new) (sym (next-reader u new k b l step idle P)) ∙ on ∙ ap (λ v. readers m f (valueOf v)) (sym t)
 
-  wires-zero : (u : State) (b : ℕ) → Passed m f u b → Turn m 0 u →
-      readersBelow m b f (valueOf u) ++ stored m 0 u ≡ readers m f (valueOf (end m 0 u))
+  wires-zero : (u : State) (b : ℕ) → Passed m f u b → Turn m who 0 u →
+      readersBelow m b f (valueOf u) ++ stored m who 0 u ≡ readers m f (valueOf (end m who 0 u))
   wires-zero u b P (rests h e t) = wires-rest 0 u b h e t P
 
   stores-rest : (n : ℕ) → Rest n
-  stores-rest zero u s b P h = wires-zero u b P (turn m w zero u s h)
-  stores-rest (suc n) u s b P h = wires-turn n (stores-rest n) u s b P (turn m w (suc n) u s h)
+  stores-rest zero u s b P h = wires-zero u b P (turn m who w zero u s h)
+  stores-rest (suc n) u s b P h = wires-turn n (stores-rest n) u s b P (turn m who w (suc n) u s h)
 
   -- From a fresh state.
-  fresh-rest : (n : ℕ) (u : State) → anyEnabled m u ≡ false → stored m n u ≡ [] → end m n u ≡ u → Fresh m f u →
-      stored m n u ≡ readers m f (valueOf (end m n u))
+  fresh-rest : (n : ℕ) (u : State) → anyEnabled m u ≡ false → stored m who n u ≡ [] → end m who n u ≡ u → Fresh m f u →
+      stored m who n u ≡ readers m f (valueOf (end m who n u))
   unfolding items readersBelow
   fresh-rest n u h e t F =
       wires-rest n u 0 h e t (fresh-passed m f u (λ i l. idle-thread m u i l (none-enabled m u h i (omega arith))) F)
 
-  fresh-turn : (n : ℕ) → ((u : State) → Shaped u → Fresh m f u → Long m n u → stored m n u ≡ readers m f (valueOf (end m n u))) →
-      (u : State) → Shaped u → Fresh m f u → Long m (suc n) u → Turn m (suc n) u →
-      stored m (suc n) u ≡ readers m f (valueOf (end m (suc n) u))
+  fresh-turn : (n : ℕ) →
+      ((u : State) → Shaped u → Fresh m f u → Long m who n u → stored m who n u ≡ readers m f (valueOf (end m who n u))) →
+      (u : State) → Shaped u → Fresh m f u → Long m who (suc n) u → Turn m who (suc n) u →
+      stored m who (suc n) u ≡ readers m f (valueOf (end m who (suc n) u))
   unfolding readersBelow
   fresh-turn n ih u s F h (rests a e t) = fresh-rest (suc n) u a e t F
   fresh-turn n ih u s F h (thread i l step e t g) =
-      let new = next m u in
-      e ∙ ih new (shaped-chooseIn m u (plainChoice m u) s) (fresh-thread u new i l step F) g ∙ ap (λ v. readers m f (valueOf v)) (sym t)
+      let new = next m who u in
+      e ∙ ih new (shaped-chooseIn m u who (plainChoice m u) s) (fresh-thread u new i l step F) g
+      ∙ ap (λ v. readers m f (valueOf v)) (sym t)
   fresh-turn n ih u s F h (wire k l step idle e t g) =
       stores-rest (suc n) u s 0 (fresh-passed m f u (λ i b. idle-thread m u i b (idle i (omega arith))) F) h
 
-  fresh-zero : (u : State) → Fresh m f u → Turn m 0 u → stored m 0 u ≡ readers m f (valueOf (end m 0 u))
+  fresh-zero : (u : State) → Fresh m f u → Turn m who 0 u → stored m who 0 u ≡ readers m f (valueOf (end m who 0 u))
   fresh-zero u F (rests h e t) = fresh-rest 0 u h e t F
 
-  pub stores-readers : (n : ℕ) (u : State) → Shaped u → Fresh m f u → Long m n u → stored m n u ≡ readers m f (valueOf (end m n u))
-  stores-readers zero u s F h = fresh-zero u F (turn m w zero u s h)
-  stores-readers (suc n) u s F h = fresh-turn n (stores-readers n) u s F h (turn m w (suc n) u s h)
+  pub stores-readers :
+      (n : ℕ) (u : State) → Shaped u → Fresh m f u → Long m who n u → stored m who n u ≡ readers m f (valueOf (end m who n u))
+  stores-readers zero u s F h = fresh-zero u F (turn m who w zero u s h)
+  stores-readers (suc n) u s F h = fresh-turn n (stores-readers n) u s F h (turn m who w (suc n) u s h)

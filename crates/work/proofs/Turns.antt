@@ -27,47 +27,47 @@ use Rattle.events.proofs.Steps.{step-chooseIn}
 use Rattle.events.proofs.Runs.{resting-accepted, resting-refused, plain-lowest, plain-commit, plain-ready}
 use Rattle.work.specs.Work.{hasCommit, upToCommit, wiresOf}
 
-module _ (m : Module Expr) where
+module _ (m : Module Expr) (who : ℕ) where
   abbrev pub choices : ℕ → State → List ℕ
-  choices n u = choicesBy m (plainChoice m) n u
+  choices n u = choicesBy m who (plainChoice m) n u
 
   -- As on the claim's page, of the run in the module.
   abbrev pub Long : ℕ → State → Type 0
-  Long n u = (runBy m (plainChoice m) n u .verdict ≡ Quiet) ⊎ (hasCommit (choices n u) ≡ true)
+  Long n u = (runBy m who (plainChoice m) n u .verdict ≡ Quiet) ⊎ (hasCommit (choices n u) ≡ true)
 
   abbrev pub stored : ℕ → State → List ℕ
   stored n u = wiresOf m (upToCommit (choices n u))
 
   abbrev pub end : ℕ → State → State
-  end n u = runBy m (plainChoice m) (length (upToCommit (choices n u))) u .state
+  end n u = runBy m who (plainChoice m) (length (upToCommit (choices n u))) u .state
 
   abbrev pub next : State → State
-  next u = chooseIn m u (plainChoice m u) .state
+  next u = chooseIn m u who (plainChoice m u) .state
 
   pub data Turn : ℕ → State → Type 0 where
     rests : {n : ℕ} {u : State} → anyEnabled m u ≡ false → stored n u ≡ [] → end n u ≡ u → Turn n u
-    thread : {n : ℕ} {u : State} (i : ℕ) → i < length (m .threads) → Step m u (next u) i →
+    thread : {n : ℕ} {u : State} (i : ℕ) → i < length (m .threads) → Step m u (next u) who i →
         stored (suc n) u ≡ stored n (next u) → end (suc n) u ≡ end n (next u) → Long n (next u) → Turn (suc n) u
-    wire : {n : ℕ} {u : State} (k : ℕ) → k < length (m .wires) → Step m u (next u) (length (m .threads) + k) →
+    wire : {n : ℕ} {u : State} (k : ℕ) → k < length (m .wires) → Step m u (next u) who (length (m .threads) + k) →
         ((c : ℕ) → c < length (m .threads) + k → enabled m u c ≡ false) →
         stored (suc n) u ≡ k ∷ stored n (next u) → end (suc n) u ≡ end n (next u) → Long n (next u) → Turn (suc n) u
 
   -- ---- a choice that is accepted
 
-  module _ (n : ℕ) (u : State) (q : quiet m u ≡ false) (z : chooseIn m u (plainChoice m u) .number ≡ 0) where
+  module _ (n : ℕ) (u : State) (q : quiet m u ≡ false) (z : chooseIn m u who (plainChoice m u) .number ≡ 0) where
     pub choices-goes : choices (suc n) u ≡ plainChoice m u ∷ choices n (next u)
     unfolding choicesBy
-    choices-goes = rw (q, eq-eqb (chooseIn m u (plainChoice m u) .number) 0 z) refl
+    choices-goes = rw (q, eq-eqb (chooseIn m u who (plainChoice m u) .number) 0 z) refl
 
     pub run-goes : (p : ℕ) →
-        runBy m (plainChoice m) (suc p) u
+        runBy m who (plainChoice m) (suc p) u
         ≡ record {
-          accepted = runBy m (plainChoice m) p (next u) .accepted + 1;
-          verdict = runBy m (plainChoice m) p (next u) .verdict;
-          state = runBy m (plainChoice m) p (next u) .state;
+          accepted = runBy m who (plainChoice m) p (next u) .accepted + 1;
+          verdict = runBy m who (plainChoice m) p (next u) .verdict;
+          state = runBy m who (plainChoice m) p (next u) .state;
         }
     unfolding runBy
-    run-goes p = rw (q, resting-accepted u (chooseIn m u (plainChoice m u)) (runBy m (plainChoice m) p (next u)) z) refl
+    run-goes p = rw (q, resting-accepted u (chooseIn m u who (plainChoice m u)) (runBy m who (plainChoice m) p (next u)) z) refl
 
     -- It is the commit.
     pub commit-there : plainChoice m u ≡ 255 → (stored (suc n) u ≡ []) × (end (suc n) u ≡ u) × (hasCommit (choices (suc n) u) ≡ true)
@@ -75,7 +75,7 @@ module _ (m : Module Expr) where
     commit-there e =
         let up : choices (suc n) u ≡ 255 ∷ choices n (next u) = choices-goes ∙ ap (λ c. c ∷ choices n (next u)) e in (
           ap (λ (l : List ℕ). wiresOf m (upToCommit l)) up,
-          ap (λ (l : List ℕ). runBy m (plainChoice m) (length (upToCommit l)) u .state) up,
+          ap (λ (l : List ℕ). runBy m who (plainChoice m) (length (upToCommit l)) u .state) up,
           ap hasCommit up,
         )
 
@@ -87,7 +87,7 @@ module _ (m : Module Expr) where
 
       end-goes : end (suc n) u ≡ end n (next u)
       end-goes =
-          ap (λ (l : List ℕ). runBy m (plainChoice m) (length l) u .state) up-to
+          ap (λ (l : List ℕ). runBy m who (plainChoice m) (length l) u .state) up-to
           ∙ ap (λ (r : Rested). r .state) (run-goes (length (upToCommit (choices n (next u)))))
 
       pub long-goes : Long (suc n) u → Long n (next u)
@@ -112,20 +112,20 @@ module _ (m : Module Expr) where
 
   -- ---- a choice that is refused: the run is not long enough
 
-  module _ (n : ℕ) (u : State) (q : quiet m u ≡ false) (d : chooseIn m u (plainChoice m u) .number ≢ 0) where
-    verdict-refused : runBy m (plainChoice m) (suc n) u .verdict ≡ Stopped (chooseIn m u (plainChoice m u) .number)
+  module _ (n : ℕ) (u : State) (q : quiet m u ≡ false) (d : chooseIn m u who (plainChoice m u) .number ≢ 0) where
+    verdict-refused : runBy m who (plainChoice m) (suc n) u .verdict ≡ Stopped (chooseIn m u who (plainChoice m u) .number)
     unfolding runBy
     verdict-refused =
-        rw (q, resting-refused u (chooseIn m u (plainChoice m u)) (runBy m (plainChoice m) n (next u)) d) refl
+        rw (q, resting-refused u (chooseIn m u who (plainChoice m u)) (runBy m who (plainChoice m) n (next u)) d) refl
 
     choices-refused : choices (suc n) u ≡ []
     unfolding choicesBy
-    choices-refused = rw (q, ne-eqb (chooseIn m u (plainChoice m u) .number) 0 d) refl
+    choices-refused = rw (q, ne-eqb (chooseIn m u who (plainChoice m u) .number) 0 d) refl
 
     refused : Long (suc n) u → ⊥
     unfolding hasCommit
     refused (inl x) =
-        let y : Stopped (chooseIn m u (plainChoice m u) .number) ≡ Quiet = sym verdict-refused ∙ x in
+        let y : Stopped (chooseIn m u who (plainChoice m u) .number) ≡ Quiet = sym verdict-refused ∙ x in
         let o : _≡_ {A = ℕ} 0 1 = cc in
         omega arith
     refused (inr x) = absurd-bool x (ap hasCommit choices-refused)
@@ -137,7 +137,7 @@ module _ (m : Module Expr) where
     unfolding upToCommit wiresOf runBy
     nothing-taken h = (
       ap (λ (l : List ℕ). wiresOf m (upToCommit l)) h,
-      ap (λ (l : List ℕ). runBy m (plainChoice m) (length (upToCommit l)) u .state) h,
+      ap (λ (l : List ℕ). runBy m who (plainChoice m) (length (upToCommit l)) u .state) h,
     )
 
   -- ---- the lowest enabled item
@@ -167,17 +167,17 @@ module _ (m : Module Expr) where
     turn (suc n) u s h = by (quiet m u) refl (ℕ-discrete (r .number) 0)
       where
         r : Chosen
-        r = chooseIn m u (plainChoice m u)
+        r = chooseIn m u who (plainChoice m u)
 
         ready : quiet m u ≡ false → r .number ≡ 0 → {c : ℕ} → Ready m u c → plainChoice m u ≡ c → Turn (suc n) u
         ready q z (thread-ready {i = i} l x) e =
             let d = small-thread l in
-            thread i l (subst (λ c. Step m u (next u) c) e (step-chooseIn m w u s (plainChoice m u) z))
+            thread i l (subst (λ c. Step m u (next u) who c) e (step-chooseIn m w u s who (plainChoice m u) z))
             (stored-thread n u q z i e d l) (end-goes n u q z i e d) (long-goes n u q z i e d h)
         ready q z (wire-ready {k = k} l x) e =
             let c = length (m .threads) + k in
             let d = small k refl l in
-            wire k l (subst (λ c. Step m u (next u) c) e (step-chooseIn m w u s (plainChoice m u) z)) (lower-idle u c e d)
+            wire k l (subst (λ c. Step m u (next u) who c) e (step-chooseIn m w u s who (plainChoice m u) z)) (lower-idle u c e d)
             (stored-wire n u q z c e d k refl) (end-goes n u q z c e d) (long-goes n u q z c e d h)
         ready q z (commit-ready x p l y) e = let t = commit-there n u q z e in rests (enabled-none m u x) (t .0) (t .1)
 

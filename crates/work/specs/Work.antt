@@ -14,7 +14,7 @@ use Rattle.sheet.specs.Reading.{ok}
 use Rattle.sheet.specs.Expression.{Expr}
 use Rattle.sheet.specs.Module.{Module, read}
 use Rattle.state.specs.declared.State.{State}
-use Rattle.state.specs.State.{Shaped, full, valueOf}
+use Rattle.state.specs.State.{Shaped, users, countOf, allowanceOf, valueOf}
 use Rattle.events.specs.declared.Inputs.{Inputs}
 use Rattle.events.specs.declared.Verdict.the-variants.{Quiet}
 use Rattle.events.specs.Cycle.{wireExpr, touched}
@@ -54,41 +54,43 @@ module _ (m : Module Expr) where
   readerCount zero f g = 0
   readerCount (suc k) f g = readerCount k f g + one (touched m (wireExpr m k) f g)
 
--- ---- the plain run of at most n choices from a state
+-- ---- the plain run of at most n choices of user u from a state
 
-module _ (s : List ℕ) (m : Module Expr) (st : State) (n : ℕ) where
+module _ (s : List ℕ) (m : Module Expr) (u : ℕ) (st : State) (n : ℕ) where
   abbrev pub taken : List ℕ
-  taken = choicesBy m (plainChoice m) n st
+  taken = choicesBy m u (plainChoice m) n st
 
   -- "long enough to reach quiet or the next commit"
   abbrev pub LongEnough : Type 0
-  LongEnough = (runPlain s st n .verdict ≡ Quiet) ⊎ (hasCommit taken ≡ true)
+  LongEnough = (runPlain s st u n .verdict ≡ Quiet) ⊎ (hasCommit taken ≡ true)
 
   -- What it "stores up to there", and the state there.
   abbrev pub stores : List ℕ
   stores = wiresOf m (upToCommit taken)
 
   abbrev pub there : State
-  there = runPlain s st (length (upToCommit taken)) .state
+  there = runPlain s st u (length (upToCommit taken)) .state
 
 -- ---- the claim. "changed" counts from before the instant or the commit that the run follows.
 
-pub record Exact (s : List ℕ) (m : Module Expr) (before after : State) : Type 0 where
-  pub exact : (n : ℕ) → LongEnough s m after n → stores s m after n ≡ readers m (valueOf before) (valueOf (there s m after n))
+pub record Exact (s : List ℕ) (m : Module Expr) (u : ℕ) (before after : State) : Type 0 where
+  pub exact : (n : ℕ) → LongEnough s m u after n → stores s m u after n ≡ readers m (valueOf before) (valueOf (there s m u after n))
   -- "Setters plan desk runs by wire stores": so many.
-  pub count : (n : ℕ) → LongEnough s m after n →
-      length (stores s m after n) ≡ readerCount m (length (m .wires)) (valueOf before) (valueOf (there s m after n))
-  -- All threads' instructions, the wires and the commit are long enough, while the count lasts.
+  pub count : (n : ℕ) → LongEnough s m u after n →
+      length (stores s m u after n) ≡ readerCount m (length (m .wires)) (valueOf before) (valueOf (there s m u after n))
+  -- All threads' instructions, the wires and the commit are long enough, while the user's allowance lasts.
   pub enough : (n : ℕ) → allInstructions m + length (m .wires) < n →
-      after .counters .count + allInstructions m + length (m .wires) < full → LongEnough s m after n
+      countOf after u + allInstructions m + length (m .wires) < allowanceOf after u → LongEnough s m u after n
 
 pub record WorkOf (s : List ℕ) : Type 0 where
   pub m : Module Expr
   pub reads : read s ≡ ok m
   -- "after a change of inputs on a quiet state": an accepted instant
-  pub instants : (st : State) → Shaped st → (a : Inputs) → instant s st a .number ≡ 0 → Exact s m st (instant s st a .state)
-  -- "or after a commit": an accepted one
-  pub commits : (st : State) → Shaped st → choose s st 255 .number ≡ 0 → Exact s m st (choose s st 255 .state)
+  pub instants : (st : State) → Shaped st → (a : Inputs) → instant s st a .number ≡ 0 → (u : ℕ) → u < users →
+      Exact s m u st (instant s st a .state)
+  -- "or after a commit": an accepted one, of any user
+  pub commits : (st : State) → Shaped st → (v : ℕ) → choose s st v 255 .number ≡ 0 → (u : ℕ) → u < users →
+      Exact s m u st (choose s st v 255 .state)
 
 abbrev pub Work : Type 0
 Work = (s ns rs : List ℕ) → extract s ns rs .number ≡ 0 → WorkOf s

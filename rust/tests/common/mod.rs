@@ -2,7 +2,10 @@
 
 #![allow(dead_code)]
 
-use walbryts::Sheet;
+use walbryts::{Sheet, USERS};
+
+/// The greatest allowance for each user.
+pub const MOST: [u32; USERS] = [u32::MAX; USERS];
 
 pub const FLIP_FLOP: [u8; 16] = [2, 1, 0, 1, 1, 8, 8, 0x0C, 0x10, 1, 1, 0, 0x23, 2, 2, 1];
 pub const WATCHDOG: &str = include_str!("../../../tests/data/watchdog.hex");

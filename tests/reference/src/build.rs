@@ -3,7 +3,7 @@
 use crate::encode::encode;
 use crate::module::{Edge, Expr, Module, Operator, Stmt, Term};
 use crate::sheet::{Refusal, read};
-use crate::state::{Slot, State};
+use crate::state::{MOST, Slot, State};
 use crate::value::Value;
 
 pub const CLK: u8 = 0;
@@ -74,7 +74,7 @@ pub fn module(
 /// The state in which the variables from 0 up have these values, nothing is due and all
 /// places are 0.
 pub fn state(values: &[Option<u32>]) -> State {
-    let mut state = State::start(0);
+    let mut state = State::start(0, MOST);
     for (slot, &value) in state.values.iter_mut().zip(values) {
         *slot = value.map_or(Slot::X, Slot::known);
     }

@@ -5,29 +5,33 @@ use crate::machine::number;
 use crate::module::Module;
 use crate::sheet::Refusal;
 use crate::simulator::{PlainRun, Simulator, number_of};
-use crate::state::{Slot, State};
+use crate::state::{Slot, State, USERS};
 
 /// Each gives its number, 0 where nothing was refused; the state becomes the one that the
-/// call hands back.
+/// call hands back. A choice and a run have a user.
 pub trait Calls {
-    fn start(&self, state: &mut State) -> u8;
-    fn choose(&self, state: &mut State, choice: u8) -> u8;
+    fn start(&self, state: &mut State, allowances: [u32; USERS]) -> u8;
+    fn choose(&self, state: &mut State, user: u8, choice: u8) -> u8;
     /// How many choices were accepted, and the number.
-    fn run(&self, state: &mut State, choices: &[u8]) -> (usize, u8);
-    fn run_plain(&self, state: &mut State, limit: u16) -> PlainRun;
+    fn run(&self, state: &mut State, user: u8, choices: &[u8]) -> (usize, u8);
+    fn run_plain(&self, state: &mut State, user: u8, limit: u16) -> PlainRun;
     /// All inputs, the clock first.
     fn instant(&self, state: &mut State, inputs: &[Slot]) -> u8;
 
     /// Clock cycles by events, the inputs from 1 up: for each row an instant with the clock low
     /// and one with the clock high, each with a plain run after it, up to the first that is refused
-    /// or stopped; how many instants were done, and the number.
-    fn run_cycles(&self, state: &mut State, inputs: &[Vec<Slot>]) -> (usize, u8) {
+    /// or stopped; how many instants were done, and the number. 1 to 11, 31 and 46 come first.
+    fn run_cycles(&self, state: &mut State, user: u8, inputs: &[Vec<Slot>]) -> (usize, u8) {
+        let number = self.run_plain(state, user, 0).number;
+        if number != 0 {
+            return (0, number);
+        }
         let mut done = 0;
         for row in inputs {
             for clock in [0, 1] {
                 let all = [&[Slot::known(clock)], &row[..]].concat();
                 let number = match self.instant(state, &all) {
-                    0 => self.run_plain(state, u16::MAX).number,
+                    0 => self.run_plain(state, user, u16::MAX).number,
                     number => number,
                 };
                 if number != 0 {
@@ -82,21 +86,21 @@ impl<'a> Reference<'a> {
 }
 
 impl Calls for Reference<'_> {
-    fn start(&self, state: &mut State) -> u8 {
-        number_of(self.simulator.start().map(|start| *state = start))
+    fn start(&self, state: &mut State, allowances: [u32; USERS]) -> u8 {
+        number_of(self.simulator.start(allowances).map(|start| *state = start))
     }
 
-    fn choose(&self, state: &mut State, choice: u8) -> u8 {
-        number_of(self.simulator.choose(state, choice))
+    fn choose(&self, state: &mut State, user: u8, choice: u8) -> u8 {
+        number_of(self.simulator.choose(state, user, choice))
     }
 
-    fn run(&self, state: &mut State, choices: &[u8]) -> (usize, u8) {
-        let run = self.simulator.run(state, choices);
+    fn run(&self, state: &mut State, user: u8, choices: &[u8]) -> (usize, u8) {
+        let run = self.simulator.run(state, user, choices);
         (run.accepted, run.number)
     }
 
-    fn run_plain(&self, state: &mut State, limit: u16) -> PlainRun {
-        self.simulator.run_plain(state, limit)
+    fn run_plain(&self, state: &mut State, user: u8, limit: u16) -> PlainRun {
+        self.simulator.run_plain(state, user, limit)
     }
 
     fn instant(&self, state: &mut State, inputs: &[Slot]) -> u8 {

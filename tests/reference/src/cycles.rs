@@ -30,35 +30,36 @@ pub enum Step {
 impl Simulator<'_> {
     /// Runs to rest, then for each row of inputs, from input 1 up, an instant with the
     /// clock 0 and one with the clock 1, each followed by a plain run of at most 65,535
-    /// choices. Ends at the first refusal.
-    pub fn run_cycles(&self, state: &mut State, rows: &[Vec<Slot>]) -> CyclesRun {
+    /// choices of the user. Ends at the first refusal.
+    pub fn run_cycles(&self, state: &mut State, user: u8, rows: &[Vec<Slot>]) -> CyclesRun {
         let mut run =
             CyclesRun { rows: 0, at: Step::First, number: 0, verdict: Verdict::Refused };
-        run.number = number_of(self.take_rows(state, rows, &mut run));
+        run.number = number_of(self.take_rows(state, user, rows, &mut run));
         run
     }
 
     fn take_rows(
         &self,
         state: &mut State,
+        user: u8,
         rows: &[Vec<Slot>],
         run: &mut CyclesRun,
     ) -> Result<(), u8> {
-        self.rest(state, run)?;
+        self.rest(state, user, run)?;
         for (row, inputs) in rows.iter().enumerate() {
             for clock in [0, 1] {
                 run.at = Step::Instant { row, clock };
                 self.instant(state, &[&[Slot::known(clock)], &inputs[..]].concat())?;
                 run.at = Step::Rest { row, clock };
-                self.rest(state, run)?;
+                self.rest(state, user, run)?;
             }
             run.rows += 1;
         }
         Ok(())
     }
 
-    fn rest(&self, state: &mut State, run: &mut CyclesRun) -> Result<(), u8> {
-        let plain = self.run_plain(state, u16::MAX);
+    fn rest(&self, state: &mut State, user: u8, run: &mut CyclesRun) -> Result<(), u8> {
+        let plain = self.run_plain(state, user, u16::MAX);
         run.verdict = plain.verdict;
         if plain.number == 0 { Ok(()) } else { Err(plain.number) }
     }

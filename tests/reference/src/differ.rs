@@ -63,13 +63,14 @@ fn field_difference(left: &str, right: &str) -> Option<String> {
 }
 
 /// Fields: a name, how many there are, and the bytes of each.
-const STATE: [(&str, usize, usize); 6] = [
+const STATE: [(&str, usize, usize); 7] = [
     ("value", 80, 5),
     ("pending", 32, 6),
     ("place", 8, 1),
     ("mark", 32, 1),
     ("time", 1, 8),
-    ("count", 1, 8),
+    ("count", 4, 8),
+    ("allowance", 4, 4),
 ];
 const CYCLE: [(&str, usize, usize); 3] =
     [("register", 32, 5), ("place", 8, 1), ("wire", 32, 5)];

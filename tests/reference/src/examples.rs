@@ -30,9 +30,9 @@ fn script(sheet: &[u8], cases: &[Case]) -> Vec<u8> {
             records.push(Record::Instant(known(inputs)));
             records.push(Record::Dump);
             for &choice in *order {
-                records.extend([Record::Choose(choice), Record::Dump]);
+                records.extend([Record::Choose(0, choice), Record::Dump]);
             }
-            records.push(Record::Plain(0));
+            records.push(Record::Plain(0, 0));
         }
     }
     Script::write(sheet, &records)

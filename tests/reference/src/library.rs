@@ -6,8 +6,9 @@
 pub const TEXT: usize = 65_536;
 
 /// The bytes of a saved state, with the one that names its form.
-pub const SAVED: usize = 649;
+pub const SAVED: usize = 689;
 
+use crate::state::USERS;
 use crate::text::{Answer, Labels, VARIABLES};
 
 mod calls;
@@ -38,17 +39,35 @@ unsafe extern "C" {
     /// number of a refusal, where the text stays.
     fn walbryts_list(sheet: *const u8, len: usize, text: *mut u8, length: *mut usize) -> u8;
 
-    /// A saved state of either form into the bytes of one; 31 where it is none.
-    fn walbryts_bring_over(old: *const u8, len: usize, state: *mut u8) -> u8;
+    /// A saved state of any form into the bytes of one, with these allowances where it has one
+    /// count; 31 where it is none or that count is above the first of them.
+    fn walbryts_bring_over(
+        old: *const u8,
+        len: usize,
+        allowances: *const u32,
+        state: *mut u8,
+    ) -> u8;
 
     /// The calls on a saved state, which becomes the one that the call gives back. Each
-    /// returns its number, 31 where the bytes are no saved state.
-    fn walbryts_start(sheet: *const u8, len: usize, state: *mut u8) -> u8;
-    fn walbryts_choose(sheet: *const u8, len: usize, state: *mut u8, choice: u8) -> u8;
+    /// returns its number, 31 where the bytes are no saved state. The start has four allowances.
+    fn walbryts_start(
+        sheet: *const u8,
+        len: usize,
+        allowances: *const u32,
+        state: *mut u8,
+    ) -> u8;
+    fn walbryts_choose(
+        sheet: *const u8,
+        len: usize,
+        state: *mut u8,
+        user: u8,
+        choice: u8,
+    ) -> u8;
     fn walbryts_run(
         sheet: *const u8,
         len: usize,
         state: *mut u8,
+        user: u8,
         choices: *const u8,
         choices_len: usize,
         accepted: *mut usize,
@@ -66,6 +85,7 @@ unsafe extern "C" {
         sheet: *const u8,
         len: usize,
         state: *mut u8,
+        user: u8,
         limit: u16,
         accepted: *mut u16,
         word: *mut u8,
@@ -74,6 +94,7 @@ unsafe extern "C" {
         sheet: *const u8,
         len: usize,
         state: *mut u8,
+        user: u8,
         value: *const u32,
         values: usize,
         unknown: *const bool,
@@ -169,31 +190,33 @@ pub fn list(sheet: &[u8], text: &mut [u8; TEXT]) -> (u8, usize) {
     (number, length)
 }
 
-/// A saved state of either form, brought over; the number.
-pub fn bring_over(old: &[u8], state: &mut [u8; SAVED]) -> u8 {
-    // Safety: as above, and the state has the length of a saved one.
-    unsafe { walbryts_bring_over(old.as_ptr(), old.len(), state.as_mut_ptr()) }
+/// A saved state of any form, brought over; the number.
+pub fn bring_over(old: &[u8], allowances: [u32; USERS], state: &mut [u8; SAVED]) -> u8 {
+    let (at, len, state) = (old.as_ptr(), old.len(), state.as_mut_ptr());
+    // Safety: as above, the state has the length of a saved one, and there are four allowances.
+    unsafe { walbryts_bring_over(at, len, allowances.as_ptr(), state) }
 }
 
 /// The start state, saved, and the number.
-pub fn start(sheet: &[u8], state: &mut [u8; SAVED]) -> u8 {
-    // Safety: as above, and the state has the length of a saved one.
-    unsafe { walbryts_start(sheet.as_ptr(), sheet.len(), state.as_mut_ptr()) }
+pub fn start(sheet: &[u8], allowances: [u32; USERS], state: &mut [u8; SAVED]) -> u8 {
+    let (at, len, state) = (sheet.as_ptr(), sheet.len(), state.as_mut_ptr());
+    // Safety: as above, the state has the length of a saved one, and there are four allowances.
+    unsafe { walbryts_start(at, len, allowances.as_ptr(), state) }
 }
 
-/// One choice on a saved state; the number.
-pub fn choose(sheet: &[u8], state: &mut [u8; SAVED], choice: u8) -> u8 {
+/// One choice of a user on a saved state; the number.
+pub fn choose(sheet: &[u8], state: &mut [u8; SAVED], user: u8, choice: u8) -> u8 {
     // Safety: as above.
-    unsafe { walbryts_choose(sheet.as_ptr(), sheet.len(), state.as_mut_ptr(), choice) }
+    unsafe { walbryts_choose(sheet.as_ptr(), sheet.len(), state.as_mut_ptr(), user, choice) }
 }
 
 /// A run over choices on a saved state; how many were accepted, and the number.
-pub fn run(sheet: &[u8], state: &mut [u8; SAVED], choices: &[u8]) -> (usize, u8) {
+pub fn run(sheet: &[u8], state: &mut [u8; SAVED], user: u8, choices: &[u8]) -> (usize, u8) {
     let mut accepted = 0;
     let (at, len, state) = (sheet.as_ptr(), sheet.len(), state.as_mut_ptr());
     let (list, count) = (choices.as_ptr(), choices.len());
     // Safety: as above, with the pointer and the length of each slice.
-    let number = unsafe { walbryts_run(at, len, state, list, count, &mut accepted) };
+    let number = unsafe { walbryts_run(at, len, state, user, list, count, &mut accepted) };
     (accepted, number)
 }
 
@@ -207,11 +230,12 @@ pub fn instant(sheet: &[u8], state: &mut [u8; SAVED], inputs: &Inputs) -> u8 {
 
 /// The plain run on a saved state; how many choices were accepted, the number, and the word:
 /// 0 quiet, 1 spent, 2 stopped.
-pub fn run_plain(sheet: &[u8], state: &mut [u8; SAVED], limit: u16) -> (u16, u8, u8) {
+pub fn run_plain(sheet: &[u8], state: &mut [u8; SAVED], user: u8, limit: u16) -> (u16, u8, u8) {
     let (mut accepted, mut word) = (0, 0);
     let (at, len, state) = (sheet.as_ptr(), sheet.len(), state.as_mut_ptr());
     // Safety: as above; the count and the word are locals'.
-    let number = unsafe { walbryts_run_plain(at, len, state, limit, &mut accepted, &mut word) };
+    let number =
+        unsafe { walbryts_run_plain(at, len, state, user, limit, &mut accepted, &mut word) };
     (accepted, number, word)
 }
 
@@ -219,6 +243,7 @@ pub fn run_plain(sheet: &[u8], state: &mut [u8; SAVED], limit: u16) -> (u16, u8,
 pub fn run_cycles(
     sheet: &[u8],
     state: &mut [u8; SAVED],
+    user: u8,
     value: &[u32],
     unknown: &[bool],
 ) -> (usize, u8) {
@@ -229,6 +254,7 @@ pub fn run_cycles(
             sheet.as_ptr(),
             sheet.len(),
             state.as_mut_ptr(),
+            user,
             value.as_ptr(),
             value.len(),
             unknown.as_ptr(),

@@ -5,7 +5,7 @@
 
 use crate::module::{Expr, Module, Term, Variable};
 use crate::pseudocode::{Instruction, translate_thread};
-use crate::state::State;
+use crate::state::{State, USERS};
 
 mod change;
 mod fit;
@@ -14,7 +14,7 @@ mod step;
 /// The choice byte of the commit.
 pub const COMMIT: u8 = 255;
 
-/// The numbers 22, 25 and 31 to 36.
+/// The numbers 22, 25, 31 to 36, 46 and 47.
 pub mod number {
     pub const NO_ITEM: u8 = 22;
     pub const INPUTS: u8 = 25;
@@ -24,6 +24,8 @@ pub mod number {
     pub const EARLY_COMMIT: u8 = 34;
     pub const NOTHING_PENDING: u8 = 35;
     pub const FULL: u8 = 36;
+    pub const NO_USER: u8 = 46;
+    pub const USED_UP: u8 = 47;
 }
 
 /// A module ready to run.
@@ -59,8 +61,8 @@ impl<'a> Machine<'a> {
         &self.code
     }
 
-    pub fn start(&self) -> State {
-        State::start(self.module.wires.len())
+    pub fn start(&self, allowances: [u32; USERS]) -> State {
+        State::start(self.module.wires.len(), allowances)
     }
 
     /// How many items there are: threads, then wires.

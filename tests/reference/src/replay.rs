@@ -5,7 +5,7 @@ use std::io::{self, Write};
 use crate::compiler::Compiler;
 use crate::module::Module;
 use crate::pseudocode;
-use crate::saved::{FORM, SHORT, load, write_short, write_state};
+use crate::saved::{bring_over, write_state};
 use crate::sheet::{self, Refusal};
 use crate::simulator::{Simulator, number_of};
 use crate::state::State;
@@ -23,7 +23,6 @@ pub fn replay(script: &[u8], out: &mut impl Write) -> io::Result<()> {
     if let Some(sheet) = script.sheet {
         let reading = sheet::read(sheet);
         let mut session = Session::new(sheet, &reading);
-        session.form = script.form;
         for record in &script.records {
             writeln!(out, "{}", session.answer(record))?;
         }
@@ -33,8 +32,6 @@ pub fn replay(script: &[u8], out: &mut impl Write) -> io::Result<()> {
 
 /// A sheet with the state and the tables that the calls hand on.
 pub struct Session<'a> {
-    /// The form of the states that are read and printed.
-    pub form: u8,
     sheet: &'a [u8],
     reading: &'a Result<Module, Refusal>,
     pub simulator: Simulator<'a>,
@@ -48,7 +45,7 @@ impl<'a> Session<'a> {
     pub fn new(sheet: &'a [u8], reading: &'a Result<Module, Refusal>) -> Session<'a> {
         let (simulator, compiler) = (Simulator::new(reading), Compiler::new(reading));
         let (state, words) = (State::ZERO, Words::unwritten());
-        Session { form: FORM, sheet, reading, simulator, compiler, state, words }
+        Session { sheet, reading, simulator, compiler, state, words }
     }
 
     /// Makes the call; the line without its line feed.
@@ -61,19 +58,19 @@ impl<'a> Session<'a> {
                 format!("read {number} {place}")
             }
             Record::List => format!("list {}", hex(pseudocode::print(self.sheet).as_bytes())),
-            Record::Start => {
-                let outcome = simulator.start().map(|start| *state = start);
+            Record::Start(allowances) => {
+                let outcome = simulator.start(*allowances).map(|start| *state = start);
                 format!("start {}", number_of(outcome))
             }
-            Record::Choose(choice) => {
-                format!("choose {}", number_of(simulator.choose(state, *choice)))
+            Record::Choose(user, choice) => {
+                format!("choose {}", number_of(simulator.choose(state, *user, *choice)))
             }
-            Record::Run(choices) => {
-                let run = simulator.run(state, choices);
+            Record::Run(user, choices) => {
+                let run = simulator.run(state, *user, choices);
                 format!("run {} {}", run.accepted, run.number)
             }
-            Record::Plain(limit) => {
-                let run = simulator.run_plain(state, *limit);
+            Record::Plain(user, limit) => {
+                let run = simulator.run_plain(state, *user, *limit);
                 format!("plain {} {} {}", run.accepted, run.number, run.verdict.word())
             }
             Record::Instant(inputs) => {
@@ -83,18 +80,14 @@ impl<'a> Session<'a> {
                 state.clone_from(loaded);
                 "load".into()
             }
-            Record::Bring(saved) => match load(saved) {
-                Some(brought) => {
-                    *state = brought;
-                    "bring 0".into()
-                }
-                None => "bring 31".into(),
-            },
+            Record::Bring(saved, allowances) => {
+                let read = simulator.machine().map(|_| ());
+                let brought = read.and_then(|()| bring_over(saved, *allowances));
+                format!("bring {}", number_of(brought.map(|brought| *state = brought)))
+            }
             Record::Dump => {
                 let mut bytes = Vec::new();
-                if self.form != SHORT || !write_short(state, &mut bytes) {
-                    write_state(state, &mut bytes);
-                }
+                write_state(state, &mut bytes);
                 format!("state {}", hex(&bytes))
             }
             Record::Extract(lent) => {

@@ -1,13 +1,16 @@
 //! States as bytes. Multi-byte numbers are low byte first.
 
-use crate::state::{Pending, Slot, State};
+use crate::machine::number;
+use crate::state::{Pending, Slot, State, USERS};
 
-/// The form that is written: counters of 8 bytes. The first byte of a saved state names its form.
-pub const FORM: u8 = 2;
-/// The form with counters of 4 bytes, which is read as well.
+/// The form that is written. The first byte of a saved state names its form.
+pub const FORM: u8 = 3;
+/// The forms with one count, which are brought over: counters of 8 bytes and of 4.
+pub const LONG: u8 = 2;
 pub const SHORT: u8 = 1;
 /// The bytes of a state without that byte.
-pub const STATE_BYTES: usize = 648;
+pub const STATE_BYTES: usize = 688;
+pub const LONG_BYTES: usize = 648;
 pub const SHORT_BYTES: usize = 640;
 
 /// The saved state: its form, then its bytes.
@@ -17,38 +20,64 @@ pub fn save(state: &State) -> Vec<u8> {
     bytes
 }
 
-/// The state saved with short counters; none where a counter has more than 32 bits.
-pub fn save_short(state: &State) -> Option<Vec<u8>> {
-    let mut bytes = vec![SHORT];
-    write_short(state, &mut bytes).then_some(bytes)
+/// The state saved with its time and user 0's count alone, of 8 bytes each.
+pub fn save_long(state: &State) -> Vec<u8> {
+    let mut bytes = vec![LONG];
+    write_body(state, &mut bytes);
+    bytes.extend(state.time.to_le_bytes());
+    bytes.extend(state.counts[0].to_le_bytes());
+    bytes
 }
 
-/// The state that was saved. Bytes of another length, form or flag are no state.
+/// The same with 4 bytes each; none where one of the two has more than 32 bits.
+pub fn save_short(state: &State) -> Option<Vec<u8>> {
+    let (time, count) = (u32::try_from(state.time).ok()?, u32::try_from(state.counts[0]).ok()?);
+    let mut bytes = vec![SHORT];
+    write_body(state, &mut bytes);
+    bytes.extend(time.to_le_bytes());
+    bytes.extend(count.to_le_bytes());
+    Some(bytes)
+}
+
+/// The state that was saved in the form that is written. Bytes of another length, form or flag
+/// are no state.
 pub fn load(saved: &[u8]) -> Option<State> {
     let mut bytes = Bytes::new(saved);
-    let form = bytes.byte()?;
-    let state = bytes.state(form)?;
+    let state = bytes.saved_state(FORM)?;
     bytes.is_empty().then_some(state)
+}
+
+/// The state that was saved in any form. One count becomes user 0's and the allowances those
+/// handed over; a count above its allowance is refused as bytes that are no state are: 31.
+pub fn bring_over(saved: &[u8], allowances: [u32; USERS]) -> Result<State, u8> {
+    let brought = load(saved).or_else(|| {
+        let mut state = load_one_count(saved)?;
+        state.allowances = allowances;
+        (state.counts[0] <= allowances[0].into()).then_some(state)
+    });
+    brought.ok_or(number::UNFIT)
+}
+
+fn load_one_count(saved: &[u8]) -> Option<State> {
+    [LONG, SHORT].into_iter().find_map(|form| {
+        let mut bytes = Bytes::new(saved);
+        let state = bytes.saved_state(form)?;
+        bytes.is_empty().then_some(state)
+    })
 }
 
 // ---- writing
 
-/// 80 values; 32 pending slots; 8 places; 32 marks; time and count.
+/// 80 values; 32 pending slots; 8 places; 32 marks; time; four counts and four allowances.
 pub fn write_state(state: &State, bytes: &mut Vec<u8>) {
     write_body(state, bytes);
     bytes.extend(state.time.to_le_bytes());
-    bytes.extend(state.count.to_le_bytes());
+    bytes.extend(state.counts.iter().flat_map(|count| count.to_le_bytes()));
+    write_allowances(&state.allowances, bytes);
 }
 
-/// The same with short counters; nothing is written where a counter has more than 32 bits.
-pub fn write_short(state: &State, bytes: &mut Vec<u8>) -> bool {
-    let (Ok(time), Ok(count)) = (u32::try_from(state.time), u32::try_from(state.count)) else {
-        return false;
-    };
-    write_body(state, bytes);
-    bytes.extend(time.to_le_bytes());
-    bytes.extend(count.to_le_bytes());
-    true
+pub fn write_allowances(allowances: &[u32; USERS], bytes: &mut Vec<u8>) {
+    bytes.extend(allowances.iter().flat_map(|allowance| allowance.to_le_bytes()));
 }
 
 fn write_body(state: &State, bytes: &mut Vec<u8>) {
@@ -129,8 +158,17 @@ impl<'a> Bytes<'a> {
         Some(Pending { held: self.flag()?, slot: self.slot()? })
     }
 
-    /// A state in a form of saved states.
-    pub fn state(&mut self, form: u8) -> Option<State> {
+    /// Behind the byte that names the form.
+    fn saved_state(&mut self, form: u8) -> Option<State> {
+        if self.byte()? == form { self.state_of(form) } else { None }
+    }
+
+    /// A state in the form that is written.
+    pub fn state(&mut self) -> Option<State> {
+        self.state_of(FORM)
+    }
+
+    fn state_of(&mut self, form: u8) -> Option<State> {
         let mut state = State::ZERO;
         for slot in &mut state.values {
             *slot = self.slot()?;
@@ -142,11 +180,27 @@ impl<'a> Bytes<'a> {
         for due in &mut state.due {
             *due = self.flag()?;
         }
-        (state.time, state.count) = match form {
-            FORM => (self.long()?, self.long()?),
-            SHORT => (self.number()?.into(), self.number()?.into()),
-            _ => return None,
-        };
+        match form {
+            SHORT => {
+                (state.time, state.counts[0]) = (self.number()?.into(), self.number()?.into())
+            }
+            LONG => (state.time, state.counts[0]) = (self.long()?, self.long()?),
+            _ => {
+                state.time = self.long()?;
+                for count in &mut state.counts {
+                    *count = self.long()?;
+                }
+                state.allowances = self.allowances()?;
+            }
+        }
         Some(state)
+    }
+
+    pub fn allowances(&mut self) -> Option<[u32; USERS]> {
+        let mut allowances = [0; USERS];
+        for allowance in &mut allowances {
+            *allowance = self.number()?;
+        }
+        Some(allowances)
     }
 }

@@ -7,7 +7,7 @@ use crate::machine::{COMMIT, Machine};
 use crate::module::Module;
 use crate::random::Random;
 use crate::replay::{Lent, Record, Script, Session};
-use crate::saved::{FORM, SHORT, save, save_short};
+use crate::saved::{save, save_long, save_short};
 use crate::sheet;
 use crate::state::{Slot, State};
 use crate::{extractable, generate, limits, mutate, refused, states, text};
@@ -19,17 +19,13 @@ pub fn script(seed: u64) -> Vec<u8> {
     let mut random = Random::new(seed);
     let sheet = sheet(&mut random);
     let reading = sheet::read(&sheet);
-    let mut session = Session::new(&sheet, &reading);
-    if seed % 4 == 1 {
-        session.form = SHORT;
-    }
-    let form = session.form;
+    let session = Session::new(&sheet, &reading);
     let module = reading.as_ref().ok();
     let (fitting, records) = (State::ZERO, Vec::new());
     let mut writer = Writer { random, session, module, fitting, records };
     writer.write();
     writer.records.extend(text_records(seed));
-    let script = Script::write_in(form, &sheet, &writer.records);
+    let script = Script::write(&sheet, &writer.records);
     match writer.random.chance(1, 8) {
         true => damage(script, &mut writer.random),
         false => script,
@@ -115,7 +111,8 @@ struct Writer<'a> {
 
 impl Writer<'_> {
     fn write(&mut self) {
-        for record in [Record::Dump, Record::Read, Record::List, Record::Start, Record::Dump] {
+        let start = Record::Start(states::allowances(&mut self.random));
+        for record in [Record::Dump, Record::Read, Record::List, start, Record::Dump] {
             self.call(record);
         }
         if self.random.chance(1, 2) {
@@ -133,11 +130,7 @@ impl Writer<'_> {
     }
 
     /// Writes the record, makes its call, and looks at the state afterwards.
-    fn call(&mut self, mut record: Record) {
-        if let (SHORT, Record::Load(state)) = (self.session.form, &mut record) {
-            state.time = state.time.min(u32::MAX.into());
-            state.count = state.count.min(u32::MAX.into());
-        }
+    fn call(&mut self, record: Record) {
         let looks = record != Record::Dump;
         self.session.answer(&record);
         self.records.push(record);
@@ -167,29 +160,57 @@ impl Writer<'_> {
             return Record::Instant(self.inputs());
         }
         match self.random.below(32) {
-            0..=11 => Record::Choose(self.choice()),
-            12..=16 => Record::Run(self.choices()),
-            17..=21 => Record::Plain(self.limit()),
+            0..=11 => {
+                let user = self.user();
+                Record::Choose(user, self.choice())
+            }
+            12..=16 => {
+                let user = self.user();
+                Record::Run(user, self.choices(user))
+            }
+            17..=21 => Record::Plain(self.user(), self.limit()),
             22..=23 => Record::Instant(self.inputs()),
             24..=27 => Record::Load(Box::new(self.state())),
-            28 => Record::Start,
+            28 => Record::Start(states::allowances(&mut self.random)),
             29 => Record::Read,
-            30 if self.session.form == FORM => Record::Bring(self.saved()),
-            30 => Record::List,
-            _ => Record::Plain(u16::MAX),
+            30 => self.bring(),
+            _ => Record::Plain(self.user(), u16::MAX),
         }
     }
 
-    /// A saved state of either form, now and then with a byte changed or cut short.
-    fn saved(&mut self) -> Vec<u8> {
+    /// Mostly a user with choices left, now and then one of the four, or none.
+    fn user(&mut self) -> u8 {
+        let state = &self.session.state;
+        let with_room: Vec<u8> = (0..4).filter(|&user| state.has_room(user)).collect();
+        let random = &mut self.random;
+        match random.below(16) {
+            0 => random.pick(&[4, 5, 255]),
+            1..=3 => random.below(4) as u8,
+            _ if with_room.is_empty() => random.below(4) as u8,
+            _ => random.pick(&with_room),
+        }
+    }
+
+    /// A saved state of any form, now and then with a byte changed or cut short, and allowances
+    /// that mostly reach as far as user 0's count.
+    fn bring(&mut self) -> Record {
         let state = self.state();
         let random = &mut self.random;
         let mut saved = match save_short(&state) {
             Some(short) if random.chance(1, 2) => short,
+            _ if random.chance(1, 2) => save_long(&state),
             _ => save(&state),
         };
+        let mut allowances = states::allowances(random);
+        let count = u32::try_from(state.counts[0]).unwrap_or(u32::MAX);
+        match random.below(8) {
+            0 => allowances[0] = count,
+            1 => allowances[0] = count.saturating_sub(1),
+            2..=5 => allowances[0] = u32::MAX,
+            _ => {}
+        }
         match random.below(6) {
-            0 => saved[0] = random.below(4) as u8,
+            0 => saved[0] = random.below(5) as u8,
             1 => {
                 let at = random.below(saved.len());
                 saved[at] = random.byte();
@@ -197,7 +218,7 @@ impl Writer<'_> {
             2 => saved.truncate(random.below(saved.len())),
             _ => {}
         }
-        saved
+        Record::Bring(saved, allowances)
     }
 
     fn limit(&mut self) -> u16 {
@@ -221,8 +242,8 @@ impl Writer<'_> {
         }
     }
 
-    /// Choices one after the other, mostly accepted ones until the state is quiet.
-    fn choices(&mut self) -> Vec<u8> {
+    /// Choices of a user one after the other, mostly accepted ones until the state is quiet.
+    fn choices(&mut self, user: u8) -> Vec<u8> {
         let length = self.random.pick(&[0, 1, 2, 5, 10, 40, 300]);
         let mut state = self.session.state.clone();
         let Ok(machine) = self.session.simulator.judged(&state) else {
@@ -235,7 +256,7 @@ impl Writer<'_> {
                 false => enabled(machine, &state, &mut self.random),
             };
             choices.push(choice);
-            let accepted = machine.choose(&mut state, choice).is_ok();
+            let accepted = machine.choose(&mut state, user, choice).is_ok();
             if accepted && machine.quiet(&state) && self.random.chance(3, 4) {
                 break;
             }

@@ -12,7 +12,7 @@ use crate::machine::{COMMIT, Machine};
 use crate::module::{Expr, Module, Operator, Stmt};
 use crate::random::Random;
 use crate::sheet;
-use crate::state::{MARKS, PLACES, Slot, State};
+use crate::state::{MARKS, MOST, PLACES, Slot, State, USERS};
 use crate::trace::{After, Trace};
 
 /// A module that Icarus runs otherwise, since its x stands bit by bit and ours as a whole: where r0
@@ -98,12 +98,12 @@ impl<C: Calls> Held<'_, C> {
     /// The start state with the trace's registers loaded, brought to rest.
     fn loaded(&self) -> Outcome<State> {
         let mut state = State::ZERO;
-        refused("start", self.calls.start(&mut state))?;
+        refused("start", self.calls.start(&mut state, MOST))?;
         let registers = &mut state.values[self.module.inputs.into()..];
         for (slot, &number) in registers.iter_mut().zip(&self.trace.start) {
             *slot = Slot::known(number);
         }
-        refused("run", self.calls.run_plain(&mut state, u16::MAX).number)?;
+        refused("run", self.calls.run_plain(&mut state, 0, u16::MAX).number)?;
         Ok(state)
     }
 
@@ -127,17 +127,18 @@ impl<C: Calls> Held<'_, C> {
                 [("low wires", low), ("registers", registers), ("wires", wires)],
             )?;
         }
-        Ok(state.count)
+        Ok(state.total())
     }
 
     fn rest(&self, state: &mut State, order: Option<&mut Random>) -> Outcome {
         let Some(random) = order else {
-            return refused("run", self.calls.run_plain(state, u16::MAX).number);
+            return refused("run", self.calls.run_plain(state, 0, u16::MAX).number);
         };
         while !self.machine.quiet(state) {
             let items: Vec<u8> = self.machine.enabled(state).collect();
             let choice = if items.is_empty() { COMMIT } else { random.pick(&items) };
-            refused("choice", self.calls.choose(state, choice))?;
+            let user = random.below(USERS) as u8;
+            refused("choice", self.calls.choose(state, user, choice))?;
         }
         Ok(())
     }
@@ -145,7 +146,7 @@ impl<C: Calls> Held<'_, C> {
     /// All cycles in one call; what they end with.
     fn by_rows(&self) -> Outcome {
         let mut state = self.loaded()?;
-        let (done, number) = self.calls.run_cycles(&mut state, &self.rows());
+        let (done, number) = self.calls.run_cycles(&mut state, 0, &self.rows());
         refused("rows", number)?;
         let last = self.trace.cycles.len() - 1;
         match done == 2 * (last + 1) {

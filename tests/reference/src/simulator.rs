@@ -6,7 +6,7 @@
 use crate::machine::{Machine, number};
 use crate::module::Module;
 use crate::sheet::Refusal;
-use crate::state::{Slot, State};
+use crate::state::{Slot, State, USERS};
 
 /// A sheet to be simulated, or the number (1 to 11) that every call gives for it.
 pub struct Simulator<'a> {
@@ -35,9 +35,9 @@ pub enum Verdict {
     Quiet,
     /// All choices ran and it isn't.
     Spent,
-    /// The count was full before the last choice (36).
+    /// The user's allowance was used up before the last choice (47).
     Full,
-    /// Nothing was run: the sheet or the state is refused.
+    /// Nothing was run: the sheet, the state or the user is refused.
     Refused,
 }
 
@@ -78,13 +78,19 @@ impl<'a> Simulator<'a> {
         if machine.fits(state) { Ok(machine) } else { Err(number::UNFIT) }
     }
 
-    pub fn start(&self) -> Result<State, u8> {
-        Ok(self.machine()?.start())
+    pub fn start(&self, allowances: [u32; USERS]) -> Result<State, u8> {
+        Ok(self.machine()?.start(allowances))
     }
 
-    /// 1 to 11, 31, 22, 33 to 35, 36.
-    pub fn choose(&self, state: &mut State, choice: u8) -> Result<(), u8> {
-        self.judged(state)?.choose(state, choice)
+    /// The same of a run, which has one user: 46 after 31.
+    pub fn judged_for(&self, state: &State, user: u8) -> Result<&Machine<'a>, u8> {
+        let machine = self.judged(state)?;
+        if usize::from(user) < USERS { Ok(machine) } else { Err(number::NO_USER) }
+    }
+
+    /// 1 to 11, 31, 22, 46, 33 to 35, 47.
+    pub fn choose(&self, state: &mut State, user: u8, choice: u8) -> Result<(), u8> {
+        self.judged(state)?.choose(state, user, choice)
     }
 
     /// 1 to 11, 31, 25, 32, 36. The clock is the first of the inputs.
@@ -92,14 +98,14 @@ impl<'a> Simulator<'a> {
         self.judged(state)?.instant(state, inputs)
     }
 
-    /// 1 to 11, 31, then choice by choice up to the first that is refused.
-    pub fn run(&self, state: &mut State, choices: &[u8]) -> Run {
-        let machine = match self.judged(state) {
+    /// 1 to 11, 31, 46, then choice by choice up to the first that is refused.
+    pub fn run(&self, state: &mut State, user: u8, choices: &[u8]) -> Run {
+        let machine = match self.judged_for(state, user) {
             Ok(machine) => machine,
             Err(number) => return Run { accepted: 0, number },
         };
         for (accepted, &choice) in choices.iter().enumerate() {
-            if let Err(number) = machine.choose(state, choice) {
+            if let Err(number) = machine.choose(state, user, choice) {
                 return Run { accepted, number };
             }
         }
@@ -107,8 +113,8 @@ impl<'a> Simulator<'a> {
     }
 
     /// At most so many choices, each the lowest enabled item, else the commit.
-    pub fn run_plain(&self, state: &mut State, limit: u16) -> PlainRun {
-        let machine = match self.judged(state) {
+    pub fn run_plain(&self, state: &mut State, user: u8, limit: u16) -> PlainRun {
+        let machine = match self.judged_for(state, user) {
             Ok(machine) => machine,
             Err(number) => {
                 return PlainRun { accepted: 0, number, verdict: Verdict::Refused };
@@ -122,7 +128,7 @@ impl<'a> Simulator<'a> {
             if accepted == limit {
                 return PlainRun { accepted, number: 0, verdict: Verdict::Spent };
             }
-            if let Err(number) = machine.choose(state, machine.lowest(state)) {
+            if let Err(number) = machine.choose(state, user, machine.lowest(state)) {
                 return PlainRun { accepted, number, verdict: Verdict::Full };
             }
             accepted += 1;

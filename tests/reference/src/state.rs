@@ -6,6 +6,10 @@ pub const VALUES: usize = 80;
 pub const PENDING: usize = 32;
 pub const PLACES: usize = 8;
 pub const MARKS: usize = 32;
+/// How many users step one state.
+pub const USERS: usize = 4;
+/// The greatest allowance for each user.
+pub const MOST: [u32; USERS] = [u32::MAX; USERS];
 
 /// Any such state can be handed to a call; whether it fits a sheet is judged there.
 /// What lies past the sheet's variables, registers, threads and wires is carried along.
@@ -20,7 +24,10 @@ pub struct State {
     /// By wire.
     pub due: [bool; MARKS],
     pub time: u64,
-    pub count: u64,
+    /// By user: the choices accepted.
+    pub counts: [u64; USERS],
+    /// By user: how many may be accepted.
+    pub allowances: [u32; USERS],
 }
 
 /// Where a value is kept. Under x the number means nothing, but it is carried along.
@@ -78,13 +85,25 @@ impl State {
         places: [0; PLACES],
         due: [false; MARKS],
         time: 0,
-        count: 0,
+        counts: [0; USERS],
+        allowances: [0; USERS],
     };
 
-    /// At the start all is x, places and counters 0, every wire due.
-    pub fn start(wires: usize) -> State {
-        let mut state = State { values: [Slot::X; VALUES], ..State::ZERO };
+    /// At the start all is x, places and counters 0, every wire due; the allowances are fixed.
+    pub fn start(wires: usize, allowances: [u32; USERS]) -> State {
+        let mut state = State { values: [Slot::X; VALUES], allowances, ..State::ZERO };
         state.due[..wires].fill(true);
         state
+    }
+
+    /// The choices accepted, of all users.
+    pub fn total(&self) -> u64 {
+        self.counts.iter().sum()
+    }
+
+    /// The user has choices left. A user above 3 is none.
+    pub fn has_room(&self, user: u8) -> bool {
+        let user = usize::from(user);
+        user < USERS && self.counts[user] < self.allowances[user].into()
     }
 }

@@ -2,7 +2,7 @@
 
 use crate::module::Module;
 use crate::random::Random;
-use crate::state::{MARKS, PENDING, PLACES, Pending, Slot, State, VALUES};
+use crate::state::{MARKS, PENDING, PLACES, Pending, Slot, State, USERS, VALUES};
 use crate::value::mask;
 
 /// The sizes that a state is held against; those of a small module where there is none.
@@ -72,7 +72,7 @@ fn index(count: usize, all: usize, random: &mut Random) -> usize {
     }
 }
 
-/// At the end of a counter or next to it, or where the short counters ended.
+/// At the end of the time or next to it, or where the short counters ended.
 fn nearly_full(random: &mut Random) -> u64 {
     random.pick(&[u64::MAX, 1 << 32]) - random.below(4) as u64
 }
@@ -80,7 +80,7 @@ fn nearly_full(random: &mut Random) -> u64 {
 /// The state with one field changed: it may fit the module afterwards or not.
 pub fn disturb(state: &mut State, module: Option<&Module>, random: &mut Random) {
     let sizes = Sizes::of(module);
-    match random.below(12) {
+    match random.below(16) {
         0..=3 => {
             let variable = index(sizes.widths.len(), VALUES, random);
             state.values[variable] = slot(sizes.width(variable), random);
@@ -103,8 +103,34 @@ pub fn disturb(state: &mut State, module: Option<&Module>, random: &mut Random) 
             state.due[wire] = !state.due[wire];
         }
         10 => state.time = nearly_full(random),
-        _ => state.count = nearly_full(random),
+        11 => state.counts[random.below(USERS)] = nearly_full(random),
+        _ => use_up(state, random),
     }
+}
+
+/// A user's count at its allowance, next to it or one above; the allowance may be any number.
+fn use_up(state: &mut State, random: &mut Random) {
+    let user = random.below(USERS);
+    let allowance = allowance(random);
+    state.allowances[user] = allowance;
+    let room = random.pick(&[0, 0, 1, 2, 3, 5, 9]).min(allowance);
+    let above = u64::from(random.chance(1, 6));
+    state.counts[user] = u64::from(allowance - room) + above;
+}
+
+/// Few choices, as many as there can be, or any number.
+pub fn allowance(random: &mut Random) -> u32 {
+    match random.below(8) {
+        0 => 0,
+        1..=3 => random.between(1, 40) as u32,
+        4 => random.number() as u32,
+        _ => u32::MAX - random.below(3) as u32,
+    }
+}
+
+/// Those of four users.
+pub fn allowances(random: &mut Random) -> [u32; USERS] {
+    std::array::from_fn(|_| allowance(random))
 }
 
 /// Gives every variable a known value.
@@ -144,6 +170,10 @@ pub fn noise(random: &mut Random) -> State {
     state.places = std::array::from_fn(|_| random.byte());
     state.due = std::array::from_fn(|_| random.chance(1, 16));
     state.time = random.number() >> random.pick(&[0, 32]);
-    state.count = random.number() >> random.pick(&[0, 32]);
+    state.allowances = allowances(random);
+    state.counts = state.allowances.map(|allowance| match random.below(4) {
+        0 => random.number() >> random.pick(&[0, 32]),
+        _ => u64::from(allowance) - random.below(allowance.min(8) as usize + 1) as u64,
+    });
     state
 }

@@ -29,12 +29,10 @@ const CALLS: [(&str, usize); 9] = [
 
 /// The numbers that a call can give, 0 where it is accepted.
 fn numbers(call: &str) -> Vec<u8> {
-    if call == "bring" {
-        return vec![0, 31];
-    }
     let own: &[u8] = match call {
-        "choose" | "run" => &[22, 31, 33, 34, 35, 36],
-        "plain" => &[31, 36],
+        "choose" | "run" => &[22, 31, 33, 34, 35, 46, 47],
+        "plain" => &[31, 46, 47],
+        "bring" => &[31],
         "instant" => &[25, 31, 32, 36],
         "extract" => &[12, 13, 14, 15, 16, 17, 18, 19, 20, 21, 23],
         "cycle" => &[12, 13, 14, 15, 16, 17, 18, 19, 20, 21, 23, 24, 25, 31],
@@ -93,7 +91,7 @@ impl Display for Tally {
         write!(f, "number")?;
         CALLS.into_iter().try_for_each(|(call, _)| write!(f, "{call:>9}"))?;
         writeln!(f)?;
-        for number in (0..=25).chain(31..=36) {
+        for number in (0..=25).chain(31..=36).chain(46..=47) {
             write!(f, "{number:>6}")?;
             for (call, _) in CALLS {
                 match numbers(call).contains(&number) {

@@ -19,7 +19,7 @@ returns c =
     let e = ap (λ (x : Prepared). x .number) (at-prepare .prepare .ensures .0) in
     c .refused-with .ensures
     ∙ ap (λ (n : ℕ). cycled 0 n false (a .st)) e
-    ∙ read-refused (a .sheet .now) (a .st) (a .value .now) (a .unknown .now) (λ z. at-if .if1 .taken (e ∙ z))
+    ∙ read-refused (a .sheet .now) (a .st) (a .user) (a .value .now) (a .unknown .now) (λ z. at-if .if1 .taken (e ∙ z))
 
 returns-2 : tie.Need-returns-2
 returns-2 c =
@@ -30,7 +30,7 @@ returns-2 c =
     let a = s .args in
     let e = ap (λ (x : Prepared). x .number) (at-prepare .prepare .ensures .0) in
     c .told .ensures
-    ∙ read-accepted (a .sheet .now) (a .st) (a .value .now) (a .unknown .now) (sym e ∙ at-if .if1 .left) _ _
+    ∙ read-accepted (a .sheet .now) (a .st) (a .user) (a .value .now) (a .unknown .now) (sym e ∙ at-if .if1 .left) _ _
     (length-replicate {A = ℕ} 25212 0) (at-prepare .prepare .ensures .1) (shaped-good (a .st) (s .good .1 .0))
     (bounded-good (a .st) (s .good .1 .0)) _ (at-run .run-cycles .ensures)
 

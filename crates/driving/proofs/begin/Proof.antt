@@ -10,7 +10,7 @@ returns c =
     let at-is-drawn = at-settle .before in
     let at-seed-of = at-is-drawn .before in
     let at-start = at-seed-of .before in
-    begun-is _ _ _ _ _ _ _ (at-start .start .ensures) (at-seed-of .seed-of .ensures) (at-is-drawn .is-drawn .ensures)
+    begun-is _ _ _ _ _ _ _ _ _ (at-start .start .ensures) (at-seed-of .seed-of .ensures) (at-is-drawn .is-drawn .ensures)
     (at-settle .settle .ensures) (c .rest-of .ensures)
 
 pub begin-spec : {M : Type 1} → statement M

@@ -68,7 +68,8 @@ marks c =
 pending : tie.Need-returns-5
 unfolding planFits
 pending c =
-    let h = c .before .before .before .before in
+    let e = c .before in
+    let h = e .before .before .before .before in
     let d = h .before in
     let k = d .before .before .before .before in
     let t = k .before in
@@ -83,8 +84,32 @@ pending c =
       sym (s .slots-fit .ensures) ∙ (not-false _ (j .if2 .left)),
       sym (t .places-fit .ensures) ∙ (not-false _ (k .if3 .left)),
       past-judged (p .t2 .due) (d .before .wires2 .ensures) (d .none-past .ensures) (not-false _ (h .if4 .left)),
+      past-judged (p .t2 .held) (e .before .registers2 .ensures) (e .none-past2 .ensures) (not-true _ (c .if5 .taken)),
     )
-    (c .none-past2 .ensures ∙ ap (nonePast (p .t2 .held)) (c .before .registers2 .ensures))
+
+counts : tie.Need-returns-6
+unfolding planFits
+counts c =
+    let g = c .before .before in
+    let e = g .before in
+    let h = e .before .before .before .before in
+    let d = h .before in
+    let k = d .before .before .before .before in
+    let t = k .before in
+    let j = t .before .before .before .before in
+    let s = j .before in
+    let i = s .before in
+    let v = i .before in
+    let n = v .before .before .before .before .before .before in
+    let p = n .before .before .before .args in
+    rw (
+      values-judged (planOf (p .plan .now)) (p .t2) (n .before .before .inputs .ensures) (n .before .registers .ensures) (n .wires .ensures) (v .values-fit .ensures) (not-false _ (i .if1 .left)),
+      sym (s .slots-fit .ensures) ∙ (not-false _ (j .if2 .left)),
+      sym (t .places-fit .ensures) ∙ (not-false _ (k .if3 .left)),
+      past-judged (p .t2 .due) (d .before .wires2 .ensures) (d .none-past .ensures) (not-false _ (h .if4 .left)),
+      past-judged (p .t2 .held) (e .before .registers2 .ensures) (e .none-past2 .ensures) (not-false _ (g .if5 .left)),
+    )
+    (c .counts-fit .ensures)
 
 add-n : tie.Need-add-n
 add-n c =
@@ -118,4 +143,6 @@ state-fits-spec =
     marks
     (λ c κs. search needs)
     (λ c κs. search needs)
-    pending)
+    pending
+    (λ c κs. search needs)
+    counts)

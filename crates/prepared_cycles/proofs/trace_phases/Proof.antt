@@ -17,7 +17,7 @@ use Rattle.prepared_cycles.proofs.trace_phases.Statement.{statement}
 use Rattle.prepared_cycles.proofs.trace_phases.Tie as tie
 
 abbrev Inv-loop : tie.InvT-loop
-Inv-loop plan value unknown out₀ cells₀ pending₀ stood₀ standing₀ n p₀
+Inv-loop plan user value unknown out₀ cells₀ pending₀ stood₀ standing₀ n p₀
     out cells pending stood standing p =
     (p ≤ n)
     × Kept n value unknown out₀ out
@@ -29,20 +29,22 @@ Inv-loop plan value unknown out₀ cells₀ pending₀ stood₀ standing₀ n p�
     out₀)
 
 abbrev μ-loop : tie.MeasureT-loop
-μ-loop plan value unknown out₀ cells₀ pending₀ stood₀ standing₀ n p₀
+μ-loop plan user value unknown out₀ cells₀ pending₀ stood₀ standing₀ n p₀
     out cells pending stood standing p =
     n - p
 
 loop-holds : tie.Need-loop-holds Inv-loop μ-loop
 loop-holds c =
-    let known = c .before .before .before .before .before .before .before .before in
-    let s = known .before .before in (
+    let at-shared-slice-known2 = c .before .before .before .before .before .before .before .before .before in
+    let at-start = at-shared-slice-known2 .before .before in
+    let known = at-shared-slice-known2 in
+    let p = at-start .pre in (
       omega arith,
       record {
         few = omega (arith, known);
         count = refl;
-        flagged = s .pre .0;
-        room = s .pre .1;
+        flagged = p .0;
+        room = p .1;
         long = refl;
       },
       phases-whole _ _ _ _ _,
@@ -51,92 +53,103 @@ loop-holds c =
 
 inputs-at-requires : tie.Need-inputs-at-requires Inv-loop μ-loop
 inputs-at-requires c κs =
-    let k = c .before .loop .inv .1 in
+    let at-loop = c .before in
+    let k = at-loop .loop .inv .1 in
     (row-inside _ _ (omega (arith, c .loop-test .taken, k .count)), k .flagged)
+
+same-length : tie.Need-same-length Inv-loop μ-loop
+same-length c =
+    let at-loop = c .before .before .before .before .before .before .before .before .before .before .before .before in
+    at-loop .loop .inv .1 .long
 
 returns : tie.Need-returns Inv-loop μ-loop
 returns c =
-    let at-if = c .before .before .before in
-    let at-phase = at-if .before .before .before in
-    let at-inputs = at-phase .before .before .before .before in
-    let l = at-inputs .before .before in
-    let at-slots = l .before .before in
-    let at-unpack = at-slots .before .before .before .before in
-    let a = at-unpack .before .before .before .before .before .args in
+    let at-if1 = c .before .before .before in
+    let at-phase = at-if1 .before .before .before in
+    let at-inputs-at = at-phase .before .before .before .before in
+    let at-loop-test = at-inputs-at .before in
+    let at-loop = at-loop-test .before in
+    let at-slots-of = at-loop .before .before .before in
+    let at-unpack = at-slots-of .before .before .before .before in
+    let at-start = at-unpack .before .before .before .before .before in
+    let l = at-loop .loop in
+    let a = at-start .args in
     let q = planOf (a .plan .now) in
     let inputs = rowInputs (q .inputs) (a .value .now) (a .unknown .now) in
-    let o = momentOf (l .loop .cells) (l .loop .pending) (l .loop .stood) (l .loop .standing) in
-    let w = l .loop .out in
-    let first = a .out .now in
-    let h = at-inputs .before .loop-test .taken in
-    let e = at-phase .phase .ensures ∙ ap (λ (x : Inputs). phaseAt q x o) (at-inputs .inputs-at .ensures) in
-    let z = laid-out q (a .t2) _ _ _ (at-slots .slots-of .ensures) (at-unpack .unpack .ensures) in (
+    let o = momentOf (l .cells) (l .pending) (l .stood) (l .standing) in
+    let h = at-loop-test .loop-test .taken in
+    let e = at-phase .phase .ensures ∙ ap (λ (x : Inputs). phaseAt q x o) (at-inputs-at .inputs-at .ensures) in
+    let z = laid-out q (a .t2) (a .user) _ _ _ (at-slots-of .slots-of .ensures) (at-unpack .unpack .ensures) in (
       c .ended .ensures
-          ∙ ap ended
-          (sym (phases-off q inputs _ (l .loop .p) o h _ e (at-if .if1 .taken)) ∙ l .loop .inv .2 ∙ ap (phasesAt q inputs _ 0) z),
-      sym (trace-off q inputs _ (l .loop .p) o w h _ e (at-if .if1 .taken))
-          ∙ l .loop .inv .3
-          ∙ ap (λ (x : Moment). traceFromAt q inputs (rounds (a .value .now)) 0 x first) z,
+          ∙ ap ended (sym (phases-off q inputs _ (l .p) o h _ e (at-if1 .if1 .taken)) ∙ l .inv .2 ∙ ap (phasesAt q inputs _ 0) z),
+      sym (trace-off q inputs _ (l .p) o (l .out) h _ e (at-if1 .if1 .taken))
+          ∙ l .inv .3
+          ∙ ap (λ (x : Moment). traceFromAt q inputs (rounds (a .value .now)) 0 x (a .out .now)) z,
     )
 
 put-row-requires : tie.Need-put-row-requires Inv-loop μ-loop
 put-row-requires c κs =
-    let at-test = c .before .before .before .before .before .before .before .before .before .before .before in
-    let k = at-test .before .loop .inv .1 in
-    let h = at-test .loop-test .taken in
-    row-room k _ h
+    let at-loop-test = c .before .before .before .before .before .before .before .before .before .before .before in
+    let at-loop = at-loop-test .before in
+    row-room (at-loop .loop .inv .1) _ (at-loop-test .loop-test .taken)
 
 add-p : tie.Need-add-p Inv-loop μ-loop
 add-p c =
-    let at-put = c .before .before in
-    let at-if = at-put .before .before .before .before in
-    let at-inputs = at-if .before .before .before .before .before .before .before in
-    omega (arith, at-inputs .before .loop-test .taken, at-inputs .before .before .loop .inv .1 .few)
+    let at-loop-test = c .before .before .before .before .before .before .before .before .before .before .before .before .before .before in
+    let at-loop = at-loop-test .before in
+    omega (arith, at-loop-test .loop-test .taken, at-loop .loop .inv .1 .few)
 
 loop-less : tie.Need-loop-less Inv-loop μ-loop
 loop-less c =
-    let at-put = c .before .before in
-    let at-if = at-put .before .before .before .before in
-    let at-inputs = at-if .before .before .before .before .before .before .before in
-    omega (arith, at-inputs .before .loop-test .taken)
+    let at-loop-test = c .before .before .before .before .before .before .before .before .before .before .before .before .before .before in
+    omega (arith, at-loop-test .loop-test .taken)
 
 loop-again : tie.Need-loop-again Inv-loop μ-loop
 loop-again c =
-    let at-put = c .before .before in
-    let at-if = at-put .before .before .before .before in
-    let at-phase = at-if .before .before .before in
-    let at-inputs = at-phase .before .before .before .before in
-    let l = at-inputs .before .before in
-    let a = l .before .before .before .before .before .before .before .before .before .before .before .args in
+    let at-put-row = c .before .before in
+    let at-if1 = at-put-row .before .before .before .before in
+    let at-phase = at-if1 .before .before .before in
+    let at-inputs-at = at-phase .before .before .before .before in
+    let at-loop-test = at-inputs-at .before in
+    let at-loop = at-loop-test .before in
+    let at-start = at-loop .before .before .before .before .before .before .before .before .before .before .before .before in
+    let l = at-loop .loop in
+    let a = at-start .args in
     let q = planOf (a .plan .now) in
     let inputs = rowInputs (q .inputs) (a .value .now) (a .unknown .now) in
-    let o = momentOf (l .loop .cells) (l .loop .pending) (l .loop .stood) (l .loop .standing) in
-    let w = l .loop .out in
-    let h = at-inputs .before .loop-test .taken in
-    let e = at-phase .phase .ensures ∙ ap (λ (x : Inputs). phaseAt q x o) (at-inputs .inputs-at .ensures) in
-    let x = row-written (l .loop .p) w _ _ _ _ (at-put .put-row .ensures) in (
+    let o = momentOf (l .cells) (l .pending) (l .stood) (l .standing) in
+    let h = at-loop-test .loop-test .taken in
+    let e = at-phase .phase .ensures ∙ ap (λ (x : Inputs). phaseAt q x o) (at-inputs-at .inputs-at .ensures) in
+    let x = row-written (l .p) (l .out) _ _ _ (at-put-row .put-row .ensures) in (
       omega (arith, h),
-      kept-written (l .loop .inv .1) _ _ _ x,
-      sym (phases-on q inputs _ (l .loop .p) o h _ e (at-if .if1 .left)) ∙ l .loop .inv .2,
-      sym (trace-on q inputs _ (l .loop .p) o w h _ e (at-if .if1 .left) _ x) ∙ l .loop .inv .3,
+      kept-written (l .inv .1) _ _ _ x,
+      sym (phases-on q inputs _ (l .p) o h _ e (at-if1 .if1 .left)) ∙ l .inv .2,
+      sym (trace-on q inputs _ (l .p) o (l .out) h _ e (at-if1 .if1 .left) _ x) ∙ l .inv .3,
     )
+
+same-length-2 : tie.Need-same-length-2 Inv-loop μ-loop
+same-length-2 c =
+    let at-loop = c .before .before .before .before in
+    at-loop .loop .inv .1 .long
 
 returns-2 : tie.Need-returns-2 Inv-loop μ-loop
 returns-2 c =
-    let l = c .before .before .before .before in
-    let at-slots = l .before .before in
-    let at-unpack = at-slots .before .before .before .before in
-    let a = at-unpack .before .before .before .before .before .args in
+    let at-loop-test = c .before .before .before in
+    let at-loop = at-loop-test .before in
+    let at-slots-of = at-loop .before .before .before in
+    let at-unpack = at-slots-of .before .before .before .before in
+    let at-start = at-unpack .before .before .before .before .before in
+    let l = at-loop .loop in
+    let a = at-start .args in
     let q = planOf (a .plan .now) in
     let inputs = rowInputs (q .inputs) (a .value .now) (a .unknown .now) in
-    let first = a .out .now in
-    let h = c .before .before .before .loop-test .left in
-    let z = laid-out q (a .t2) _ _ _ (at-slots .slots-of .ensures) (at-unpack .unpack .ensures) in (
+    let h = at-loop-test .loop-test .left in
+    let z = laid-out q (a .t2) (a .user) _ _ _ (at-slots-of .slots-of .ensures) (at-unpack .unpack .ensures) in (
       c .ended2 .ensures
-          ∙ ap ended (sym (phases-end q inputs _ (l .loop .p) _ (omega (arith, h))) ∙ l .loop .inv .2 ∙ ap (phasesAt q inputs _ 0) z),
-      sym (trace-end q inputs _ (l .loop .p) _ _ (omega (arith, h)))
-          ∙ l .loop .inv .3
-          ∙ ap (λ (x : Moment). traceFromAt q inputs (rounds (a .value .now)) 0 x first) z,
+          ∙ ap ended (sym (phases-end q inputs _ (l .p) _ (omega (arith, h))) ∙ l .inv .2 ∙ ap (phasesAt q inputs _ 0) z),
+      sym (trace-end q inputs _ (l .p) _ _ (omega (arith, h)))
+          ∙ l .inv .3
+          ∙ ap (λ (x : Moment). traceFromAt q inputs (rounds (a .value .now)) 0 x (a .out .now)) z,
     )
 
 pub trace-phases-spec : {M : Type 1} → statement M
@@ -152,12 +165,12 @@ trace-phases-spec =
     inputs-at-requires
     (λ c κs. search needs)
     (λ c κs. search needs)
-    (λ c. c .before .before .before .before .before .before .before .before .before .before .before .before .loop .inv .1 .long)
+    same-length
     returns
     put-row-requires
     add-p
     loop-less
     loop-again
     (λ c κs. search needs)
-    (λ c. c .before .before .before .before .loop .inv .1 .long)
+    same-length-2
     returns-2)

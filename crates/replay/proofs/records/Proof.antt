@@ -8,10 +8,10 @@ use Rattle.replay.proofs.records.Statement.{statement}
 use Rattle.replay.proofs.records.Tie as tie
 
 abbrev Inv-loop : tie.InvT-loop
-Inv-loop sheet form nodes₀ rows₀ next₀ turns₀ nodes rows next turns = (length nodes ≡ 16385) × (length rows ≡ 1057)
+Inv-loop sheet nodes₀ rows₀ next₀ turns₀ nodes rows next turns = (length nodes ≡ 16385) × (length rows ≡ 1057)
 
 abbrev μ-loop : tie.MeasureT-loop
-μ-loop sheet form nodes₀ rows₀ next₀ turns₀ nodes rows next turns = turns
+μ-loop sheet nodes₀ rows₀ next₀ turns₀ nodes rows next turns = turns
 
 loop-holds : tie.Need-loop-holds Inv-loop μ-loop
 loop-holds c = (refl, refl)

@@ -9,7 +9,7 @@ use Rattle.simulator.proofs.choose.Tie as tie
 
 returns : tie.Need-returns
 returns c =
-    c .refused .ensures ∙ choose-refused _ _ (c .before .before .before .prepare .ensures .0) _ (c .before .if1 .taken) _
+    c .refused .ensures ∙ choose-refused _ _ (c .before .before .before .prepare .ensures .0) _ (c .before .if1 .taken) _ _
 
 returns-2 : tie.Need-returns-2
 returns-2 c =
@@ -19,7 +19,7 @@ returns-2 c =
     let s = at-prepare .before .before .before in
     c .choose .ensures
     ∙ calls-same _ _ (p .0) (s .args .st) (at-if .if1 .left) _ _ (length-replicate {A = ℕ} 25212 0) (p .1) (s .good .1 .0) .choose
-    _
+    _ _
 
 pub choose-spec : {M : Type 1} → statement M
 choose-spec = tie.close (tie.spec (λ c κs. search needs) (λ c κs. search needs) returns (λ c κs. search needs) returns-2)

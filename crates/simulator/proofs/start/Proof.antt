@@ -1,17 +1,13 @@
--- `simulator::start` meets its contract. Assumes nothing.
+-- `simulator::start` meets its contract: the start on the plan, which a refused sheet leaves at zeros. Assumes nothing.
 use borrow.Author.Needs.{needs}
-use Rattle.simulator.proofs.Reading.{start-answer}
+use Rattle.simulator.proofs.Answers.{start-answer}
 use Rattle.simulator.proofs.start.Statement.{statement}
 use Rattle.simulator.proofs.start.Tie as tie
 
-read-requires : tie.Need-read-requires
-read-requires c κs = search needs
-
-started-requires : tie.Need-started-requires
-started-requires c κs = search needs
-
 returns : tie.Need-returns
-returns c = start-answer _ _ (c .before .read .ensures) (c .started .ensures)
+returns c =
+    let p = c .before .before .prepare .ensures in
+    start-answer _ _ _ (p .0) _ (p .1) _ (c .start .ensures)
 
 pub start-spec : {M : Type 1} → statement M
-start-spec = tie.close (tie.spec read-requires started-requires returns)
+start-spec = tie.close (tie.spec (λ c κs. search needs) (λ c κs. search needs) returns)

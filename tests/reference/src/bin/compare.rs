@@ -10,7 +10,7 @@ use reference::encode::encode;
 use reference::library::{self, Library, SAVED, TEXT};
 use reference::random::Random;
 use reference::samples::{self, to_hex};
-use reference::state::{Slot, State};
+use reference::state::{MOST, Slot, State, USERS};
 use reference::{generate, limits, mutate, pseudocode, saved, sheet, states};
 
 const RANDOM_MODULES: usize = 10_000;
@@ -19,6 +19,8 @@ const DAMAGED: usize = 5_000;
 const DAMAGED_EACH: usize = 4;
 const NOISE: usize = 20_000;
 const STATES: usize = 20_000;
+/// Counters drawn for each bench sheet.
+const BY_USERS: usize = 500;
 /// The most that a short counter holds.
 const SHORT_END: u64 = u32::MAX as u64;
 /// Bytes behind the text that the library must not reach.
@@ -35,7 +37,7 @@ fn main() -> ExitCode {
     comparison.damaged(seed);
     comparison.noise(seed);
     comparison.saved(seed);
-    comparison.counters();
+    comparison.counters(seed);
     comparison.coverage();
     println!("{} sheets", comparison.met.iter().sum::<u64>());
     println!("{} passed, {} failed", comparison.passed, comparison.failed);
@@ -157,20 +159,33 @@ impl Comparison {
         });
     }
 
-    /// Saved states of both forms, whole and damaged, brought over as the reference loads them.
+    /// Saved states of all forms, whole and damaged, brought over as the reference does.
     fn saved(&mut self, seed: u64) {
         let mut random = Random::new(seed ^ 4 << 32);
         self.group("saved states", |_| (0..STATES).try_for_each(|_| bring(&mut random)));
     }
 
-    /// Calls on states at and next to the ends of the counters, and of the short ones.
-    fn counters(&mut self) {
+    /// Calls on states at and next to the end of the time, with allowances that are used up after
+    /// some choices, and with counts above them.
+    fn counters(&mut self, seed: u64) {
         let ends = [0, SHORT_END - 1, SHORT_END, SHORT_END + 1, u64::MAX - 1, u64::MAX];
+        let mut random = Random::new(seed ^ 5 << 32);
         self.group("counters", |_| {
-            let pairs = ends.into_iter().flat_map(|time| ends.map(|count| (time, count)));
             samples::ALL.iter().try_for_each(|bench| {
                 let sheet = bench.sheet();
-                pairs.clone().try_for_each(|(time, count)| run_on(&sheet, time, count))
+                (0..BY_USERS).try_for_each(|_| {
+                    let time = random.pick(&ends);
+                    let allowances = states::allowances(&mut random);
+                    let counts = allowances.map(|allowance| {
+                        let room = random.pick(&[0, 0, 1, 2, 3, 5, 9]).min(allowance);
+                        u64::from(allowance - room) + u64::from(random.chance(1, 40))
+                    });
+                    let users = std::array::from_fn(|_| match random.chance(1, 12) {
+                        true => random.pick(&[4, 255]),
+                        false => random.below(USERS) as u8,
+                    });
+                    run_on(&sheet, &Counters { time, counts, allowances }, &users)
+                })
             })
         });
     }
@@ -227,14 +242,23 @@ fn bring(random: &mut Random) -> Outcome {
     let mut state = states::noise(random);
     if random.chance(1, 2) {
         state.time %= 1 << 32;
-        state.count %= 1 << 32;
+        state.counts[0] %= 1 << 32;
     }
     let mut old = match saved::save_short(&state) {
-        Some(short) if random.chance(2, 3) => short,
+        Some(short) if random.chance(1, 2) => short,
+        _ if random.chance(1, 2) => saved::save_long(&state),
         _ => saved::save(&state),
     };
+    let mut allowances = states::allowances(random);
+    let count = u32::try_from(state.counts[0]).unwrap_or(u32::MAX);
     match random.below(8) {
-        0 => old[0] = random.below(4) as u8,
+        0 => allowances[0] = count,
+        1 => allowances[0] = count.saturating_sub(1),
+        2..=5 => allowances[0] = u32::MAX,
+        _ => {}
+    }
+    match random.below(8) {
+        0 => old[0] = random.below(5) as u8,
         1 => old.truncate(random.below(old.len())),
         2 => old.push(0),
         3 => {
@@ -244,43 +268,53 @@ fn bring(random: &mut Random) -> Outcome {
         _ => {}
     }
     let mut lent = [0xA5; SAVED];
-    let number = library::bring_over(&old, &mut lent);
-    let expected = match saved::load(&old) {
-        Some(state) => (0, saved::save(&state)),
-        None => (31, vec![0xA5; SAVED]),
+    let number = library::bring_over(&old, allowances, &mut lent);
+    let expected = match saved::bring_over(&old, allowances) {
+        Ok(state) => (0, saved::save(&state)),
+        Err(number) => (number, vec![0xA5; SAVED]),
     };
     match (number, lent.to_vec()) == expected {
         true => Ok(()),
-        false => Err(format!("bring over gives {number} for {}", to_hex(&old))),
+        false => Err(format!("bring over gives {number} for {allowances:?}, {}", to_hex(&old))),
     }
 }
 
-/// The start run to rest, an instant and a plain run, with these counters.
-fn run_on(sheet: &[u8], time: u64, count: u64) -> Outcome {
+/// Those of a state.
+#[derive(Debug)]
+struct Counters {
+    time: u64,
+    counts: [u64; USERS],
+    allowances: [u32; USERS],
+}
+
+/// The start run to rest, then instants, choices and runs of these users, with these counters.
+fn run_on(sheet: &[u8], counters: &Counters, users: &[u8; 7]) -> Outcome {
     let reading = sheet::read(sheet);
     let inputs = reading.as_ref().map_or(0, |module| usize::from(module.inputs));
     let answers = |calls: &dyn Calls| {
         let mut state = State::ZERO;
-        let mut numbers = vec![calls.start(&mut state)];
-        numbers.push(calls.run_plain(&mut state, u16::MAX).number);
-        (state.time, state.count) = (time, count);
+        let mut numbers = vec![calls.start(&mut state, MOST)];
+        numbers.push(calls.run_plain(&mut state, 0, u16::MAX).number);
+        state.time = counters.time;
+        (state.counts, state.allowances) = (counters.counts, counters.allowances);
         for clock in [0, 1] {
+            let of = |call: usize| users[3 * clock as usize + call];
             let mut given = vec![Slot::known(1); inputs];
             given[0] = Slot::known(clock);
             numbers.push(calls.instant(&mut state, &given));
-            numbers.push(calls.choose(&mut state, 0));
-            numbers.push(calls.run(&mut state, &[0, 0]).1);
-            numbers.push(calls.run_plain(&mut state, u16::MAX).number);
+            numbers.push(calls.choose(&mut state, of(0), 0));
+            numbers.push(calls.run(&mut state, of(1), &[0, 0]).1);
+            numbers.push(calls.run_plain(&mut state, of(2), u16::MAX).number);
         }
         let rows = vec![vec![Slot::known(1); inputs - 1]; 2];
-        numbers.push(calls.run_cycles(&mut state, &rows).1);
+        numbers.push(calls.run_cycles(&mut state, users[6], &rows).1);
         (numbers, state)
     };
     let expected = answers(&Reference::new(&reading));
     let found = answers(&Library { sheet });
     match found == expected {
         true => Ok(()),
-        false => Err(format!("time {time}, count {count}: {:?} and {:?}", expected.0, found.0)),
+        false => Err(format!("{counters:?} {users:?}: {:?} and {:?}", expected.0, found.0)),
     }
 }
 

@@ -37,16 +37,20 @@ fn main() -> ExitCode {
             break;
         }
     }
-    let Counts { instants, choices, calls, cycle_runs, refused } = sum;
+    let Counts { instants, choices, calls, cycle_runs, used_up, refused } = sum;
     println!(
         "{passed} modules, {instants} instants, {choices} choices and {calls} calls in all,"
     );
-    println!("{cycle_runs} cycle runs; refused calls by number:");
+    println!(
+        "{used_up} lists ended by used-up allowances, {cycle_runs} cycle runs; refused calls by number:"
+    );
     for (number, count) in refused.iter().enumerate().filter(|(_, count)| **count > 0) {
         println!("  {number:<4}{count:>10}");
     }
-    let missing: Vec<usize> =
-        [22, 25, 32, 33, 34, 35].into_iter().filter(|&number| refused[number] == 0).collect();
+    let missing: Vec<usize> = [22, 25, 32, 33, 34, 35, 46, 47]
+        .into_iter()
+        .filter(|&number| refused[number] == 0)
+        .collect();
     if !missing.is_empty() {
         failed += 1;
         println!("never met: {missing:?}");

@@ -3,10 +3,10 @@
 use super::{Inputs, Planes, SAVED, rows_of_16};
 use crate::calls::Calls;
 use crate::compiler::Lane;
-use crate::machine::number::FULL;
+use crate::machine::number::USED_UP;
 use crate::saved::{load, save};
 use crate::simulator::{PlainRun, Verdict};
-use crate::state::{Slot, State};
+use crate::state::{Slot, State, USERS};
 
 /// The proved library on a sheet.
 pub struct Library<'a> {
@@ -24,26 +24,27 @@ impl Library<'_> {
 }
 
 impl Calls for Library<'_> {
-    fn start(&self, state: &mut State) -> u8 {
-        self.on_saved(state, |saved| super::start(self.sheet, saved))
+    fn start(&self, state: &mut State, allowances: [u32; USERS]) -> u8 {
+        self.on_saved(state, |saved| super::start(self.sheet, allowances, saved))
     }
 
-    fn choose(&self, state: &mut State, choice: u8) -> u8 {
-        self.on_saved(state, |saved| super::choose(self.sheet, saved, choice))
+    fn choose(&self, state: &mut State, user: u8, choice: u8) -> u8 {
+        self.on_saved(state, |saved| super::choose(self.sheet, saved, user, choice))
     }
 
-    fn run(&self, state: &mut State, choices: &[u8]) -> (usize, u8) {
-        self.on_saved(state, |saved| super::run(self.sheet, saved, choices))
+    fn run(&self, state: &mut State, user: u8, choices: &[u8]) -> (usize, u8) {
+        self.on_saved(state, |saved| super::run(self.sheet, saved, user, choices))
     }
 
-    fn run_plain(&self, state: &mut State, limit: u16) -> PlainRun {
-        let run = self.on_saved(state, |saved| super::run_plain(self.sheet, saved, limit));
+    fn run_plain(&self, state: &mut State, user: u8, limit: u16) -> PlainRun {
+        let run =
+            self.on_saved(state, |saved| super::run_plain(self.sheet, saved, user, limit));
         let (accepted, number, word) = run;
         let verdict = match (word, number) {
             (0, 0) => Verdict::Quiet,
             (1, 0) => Verdict::Spent,
-            (2, FULL) => Verdict::Full,
-            (3, 1..=11 | 31) => Verdict::Refused,
+            (2, USED_UP) => Verdict::Full,
+            (3, 1..=11 | 31 | 46) => Verdict::Refused,
             _ => panic!("word {word} with number {number}"),
         };
         PlainRun { accepted, number, verdict }
@@ -54,9 +55,11 @@ impl Calls for Library<'_> {
         self.on_saved(state, |saved| super::instant(self.sheet, saved, &inputs))
     }
 
-    fn run_cycles(&self, state: &mut State, inputs: &[Vec<Slot>]) -> (usize, u8) {
+    fn run_cycles(&self, state: &mut State, user: u8, inputs: &[Vec<Slot>]) -> (usize, u8) {
         let (value, unknown) = rows_of_16(inputs);
-        self.on_saved(state, |saved| super::run_cycles(self.sheet, saved, &value, &unknown))
+        self.on_saved(state, |saved| {
+            super::run_cycles(self.sheet, saved, user, &value, &unknown)
+        })
     }
 
     fn extract(&self, nodes: &mut [u16], rows: &mut [u16]) -> u8 {

@@ -4,13 +4,14 @@ use super::Machine;
 use crate::state::{Pending, Slot, State};
 
 impl Machine<'_> {
-    /// Values and pending values have their widths, places lie inside their threads,
-    /// and no mark or pending value stands past the sheet's.
+    /// Values and pending values have their widths, places lie inside their threads, no mark or
+    /// pending value stands past the sheet's, and no count is above its allowance.
     pub fn fits(&self, state: &State) -> bool {
         self.values_fit(state)
             && self.pending_fit(state)
             && self.places_fit(state)
             && !state.due[self.module.wires.len()..].contains(&true)
+            && counts_fit(state)
     }
 
     fn values_fit(&self, state: &State) -> bool {
@@ -38,6 +39,12 @@ impl Machine<'_> {
         inputs.len() == usize::from(self.module.inputs)
             && slots_fit(&self.module.widths, inputs)
     }
+}
+
+/// A count may be its allowance, not above.
+fn counts_fit(state: &State) -> bool {
+    let mut pairs = state.counts.into_iter().zip(state.allowances);
+    pairs.all(|(count, allowance)| count <= allowance.into())
 }
 
 /// As far as both go.

@@ -3,15 +3,21 @@
 use super::{Choice, Machine, number};
 use crate::module::{Expr, Module, Variable};
 use crate::pseudocode::Instruction;
-use crate::state::{Pending, Slot, State};
+use crate::state::{Pending, Slot, State, USERS};
 use crate::value::{Scope, Value, evaluate};
 
 impl Machine<'_> {
-    /// Makes one choice, or says why not: 22, 33 to 35, 36.
-    pub fn choose(&self, state: &mut State, choice: u8) -> Result<(), u8> {
+    /// Makes one choice of a user, or says why not: 22, 46, 33 to 35, 47.
+    pub fn choose(&self, state: &mut State, user: u8, choice: u8) -> Result<(), u8> {
         let choice = self.named(choice).ok_or(number::NO_ITEM)?;
+        if usize::from(user) >= USERS {
+            return Err(number::NO_USER);
+        }
         self.allow(state, choice)?;
-        state.count = state.count.checked_add(1).ok_or(number::FULL)?;
+        if !state.has_room(user) {
+            return Err(number::USED_UP);
+        }
+        state.counts[usize::from(user)] += 1;
         match choice {
             Choice::Thread(thread) => self.run_thread(state, thread),
             Choice::Wire(wire) => self.run_wire(state, wire),

@@ -5,7 +5,7 @@ use crate::calls::Calls;
 use crate::machine::{COMMIT, Machine};
 use crate::random::Random;
 use crate::simulator::{PlainRun, Verdict};
-use crate::state::State;
+use crate::state::{MOST, State};
 
 /// Which of the enabled items is taken.
 #[derive(Clone, Copy, Debug, PartialEq, Eq)]
@@ -43,28 +43,29 @@ impl Order {
 }
 
 impl<C: Calls> List<'_, C> {
-    /// A choice, a run over a list or a plain run.
-    pub(super) fn accepted_call(&mut self) -> Outcome {
+    /// A choice, a run over a list or a plain run, of a user with choices left.
+    pub(super) fn accepted_call(&mut self, user: u8) -> Outcome {
         self.counts.calls += 1;
         match self.random.below(8) {
-            0..=3 => self.one_choice(),
-            4..=6 => self.some_choices(),
-            _ => self.plain_run(),
+            0..=3 => self.one_choice(user),
+            4..=6 => self.some_choices(user),
+            _ => self.plain_run(user),
         }
     }
 
-    fn one_choice(&mut self) -> Outcome {
+    fn one_choice(&mut self, user: u8) -> Outcome {
         let choice = self.order.pick(self.machine, &self.state, 0, self.random);
-        self.last = format!("choice {choice}");
-        match self.calls.choose(&mut self.state, choice) {
-            0 => self.accept(1),
+        self.last = format!("choice {choice} of user {user}");
+        match self.calls.choose(&mut self.state, user, choice) {
+            0 => self.accept(user, 1),
             number => Err(format!("an enabled choice is refused with {number}")),
         }
     }
 
-    /// Now and then with one among them that is refused, and with more behind it.
-    fn some_choices(&mut self) -> Outcome {
-        let mut state = self.state.clone();
+    /// Now and then with one among them that is refused, and with more behind it; they may be more
+    /// than the user has left.
+    fn some_choices(&mut self, user: u8) -> Outcome {
+        let mut state = State { allowances: MOST, ..self.state.clone() };
         let mut choices = Vec::new();
         let mut last = 0;
         for _ in 0..self.random.pick(&[1, 2, 4, 8, 20]) {
@@ -73,36 +74,45 @@ impl<C: Calls> List<'_, C> {
             }
             last = self.order.pick(self.machine, &state, last, self.random);
             choices.push(last);
-            self.machine.choose(&mut state, last).expect("enabled");
+            self.machine.choose(&mut state, user, last).expect("enabled");
         }
         if self.random.chance(1, 8) {
             let bad = self.random.pick(&[254, self.machine.items() as u8]);
             choices.extend([bad, 0, COMMIT]);
         }
-        self.last = format!("run {choices:?}");
-        let (found, number) = self.calls.run(&mut self.state, &choices);
+        self.last = format!("run {choices:?} of user {user}");
+        let room = self.room(user);
+        let (found, number) = self.calls.run(&mut self.state, user, &choices);
         if found > choices.len() || (number == 0) != (found == choices.len()) {
             return Err(format!("{found} of {} accepted, and {number}", choices.len()));
         }
-        self.accept(found)
+        if found as u64 > room || (number == 47 && found as u64 != room) {
+            return Err(format!("{found} accepted, and {number}, with {room} left"));
+        }
+        self.accept(user, found)
+    }
+
+    /// How many choices the user has left.
+    fn room(&self, user: u8) -> u64 {
+        let user = usize::from(user);
+        u64::from(self.allowances[user]) - self.by_user[user]
     }
 
     /// "It says quiet exactly when the state reached is quiet, spent exactly when N choices ran and
-    /// it isn't." The count is never full in so short a list.
-    fn plain_run(&mut self) -> Outcome {
+    /// it isn't", and else 47, met before the Nth.
+    fn plain_run(&mut self, user: u8) -> Outcome {
+        let room = self.room(user);
         let limit = self.random.pick(&[0, 1, 2, 3, 10, u16::MAX]);
-        self.last = format!("plain run of at most {limit}");
+        self.last = format!("plain run of at most {limit} of user {user}");
         let PlainRun { accepted, number, verdict } =
-            self.calls.run_plain(&mut self.state, limit);
-        if number != 0 {
-            return Err(format!("stopped by {number}"));
-        }
+            self.calls.run_plain(&mut self.state, user, limit);
         if accepted > limit {
             return Err(format!("{accepted} accepted, of at most {limit}"));
         }
         let expected = match self.machine.quiet(&self.state) {
             true => Verdict::Quiet,
             false if accepted == limit => Verdict::Spent,
+            false if u64::from(accepted) == room => Verdict::Full,
             false => {
                 return Err(format!("says {verdict:?} after {accepted}, and it isn't quiet"));
             }
@@ -110,6 +120,9 @@ impl<C: Calls> List<'_, C> {
         if verdict != expected {
             return Err(format!("says {verdict:?} after {accepted}, not {expected:?}"));
         }
-        self.accept(accepted.into())
+        if number != if expected == Verdict::Full { 47 } else { 0 } {
+            return Err(format!("stopped by {number} after {accepted}"));
+        }
+        self.accept(user, accepted.into())
     }
 }

@@ -4,7 +4,7 @@ use super::{List, Outcome};
 use crate::calls::Calls;
 use crate::lanes;
 use crate::machine::COMMIT;
-use crate::state::{Slot, State};
+use crate::state::{Slot, State, USERS};
 
 impl<C: Calls> List<'_, C> {
     /// A call that may be refused. Where this implementation says that it would be accepted,
@@ -16,7 +16,8 @@ impl<C: Calls> List<'_, C> {
         }
     }
 
-    /// Bytes that name no item, items that aren't enabled, commits too early or of nothing.
+    /// Bytes that name no item, users above 3, items that aren't enabled, commits too early or of
+    /// nothing, users whose allowance is used up.
     fn refused_choice(&mut self) -> Outcome {
         let items = self.machine.items() as u8;
         let choice = match self.random.below(4) {
@@ -24,18 +25,26 @@ impl<C: Calls> List<'_, C> {
             1 => self.random.pick(&[items, 254]),
             _ => self.random.below(items.into()) as u8,
         };
-        let expected = self.reference.choose(&mut self.state.clone(), choice);
+        let user = match self.random.below(8) {
+            0 => self.random.pick(&[USERS as u8, u8::MAX]),
+            _ => self.random.below(USERS) as u8,
+        };
+        let by_run = self.random.chance(1, 3);
+        let expected = match by_run {
+            true => self.reference.run(&mut self.state.clone(), user, &[choice]).1,
+            false => self.reference.choose(&mut self.state.clone(), user, choice),
+        };
         if expected == 0 {
             return Ok(());
         }
-        self.last = format!("refused choice {choice}");
+        self.last = format!("refused choice {choice} of user {user}");
         let mut state = self.state.clone();
-        let number = match self.random.chance(1, 3) {
-            true => match self.calls.run(&mut state, &[choice, 0]) {
+        let number = match by_run {
+            true => match self.calls.run(&mut state, user, &[choice, 0]) {
                 (0, number) => number,
                 (accepted, _) => return Err(format!("{accepted} accepted")),
             },
-            false => self.calls.choose(&mut state, choice),
+            false => self.calls.choose(&mut state, user, choice),
         };
         self.unchanged(expected, number, state)
     }

@@ -3,8 +3,8 @@
 use std::fmt::{self, Display, Formatter};
 
 use super::tables::{Cycle, Lent, Table, read_inputs, write_inputs};
-use crate::saved::{Bytes, FORM, SHORT, write_short, write_state};
-use crate::state::{Slot, State};
+use crate::saved::{Bytes, FORM, write_allowances, write_state};
+use crate::state::{Slot, State, USERS};
 use crate::value::Value;
 
 /// One call.
@@ -12,16 +12,18 @@ use crate::value::Value;
 pub enum Record {
     Read,
     List,
-    Start,
-    Choose(u8),
-    /// At most 65,535 choices.
-    Run(Vec<u8>),
-    Plain(u16),
+    Start([u32; USERS]),
+    /// A user and a choice.
+    Choose(u8, u8),
+    /// A user and at most 65,535 choices.
+    Run(u8, Vec<u8>),
+    /// A user and how many choices at most.
+    Plain(u8, u16),
     /// At most 255 values.
     Instant(Vec<Slot>),
     Load(Box<State>),
-    /// At most 65,535 bytes of a saved state.
-    Bring(Vec<u8>),
+    /// At most 65,535 bytes of a saved state, and the allowances for one count.
+    Bring(Vec<u8>, [u32; USERS]),
     Dump,
     Extract(Lent),
     Tables,
@@ -43,8 +45,6 @@ pub const BUFFER: u16 = 8_193;
 
 /// A script as far as it can be read.
 pub struct Script<'a> {
-    /// That of the states in it, as saved states are numbered.
-    pub form: u8,
     /// None where the head is bad.
     pub sheet: Option<&'a [u8]>,
     pub records: Vec<Record>,
@@ -55,64 +55,60 @@ pub struct Script<'a> {
 impl<'a> Script<'a> {
     pub fn read(script: &'a [u8]) -> Script<'a> {
         let mut bytes = Bytes::new(script);
-        let Some((form, sheet)) = read_head(&mut bytes) else {
+        let Some(sheet) = read_head(&mut bytes) else {
             let (records, rest) = (Vec::new(), Some(script));
-            return Script { form: FORM, sheet: None, records, rest };
+            return Script { sheet: None, records, rest };
         };
         let mut records = Vec::new();
         let mut rest = None;
         while !bytes.is_empty() {
             let from_here = bytes.rest();
-            let Some(record) = Record::read(form, &mut bytes) else {
+            let Some(record) = Record::read(&mut bytes) else {
                 rest = Some(from_here);
                 break;
             };
             records.push(record);
         }
-        Script { form, sheet: Some(sheet), records, rest }
+        Script { sheet: Some(sheet), records, rest }
     }
 
     pub fn write(sheet: &[u8], records: &[Record]) -> Vec<u8> {
-        Script::write_in(FORM, sheet, records)
-    }
-
-    /// In a form; the short one has no state whose counters have more than 32 bits.
-    pub fn write_in(form: u8, sheet: &[u8], records: &[Record]) -> Vec<u8> {
-        let mut script = vec![form];
+        let mut script = vec![FORM];
         let length = u16::try_from(sheet.len()).expect("at most 65,535 bytes");
         script.extend(length.to_le_bytes());
         script.extend(sheet);
-        records.iter().for_each(|record| record.write(form, &mut script));
+        records.iter().for_each(|record| record.write(&mut script));
         script
     }
 }
 
-/// The form and the sheet, behind the sheet's length.
-fn read_head<'a>(bytes: &mut Bytes<'a>) -> Option<(u8, &'a [u8])> {
+/// The sheet, behind the form and the sheet's length.
+fn read_head<'a>(bytes: &mut Bytes<'a>) -> Option<&'a [u8]> {
     let form = bytes.byte()?;
     let length = bytes.word()?;
     let sheet = bytes.take(length.into())?;
-    [FORM, SHORT].contains(&form).then_some((form, sheet))
+    (form == FORM).then_some(sheet)
 }
 
 impl Record {
     /// None where the letter is unknown, a flag neither 0 nor 1, or the record cut short.
-    fn read(form: u8, bytes: &mut Bytes) -> Option<Record> {
+    fn read(bytes: &mut Bytes) -> Option<Record> {
         Some(match bytes.byte()? {
             b'N' => Record::Read,
             b'Q' => Record::List,
-            b'S' => Record::Start,
-            b'C' => Record::Choose(bytes.byte()?),
+            b'S' => Record::Start(bytes.allowances()?),
+            b'C' => Record::Choose(bytes.byte()?, bytes.byte()?),
             b'R' => {
-                let count = bytes.word()?;
-                Record::Run(bytes.take(count.into())?.to_vec())
+                let (user, count) = (bytes.byte()?, bytes.word()?);
+                Record::Run(user, bytes.take(count.into())?.to_vec())
             }
-            b'P' => Record::Plain(bytes.word()?),
+            b'P' => Record::Plain(bytes.byte()?, bytes.word()?),
             b'I' => Record::Instant(read_inputs(bytes)?),
-            b'L' => Record::Load(Box::new(bytes.state(form)?)),
-            b'M' if form == FORM => {
+            b'L' => Record::Load(Box::new(bytes.state()?)),
+            b'M' => {
                 let length = bytes.word()?;
-                Record::Bring(bytes.take(length.into())?.to_vec())
+                let saved = bytes.take(length.into())?.to_vec();
+                Record::Bring(saved, bytes.allowances()?)
             }
             b'D' => Record::Dump,
             b'X' => Record::Extract(Lent::read(bytes)?),
@@ -132,20 +128,23 @@ impl Record {
         })
     }
 
-    fn write(&self, form: u8, script: &mut Vec<u8>) {
+    fn write(&self, script: &mut Vec<u8>) {
         match self {
             Record::Read => script.push(b'N'),
             Record::List => script.push(b'Q'),
-            Record::Start => script.push(b'S'),
-            Record::Choose(choice) => script.extend([b'C', *choice]),
-            Record::Run(choices) => {
+            Record::Start(allowances) => {
+                script.push(b'S');
+                write_allowances(allowances, script);
+            }
+            Record::Choose(user, choice) => script.extend([b'C', *user, *choice]),
+            Record::Run(user, choices) => {
                 let count = u16::try_from(choices.len()).expect("at most 65,535 choices");
-                script.push(b'R');
+                script.extend([b'R', *user]);
                 script.extend(count.to_le_bytes());
                 script.extend(choices);
             }
-            Record::Plain(limit) => {
-                script.push(b'P');
+            Record::Plain(user, limit) => {
+                script.extend([b'P', *user]);
                 script.extend(limit.to_le_bytes());
             }
             Record::Instant(inputs) => {
@@ -154,16 +153,14 @@ impl Record {
             }
             Record::Load(state) => {
                 script.push(b'L');
-                match form {
-                    SHORT => assert!(write_short(state, script), "short counters"),
-                    _ => write_state(state, script),
-                }
+                write_state(state, script);
             }
-            Record::Bring(saved) => {
+            Record::Bring(saved, allowances) => {
                 let length = u16::try_from(saved.len()).expect("at most 65,535 bytes");
                 script.push(b'M');
                 script.extend(length.to_le_bytes());
                 script.extend(saved);
+                write_allowances(allowances, script);
             }
             Record::Dump => script.push(b'D'),
             Record::Extract(lent) => {
@@ -197,16 +194,20 @@ impl Display for Record {
         match self {
             Record::Read => write!(f, "read"),
             Record::List => write!(f, "list"),
-            Record::Start => write!(f, "start"),
-            Record::Choose(choice) => write!(f, "choose {choice}"),
-            Record::Run(choices) => write!(f, "run {choices:?}"),
-            Record::Plain(limit) => write!(f, "plain run of at most {limit}"),
+            Record::Start(allowances) => write!(f, "start {allowances:?}"),
+            Record::Choose(user, choice) => write!(f, "user {user} chooses {choice}"),
+            Record::Run(user, choices) => write!(f, "user {user} runs {choices:?}"),
+            Record::Plain(user, limit) => {
+                write!(f, "plain run of at most {limit} by user {user}")
+            }
             Record::Instant(inputs) => {
                 write!(f, "instant")?;
                 write_values(f, inputs)
             }
             Record::Load(_) => write!(f, "load"),
-            Record::Bring(saved) => write!(f, "bring {} bytes over", saved.len()),
+            Record::Bring(saved, allowances) => {
+                write!(f, "bring {} bytes over with {allowances:?}", saved.len())
+            }
             Record::Dump => write!(f, "state"),
             Record::Extract(Lent { nodes, rows }) => write!(f, "extract {nodes} {rows}"),
             Record::Tables => write!(f, "tables"),

@@ -10,7 +10,7 @@ use reference::machine::Machine;
 use reference::module::Module;
 use reference::random::Random;
 use reference::simulator::Simulator;
-use reference::state::{Slot, State};
+use reference::state::{MOST, Slot, State};
 use reference::states;
 use reference::value::Value;
 
@@ -18,14 +18,14 @@ use crate::short::tables;
 
 /// The quiet states that accepted choices lead to, their counts set to 0.
 fn resting(machine: &Machine, from: &State) -> Vec<State> {
-    let first = State { count: 0, ..from.clone() };
+    let first = uncounted(from);
     let mut seen = BTreeSet::from([first.clone()]);
     let mut open = vec![first];
     while let Some(state) = open.pop() {
         for choice in 0..=255 {
             let mut next = state.clone();
-            if machine.choose(&mut next, choice).is_ok() {
-                next.count = 0;
+            if machine.choose(&mut next, 0, choice).is_ok() {
+                next = uncounted(&next);
                 if seen.insert(next.clone()) {
                     open.push(next);
                 }
@@ -33,6 +33,11 @@ fn resting(machine: &Machine, from: &State) -> Vec<State> {
         }
     }
     seen.into_iter().filter(|state| machine.quiet(state)).collect()
+}
+
+/// With the counts at 0.
+fn uncounted(state: &State) -> State {
+    State { counts: [0; 4], ..state.clone() }
 }
 
 /// All values and places.
@@ -86,7 +91,7 @@ fn all_orders() {
             assert_eq!(rests.len(), 1);
             rests.pop().expect("one")
         };
-        let mut state = rest(&simulator.start().expect("made"));
+        let mut state = rest(&simulator.start(MOST).expect("made"));
         agree(&module, &state, &book);
         for _ in 0..5 {
             let widths = &module.widths[1..module.inputs.into()];

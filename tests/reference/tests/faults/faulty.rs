@@ -10,7 +10,7 @@ use reference::module::{Module, Operator};
 use reference::samples::FLIP_FLOP;
 use reference::sheet::read;
 use reference::simulator::{PlainRun, Verdict};
-use reference::state::{Slot, State};
+use reference::state::{Slot, State, USERS};
 
 #[derive(Clone, Copy, Debug, PartialEq, Eq)]
 pub enum Fault {
@@ -39,6 +39,10 @@ pub enum Fault {
     EarlySpent,
     /// A plain run says quiet wherever it ends.
     EarlyQuiet,
+    /// Every choice is counted for user 0.
+    CountedForTheFirst,
+    /// An allowance lasts for one choice more.
+    OneMore,
 }
 
 pub struct Faulty<'a> {
@@ -54,6 +58,19 @@ impl Faulty<'_> {
 
     fn refuses(&self) -> bool {
         matches!(self.fault, Fault::RefusingEverything | Fault::RefusingToRun)
+    }
+
+    /// Who a choice is counted for, and the allowances that the state has afterwards.
+    fn payer(&self, state: &mut State, user: u8) -> (u8, [u32; USERS]) {
+        let allowed = state.allowances;
+        match self.fault {
+            Fault::CountedForTheFirst if usize::from(user) < USERS => (0, allowed),
+            Fault::OneMore => {
+                state.allowances = allowed.map(|allowance| allowance.saturating_add(1));
+                (user, allowed)
+            }
+            _ => (user, allowed),
+        }
     }
 
     /// Stores the pending values of the registers that the thread writes.
@@ -75,19 +92,21 @@ impl Faulty<'_> {
 }
 
 impl Calls for Faulty<'_> {
-    fn start(&self, state: &mut State) -> u8 {
+    fn start(&self, state: &mut State, allowances: [u32; USERS]) -> u8 {
         match self.fault {
             Fault::RefusingEverything => 2,
-            _ => self.calls.start(state),
+            _ => self.calls.start(state, allowances),
         }
     }
 
-    fn choose(&self, state: &mut State, choice: u8) -> u8 {
+    fn choose(&self, state: &mut State, user: u8, choice: u8) -> u8 {
         if self.refuses() {
             return 33;
         }
         let before = state.clone();
-        let number = self.calls.choose(state, choice);
+        let (payer, allowed) = self.payer(state, user);
+        let number = self.calls.choose(state, payer, choice);
+        state.allowances = allowed;
         let thread = usize::from(choice);
         let arrived = thread < self.module.threads.len()
             && !self.machine().enabled(state).any(|item| item == choice);
@@ -99,9 +118,12 @@ impl Calls for Faulty<'_> {
         number
     }
 
-    fn run(&self, state: &mut State, choices: &[u8]) -> (usize, u8) {
+    fn run(&self, state: &mut State, user: u8, choices: &[u8]) -> (usize, u8) {
+        if usize::from(user) >= USERS {
+            return (0, 46);
+        }
         for (accepted, &choice) in choices.iter().enumerate() {
-            match self.choose(state, choice) {
+            match self.choose(state, user, choice) {
                 0 => {}
                 number => return (accepted, number),
             }
@@ -109,16 +131,18 @@ impl Calls for Faulty<'_> {
         (choices.len(), 0)
     }
 
-    fn run_plain(&self, state: &mut State, limit: u16) -> PlainRun {
+    fn run_plain(&self, state: &mut State, user: u8, limit: u16) -> PlainRun {
         if self.refuses() {
-            return PlainRun { accepted: 0, number: 36, verdict: Verdict::Full };
+            return PlainRun { accepted: 0, number: 47, verdict: Verdict::Full };
         }
         let last = limit - u16::from(self.fault == Fault::EarlySpent && limit > 0);
         let mut accepted = 0;
         while accepted < last && !self.machine().quiet(state) {
             let choice = self.machine().lowest(state);
-            assert_eq!(self.choose(state, choice), 0);
-            accepted += 1;
+            match self.choose(state, user, choice) {
+                0 => accepted += 1,
+                number => return PlainRun { accepted, number, verdict: Verdict::Full },
+            }
         }
         let quiet = self.fault == Fault::EarlyQuiet || self.machine().quiet(state);
         let verdict = if quiet { Verdict::Quiet } else { Verdict::Spent };

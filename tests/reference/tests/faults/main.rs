@@ -14,19 +14,21 @@ use reference::sheet::read;
 use faulty::{Fault, Faulty};
 
 /// Each fault with the clause that it breaks.
-const FAULTS: [(Fault, &str); 12] = [
+const FAULTS: [(Fault, &str); 14] = [
     (Fault::ConditionalForBranch, "cycle run"),
     (Fault::WiresAfterRiseOnly, "quiet: v"),
     (Fault::CommitByThread, "quiet: v"),
     (Fault::IdleAfterFirstCycle, "quiet: places"),
-    (Fault::NothingRun, "time and count"),
+    (Fault::NothingRun, "time and counts"),
     (Fault::SameTable, "cycle run"),
     (Fault::IdleCycleRun, "cycle run"),
     (Fault::RefusingEverything, "extraction is refused"),
     (Fault::RefusingToRun, "not quiet, but choice"),
-    (Fault::MadeUpCount, "time and count"),
+    (Fault::MadeUpCount, "time and counts"),
     (Fault::EarlySpent, "says Spent"),
     (Fault::EarlyQuiet, "says Quiet"),
+    (Fault::CountedForTheFirst, "time and counts"),
+    (Fault::OneMore, "not quiet, but choice"),
 ];
 
 /// The clauses of demand 3 that random modules break.

@@ -6,9 +6,9 @@ use reference::differ::difference;
 use reference::random::Random;
 use reference::replay::{Cycle, Lent, Record, Script, Table, replay};
 use reference::samples::FLIP_FLOP;
-use reference::saved::{SHORT, save, save_short};
+use reference::saved::{save, save_long, save_short};
 use reference::script::script;
-use reference::state::{Slot, State};
+use reference::state::{MOST, Slot, State};
 use reference::states::noise;
 use reference::tally::Tally;
 
@@ -37,18 +37,18 @@ fn instant(numbers: &[u32]) -> Record {
 fn a_cycle_of_the_flip_flop() {
     let found = answers(&[
         Record::Read,
-        Record::Start,
-        Record::Plain(9),
+        Record::Start(MOST),
+        Record::Plain(0, 9),
         instant(&[0, 7]),
         instant(&[1, 7]),
-        Record::Choose(0),
-        Record::Choose(255),
-        Record::Run(vec![0, 255, 255, 0]),
-        Record::Plain(0),
+        Record::Choose(0, 0),
+        Record::Choose(0, 255),
+        Record::Run(0, vec![0, 255, 255, 0]),
+        Record::Plain(0, 0),
         instant(&[0, 7, 7]),
         instant(&[0, 256]),
-        Record::Choose(0),
-        Record::Choose(1),
+        Record::Choose(0, 0),
+        Record::Choose(0, 1),
     ]);
     let expected = [
         "read 0 0",
@@ -73,18 +73,19 @@ fn the_listing_in_hexadecimal() {
     let found = answers(&[Record::List]);
     let text: String = FLIP_FLOP.listing.bytes().map(|b| format!("{b:02x}")).collect();
     assert_eq!(found, [format!("list {text}")]);
-    let found = lines(&Script::write(&[0], &[Record::List, Record::Read, Record::Start]));
+    let found = lines(&Script::write(&[0], &[Record::List, Record::Read, Record::Start(MOST)]));
     assert_eq!(found, ["list 7265667573656420330a", "read 3 0", "start 3"]);
 }
 
 /// The state before the first record is all zero, which fits; a refused start leaves it.
 #[test]
 fn the_first_state() {
-    let zero = format!("state {}", "00".repeat(648));
+    let zero = format!("state {}", "00".repeat(688));
     assert_eq!(answers(&[Record::Dump])[0], zero);
-    let found = lines(&Script::write(&[], &[Record::Start, Record::Dump, Record::Plain(1)]));
+    let found =
+        lines(&Script::write(&[], &[Record::Start(MOST), Record::Dump, Record::Plain(0, 1)]));
     assert_eq!(found, ["start 2".into(), zero, "plain 0 2 refused".into()]);
-    assert_eq!(answers(&[Record::Plain(1)]), ["plain 0 0 quiet"]);
+    assert_eq!(answers(&[Record::Plain(0, 1)]), ["plain 0 0 quiet"]);
 }
 
 /// A loaded state is printed as it stands, whatever it holds.
@@ -95,45 +96,75 @@ fn states_are_printed_as_loaded() {
         let state = noise(&mut random);
         let saved = reference::saved::save(&state);
         let text: String = saved[1..].iter().map(|b| format!("{b:02x}")).collect();
-        let found = answers(&[Record::Load(Box::new(state)), Record::Choose(0), Record::Dump]);
+        let found =
+            answers(&[Record::Load(Box::new(state)), Record::Choose(0, 0), Record::Dump]);
         assert_eq!(found, ["load".into(), "choose 31".into(), format!("state {text}")]);
     }
 }
 
-/// In a script with short counters a state is printed so while its counters have 32 bits.
-#[test]
-fn short_counters() {
-    let mut state = State::start(0);
-    (state.time, state.count) = (u32::MAX.into(), 7);
-    let records = [
-        Record::Load(Box::new(state.clone())),
-        Record::Dump,
-        Record::Plain(9),
-        instant(&[0, 1]),
-        Record::Dump,
-    ];
-    let found = lines(&Script::write_in(SHORT, &FLIP_FLOP.sheet(), &records));
-    assert_eq!(found[1].len(), "state ".len() + 2 * 640);
-    assert!(found[1].ends_with("ffffffff07000000"));
-    assert_eq!((&found[2][..], &found[3][..]), ("plain 0 0 quiet", "instant 0"));
-    assert_eq!(found[4].len(), "state ".len() + 2 * 648);
-    assert!(found[4].ends_with("00000000010000000700000000000000"));
-}
-
-/// A state of either form is brought over; other bytes leave the state.
+/// A state of any form is brought over, after the sheet's own numbers; other bytes leave the state.
 #[test]
 fn bringing_over() {
-    let mut state = State::start(3);
-    (state.time, state.count) = (258, 3);
-    let [long, short] = [save(&state), save_short(&state).expect("short counters")];
+    let mut state = State::start(3, [3, 9, 9, 9]);
+    (state.time, state.counts) = (258, [3, 0, 0, 0]);
+    let short = save_short(&state).expect("short counters");
     let text = |saved: &[u8]| -> String { saved.iter().map(|b| format!("{b:02x}")).collect() };
-    let expected = format!("state {}", text(&long[1..]));
-    for saved in [long, short.clone()] {
-        let found = answers(&[Record::Bring(saved), Record::Dump]);
+    let expected = format!("state {}", text(&save(&state)[1..]));
+    let zero = format!("state {}", "00".repeat(688));
+    for saved in [save_long(&state), short.clone()] {
+        let found = answers(&[Record::Bring(saved.clone(), [3, 9, 9, 9]), Record::Dump]);
         assert_eq!(found, ["bring 0", &expected]);
+        let found = answers(&[Record::Bring(saved, [2, 9, 9, 9]), Record::Dump]);
+        assert_eq!(found, ["bring 31", &zero]);
     }
-    let found = answers(&[Record::Bring(short[..640].to_vec()), Record::Dump]);
-    assert_eq!(found, ["bring 31".into(), format!("state {}", "00".repeat(648))]);
+    let found = answers(&[Record::Bring(save(&state), [0; 4]), Record::Dump]);
+    assert_eq!(found, ["bring 0", &expected]);
+    let found = answers(&[Record::Bring(short[..640].to_vec(), MOST), Record::Dump]);
+    assert_eq!(found, ["bring 31", &zero]);
+    let found = lines(&Script::write(&[], &[Record::Bring(short, MOST), Record::Dump]));
+    assert_eq!(found, ["bring 2", &zero]);
+}
+
+/// Four users with their own allowances, one that is none, and one whose allowance is used up.
+#[test]
+fn users() {
+    let found = answers(&[
+        Record::Start([1, 2, 0, 0]),
+        instant(&[0, 7]),
+        instant(&[1, 7]),
+        Record::Choose(4, 0),
+        Record::Choose(4, 9),
+        Record::Run(4, vec![]),
+        Record::Plain(255, 0),
+        Record::Choose(2, 0),
+        Record::Choose(0, 0),
+        Record::Choose(0, 0),
+        Record::Plain(0, 0),
+        Record::Plain(0, 1),
+        Record::Run(1, vec![0, 255, 255]),
+        Record::Plain(3, 9),
+        Record::Dump,
+    ]);
+    let expected = [
+        "start 0",
+        "instant 0",
+        "instant 0",
+        "choose 46",
+        "choose 22",
+        "run 0 46",
+        "plain 0 46 refused",
+        "choose 47",
+        "choose 0",
+        "choose 47",
+        "plain 0 0 spent",
+        "plain 0 47 full",
+        "run 2 35",
+        "plain 0 0 quiet",
+    ];
+    assert_eq!(found[..14], expected);
+    let counters = [2, 1, 2, 0, 0].map(|n| format!("{n:02x}{}", "00".repeat(7))).concat();
+    let allowances = [1, 2, 0, 0].map(|n| format!("{n:02x}000000")).concat();
+    assert!(found[14].ends_with(&format!("{counters}{allowances}")), "{}", found[14]);
 }
 
 /// Any count of inputs is answered.
@@ -141,7 +172,7 @@ fn bringing_over() {
 fn instants_of_any_count() {
     for count in 0..=255 {
         let expected = if count == 2 { "instant 0" } else { "instant 25" };
-        assert_eq!(answers(&[Record::Start, instant(&vec![0; count])])[1], expected);
+        assert_eq!(answers(&[Record::Start(MOST), instant(&vec![0; count])])[1], expected);
     }
 }
 
@@ -150,29 +181,25 @@ fn instants_of_any_count() {
 #[test]
 fn heads() {
     assert_eq!(output(&[]), "bad script\n");
-    assert_eq!(output(&[1]), "bad script\n");
-    assert_eq!(output(&[1, 0]), "bad script\n");
-    assert_eq!(output(&[1, 1, 0]), "bad script\n");
-    assert_eq!(output(&[1, 0, 0]), "");
-    assert_eq!(output(&[1, 0, 0, b'N']), "read 2 0\n");
-    assert_eq!(output(&[2, 0, 0, b'N']), "read 2 0\n");
-    for form in (0..=255).filter(|form| ![1, 2].contains(form)) {
+    assert_eq!(output(&[3]), "bad script\n");
+    assert_eq!(output(&[3, 0]), "bad script\n");
+    assert_eq!(output(&[3, 1, 0]), "bad script\n");
+    assert_eq!(output(&[3, 0, 0]), "");
+    assert_eq!(output(&[3, 0, 0, b'N']), "read 2 0\n");
+    for form in (0..=255).filter(|&form| form != 3) {
         assert_eq!(output(&[form, 0, 0, b'N']), "bad script\n");
     }
-    let long = [&[1, 255, 255][..], &[0; 65_535], b"N"].concat();
+    let long = [&[3, 255, 255][..], &[0; 65_535], b"N"].concat();
     assert_eq!(output(&long), "read 1 8192\n");
 }
 
 #[test]
 fn letters() {
-    let forms = [(1, 640, &b"NQSCRPILDXTWKV"[..]), (2, 648, b"NQSCRPILMDXTWKV")];
-    for (form, length, letters) in forms {
-        for letter in 0..=255 {
-            let head = [form, 0, 0, b'N', letter];
-            let found = output(&[&head[..], &vec![0; length]].concat());
-            let second = found.lines().nth(1).expect("two lines");
-            assert_eq!(second != "bad script", letters.contains(&letter), "{letter}");
-        }
+    for letter in 0..=255 {
+        let head = [3, 0, 0, b'N', letter];
+        let found = output(&[&head[..], &[0; 688]].concat());
+        let second = found.lines().nth(1).expect("two lines");
+        assert_eq!(second != "bad script", b"NQSCRPILMDXTWKV".contains(&letter), "{letter}");
     }
 }
 
@@ -181,9 +208,9 @@ fn letters() {
 fn flags() {
     let head = Script::write(&FLIP_FLOP.sheet(), &[]);
     let load = |state: &[u8]| output(&[&head[..], b"L", state].concat());
-    let mut bytes = [0; 648];
+    let mut bytes = [0; 688];
     let mut flags = 0;
-    for place in 0..648 {
+    for place in 0..688 {
         bytes[place] = 2;
         flags += usize::from(load(&bytes) == "bad script\n");
         bytes[place] = 0;
@@ -221,19 +248,19 @@ fn records_are_read_as_written() {
         let script = script(seed);
         let read = Script::read(&script);
         if let (Some(sheet), None) = (read.sheet, read.rest) {
-            assert_eq!(Script::write_in(read.form, sheet, &read.records), script);
+            assert_eq!(Script::write(sheet, &read.records), script);
         }
     }
     let records = [
         Record::Read,
         Record::List,
-        Record::Start,
-        Record::Choose(200),
-        Record::Run((0..=255).cycle().take(65_535).collect()),
-        Record::Plain(0x1234),
+        Record::Start(MOST),
+        Record::Choose(0, 200),
+        Record::Run(0, (0..=255).cycle().take(65_535).collect()),
+        Record::Plain(0, 0x1234),
         Record::Instant(vec![Slot { unknown: true, number: 0xFEDC_BA98 }; 255]),
-        Record::Load(Box::new(State::start(5))),
-        Record::Bring((0..=255).cycle().take(641).collect()),
+        Record::Load(Box::new(State::start(5, MOST))),
+        Record::Bring((0..=255).cycle().take(641).collect(), [1, 2, 3, u32::MAX]),
         Record::Dump,
         Record::Extract(Lent { nodes: 16_385, rows: 1057 }),
         Record::Tables,
@@ -284,21 +311,21 @@ fn damaged_scripts() {
 
 #[test]
 fn differences_are_named() {
-    let records = [Record::Start, Record::Choose(7), Record::Dump];
+    let records = [Record::Start(MOST), Record::Choose(0, 7), Record::Dump];
     let script = Script::write(&FLIP_FLOP.sheet(), &records);
     let reference = output(&script);
     let differ = |other: &str| difference(&script, reference.as_bytes(), other.as_bytes());
     assert_eq!(differ(&reference), None);
     let report = differ(&reference.replace("choose 22", "choose 33")).expect("a difference");
-    let expected =
-        "line 2, record `choose 7`, after `start`\n  reference: choose 22\n  other: choose 33";
+    let expected = "line 2, record `user 0 chooses 7`, after `start [4294967295, 4294967295, \
+        4294967295, 4294967295]`\n  reference: choose 22\n  other: choose 33";
     assert_eq!(report, expected);
-    // The count's first byte is the eighth from the end.
-    let end = reference.len() - 1;
-    let other = format!("{}0100000000000000\n", &reference[..end - 16]);
+    // The last count's first byte is the eighth before the allowances.
+    let (before, allowances) = reference.split_at(reference.len() - 1 - 2 * 16);
+    let other = format!("{}0100000000000000{allowances}", &before[..before.len() - 16]);
     let report = differ(&other).expect("a difference");
-    assert!(report.starts_with("line 3, record `state`, after `choose 7`"), "{report}");
-    assert!(report.ends_with("count: 0000000000000000 and 0100000000000000"), "{report}");
+    assert!(report.starts_with("line 3, record `state`, after `user 0 chooses 7`"), "{report}");
+    assert!(report.ends_with("count 3: 0000000000000000 and 0100000000000000"), "{report}");
     // A word of a table, a wire of a cycle run.
     let zero = [Slot::ZERO; 32];
     let (lent, inputs) = (Lent::RIGHT, vec![]);

@@ -8,7 +8,7 @@ use reference::samples;
 use reference::second::{check, differs_on_x};
 use reference::sheet::read;
 use reference::simulator::{PlainRun, Verdict};
-use reference::state::{Slot, State};
+use reference::state::{MOST, Slot, State, USERS};
 use reference::trace::{Trace, parse};
 use reference::{stimulus, verilog};
 
@@ -91,26 +91,26 @@ fn a_changed_value_is_found() {
 struct Idle<'a>(Reference<'a>, &'static str);
 
 impl Calls for Idle<'_> {
-    fn start(&self, state: &mut State) -> u8 {
-        self.0.start(state)
+    fn start(&self, state: &mut State, allowances: [u32; USERS]) -> u8 {
+        self.0.start(state, allowances)
     }
-    fn choose(&self, state: &mut State, choice: u8) -> u8 {
-        self.0.choose(state, choice)
+    fn choose(&self, state: &mut State, user: u8, choice: u8) -> u8 {
+        self.0.choose(state, user, choice)
     }
-    fn run(&self, state: &mut State, choices: &[u8]) -> (usize, u8) {
-        self.0.run(state, choices)
+    fn run(&self, state: &mut State, user: u8, choices: &[u8]) -> (usize, u8) {
+        self.0.run(state, user, choices)
     }
-    fn run_plain(&self, state: &mut State, limit: u16) -> PlainRun {
+    fn run_plain(&self, state: &mut State, user: u8, limit: u16) -> PlainRun {
         let idle = PlainRun { accepted: 0, number: 0, verdict: Verdict::Quiet };
-        if self.1 == "run_plain" { idle } else { self.0.run_plain(state, limit) }
+        if self.1 == "run_plain" { idle } else { self.0.run_plain(state, user, limit) }
     }
     fn instant(&self, state: &mut State, inputs: &[Slot]) -> u8 {
         self.0.instant(state, inputs)
     }
-    fn run_cycles(&self, state: &mut State, inputs: &[Vec<Slot>]) -> (usize, u8) {
+    fn run_cycles(&self, state: &mut State, user: u8, inputs: &[Vec<Slot>]) -> (usize, u8) {
         match self.1 {
             "run_cycles" => (2 * inputs.len(), 0),
-            _ => self.0.run_cycles(state, inputs),
+            _ => self.0.run_cycles(state, user, inputs),
         }
     }
     fn extract(&self, nodes: &mut [u16], rows: &mut [u16]) -> u8 {
@@ -209,7 +209,7 @@ fn x_as_a_whole_differs_known_against_known() {
     let reading = read(&encode(&differs_on_x()));
     let calls = Reference::new(&reading);
     let mut state = State::ZERO;
-    calls.start(&mut state);
-    assert_eq!(calls.run_cycles(&mut state, &[vec![]]), (2, 0));
+    calls.start(&mut state, MOST);
+    assert_eq!(calls.run_cycles(&mut state, 0, &[vec![]]), (2, 0));
     assert_eq!(state.values[1..3], [Slot::known(0), Slot::known(2)]);
 }

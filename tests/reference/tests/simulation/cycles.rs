@@ -7,7 +7,7 @@ use reference::random::Random;
 use reference::samples;
 use reference::sheet::read;
 use reference::simulator::{Simulator, Verdict};
-use reference::state::{Slot, State};
+use reference::state::{MOST, Slot, State};
 use reference::states;
 
 use reference::build::{CLK, known, module, num, set, values};
@@ -21,13 +21,13 @@ fn rows(numbers: &[&[u32]]) -> Vec<Vec<Slot>> {
 fn flip_flop() {
     let reading = read(&samples::FLIP_FLOP.sheet());
     let simulator = Simulator::new(&reading);
-    let mut state = simulator.start().expect("read");
+    let mut state = simulator.start(MOST).expect("read");
     for number in [5, 5, 200, 0] {
-        let run = simulator.run_cycles(&mut state, &rows(&[&[number]]));
+        let run = simulator.run_cycles(&mut state, 0, &rows(&[&[number]]));
         assert_eq!((run.rows, run.number, run.verdict), (1, 0, Verdict::Quiet));
         assert_eq!(values(&state, 3), [Some(1), Some(number), Some(number)]);
     }
-    assert_eq!((state.time, state.count), (8, 3 + 3 + 3 + 3));
+    assert_eq!((state.time, state.counts[0]), (8, 3 + 3 + 3 + 3));
 }
 
 /// Reset, then 300 cycles with the count enabled: it wraps at 8 bits.
@@ -35,14 +35,14 @@ fn flip_flop() {
 fn counter() {
     let reading = read(&samples::COUNTER.sheet());
     let simulator = Simulator::new(&reading);
-    let mut state = simulator.start().expect("read");
+    let mut state = simulator.start(MOST).expect("read");
     let count = 3;
-    simulator.run_cycles(&mut state, &rows(&[&[1, 0]]));
+    simulator.run_cycles(&mut state, 0, &rows(&[&[1, 0]]));
     assert_eq!(values(&state, 4)[count], Some(0));
-    let run = simulator.run_cycles(&mut state, &vec![known(&[0, 1]); 300]);
+    let run = simulator.run_cycles(&mut state, 0, &vec![known(&[0, 1]); 300]);
     assert_eq!((run.rows, run.number, run.verdict), (300, 0, Verdict::Quiet));
     assert_eq!(values(&state, 4)[count], Some(300 % 256));
-    simulator.run_cycles(&mut state, &vec![known(&[0, 0]); 5]);
+    simulator.run_cycles(&mut state, 0, &vec![known(&[0, 0]); 5]);
     assert_eq!(values(&state, 4)[count], Some(300 % 256));
 }
 
@@ -59,9 +59,9 @@ fn cycles_are_calls() {
             let rows: Vec<Vec<Slot>> = (0..6)
                 .map(|_| widths.iter().map(|&w| states::fitting_slot(w, &mut random)).collect())
                 .collect();
-            let start = simulator.start().expect("made");
+            let start = simulator.start(MOST).expect("made");
             let mut state = start.clone();
-            let run = simulator.run_cycles(&mut state, &rows);
+            let run = simulator.run_cycles(&mut state, 0, &rows);
             let mut repeated = start;
             let expected = one_by_one(&simulator, &mut repeated, &rows);
             assert_eq!((run, state), (expected, repeated));
@@ -70,7 +70,7 @@ fn cycles_are_calls() {
 }
 
 fn one_by_one(simulator: &Simulator, state: &mut State, rows: &[Vec<Slot>]) -> CyclesRun {
-    let mut verdict = simulator.run_plain(state, u16::MAX).verdict;
+    let mut verdict = simulator.run_plain(state, 0, u16::MAX).verdict;
     let mut at = Step::First;
     for half in 0..2 * rows.len() {
         let (row, clock) = (half / 2, (half % 2) as u32);
@@ -78,7 +78,7 @@ fn one_by_one(simulator: &Simulator, state: &mut State, rows: &[Vec<Slot>]) -> C
         if let Err(number) = simulator.instant(state, &inputs) {
             return CyclesRun { rows: row, at: Step::Instant { row, clock }, number, verdict };
         }
-        let plain = simulator.run_plain(state, u16::MAX);
+        let plain = simulator.run_plain(state, 0, u16::MAX);
         (verdict, at) = (plain.verdict, Step::Rest { row, clock });
         if plain.number != 0 {
             return CyclesRun { rows: row, at, number: plain.number, verdict };
@@ -92,10 +92,10 @@ fn one_by_one(simulator: &Simulator, state: &mut State, rows: &[Vec<Slot>]) -> C
 fn stops() {
     let reading = read(&samples::FLIP_FLOP.sheet());
     let simulator = Simulator::new(&reading);
-    let start = simulator.start().expect("read");
+    let start = simulator.start(MOST).expect("read");
     let three = rows(&[&[1], &[2], &[3]]);
     let stop = |from: &State, rows: &[Vec<Slot>]| {
-        let run = simulator.run_cycles(&mut from.clone(), rows);
+        let run = simulator.run_cycles(&mut from.clone(), 0, rows);
         (run.rows, run.at, run.number, run.verdict)
     };
     let instant = |row, clock| Step::Instant { row, clock };
@@ -105,11 +105,11 @@ fn stops() {
     // A row too long, and one too wide.
     assert_eq!(stop(&start, &rows(&[&[1], &[2, 2]])), (1, instant(1, 0), 25, quiet));
     assert_eq!(stop(&start, &rows(&[&[256]])), (0, instant(0, 0), 25, quiet));
-    // Time is full in the second row's high instant, the count in the third choice.
+    // Time is full in the second row's high instant, the allowance used up at the third choice.
     let late = State { time: u64::MAX - 3, ..start.clone() };
     assert_eq!(stop(&late, &three), (1, instant(1, 1), 36, quiet));
-    let much = State { count: u64::MAX - 2, ..start.clone() };
-    assert_eq!(stop(&much, &three), (0, Step::Rest { row: 0, clock: 1 }, 36, full));
+    let much = State { allowances: [2, 0, 9, 9], ..start.clone() };
+    assert_eq!(stop(&much, &three), (0, Step::Rest { row: 0, clock: 1 }, 47, full));
     let mut unfit = start;
     unfit.places[0] = 3;
     assert_eq!(stop(&unfit, &three), (0, Step::First, 31, Verdict::Refused));
@@ -121,10 +121,10 @@ fn a_module_that_does_not_rest() {
     let endless = Stmt::sequence(Stmt::posedge(CLK), Stmt::forever(set(1, num(1, 0))));
     let reading = module(&[1], &[1], vec![], vec![endless]);
     let simulator = Simulator::new(&reading);
-    let mut state = simulator.start().expect("read");
-    let run = simulator.run_cycles(&mut state, &rows(&[&[]]));
+    let mut state = simulator.start(MOST).expect("read");
+    let run = simulator.run_cycles(&mut state, 0, &rows(&[&[]]));
     assert_eq!((run.rows, run.number, run.verdict), (1, 0, Verdict::Spent));
-    let run = simulator.run_cycles(&mut state, &rows(&[&[]]));
+    let run = simulator.run_cycles(&mut state, 0, &rows(&[&[]]));
     assert_eq!((run.rows, run.number, run.verdict), (0, 32, Verdict::Spent));
     assert_eq!(run.at, Step::Instant { row: 0, clock: 0 });
 }

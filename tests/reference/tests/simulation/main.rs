@@ -3,6 +3,7 @@
 
 mod orders;
 
+mod users;
 mod values;
 mod samples;
 mod report;

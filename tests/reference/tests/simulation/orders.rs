@@ -9,19 +9,19 @@ const MOST_STATES: usize = 100_000;
 
 /// The choices that are accepted in a state.
 pub fn accepted(machine: &Machine, state: &State) -> Vec<u8> {
-    (0..=255).filter(|&choice| machine.choose(&mut state.clone(), choice).is_ok()).collect()
+    (0..=255).filter(|&choice| machine.choose(&mut state.clone(), 0, choice).is_ok()).collect()
 }
 
 /// All states that accepted choices lead to, from this one on, their counts set to 0.
 pub fn reachable(machine: &Machine, from: &State) -> BTreeSet<State> {
-    let first = State { count: 0, ..from.clone() };
+    let first = State { counts: [0; 4], ..from.clone() };
     let mut seen = BTreeSet::from([first.clone()]);
     let mut open = vec![first];
     while let Some(state) = open.pop() {
         for choice in accepted(machine, &state) {
             let mut next = state.clone();
-            machine.choose(&mut next, choice).expect("accepted");
-            next.count = 0;
+            machine.choose(&mut next, 0, choice).expect("accepted");
+            next.counts = [0; 4];
             if seen.insert(next.clone()) {
                 open.push(next);
             }

@@ -3,7 +3,7 @@
 use reference::machine::COMMIT;
 use reference::module::{Edge, Expr, Operator, Stmt, Term};
 use reference::simulator::{Simulator, Verdict};
-use reference::state::{Pending, Slot, State};
+use reference::state::{MOST, Pending, Slot, State};
 
 use reference::build::{
     CLK, add, any, at_clk, known, later, module, num, set, state, v, values,
@@ -22,7 +22,7 @@ fn a_condition_other_than_one() {
     for (condition, expected) in [(Slot::known(2), 10), (Slot::known(1), 10), (Slot::X, 20)] {
         let mut state = state(&[Some(0), Some(0), None]);
         simulator.instant(&mut state, &[Slot::known(0), condition]).expect("quiet");
-        simulator.run_plain(&mut state, 10);
+        simulator.run_plain(&mut state, 0, 10);
         assert_eq!(values(&state, 3)[2], Some(expected));
     }
 }
@@ -37,9 +37,9 @@ fn a_wire_takes_one_choice() {
     let mut state = state(&[Some(0), Some(1), Some(1), Some(1)]);
     simulator.instant(&mut state, &known(&[0, 2])).expect("quiet");
     assert!(state.due[0]);
-    simulator.choose(&mut state, 1).expect("due");
+    simulator.choose(&mut state, 0, 1).expect("due");
     assert_eq!((state.due[0], values(&state, 4)[3]), (false, Some(2)));
-    assert_eq!(simulator.choose(&mut state, 1), Err(33));
+    assert_eq!(simulator.choose(&mut state, 0, 1), Err(33));
 }
 
 /// An assignment doesn't fire the wait that its own thread arrives at by it, but it does
@@ -53,7 +53,7 @@ fn a_thread_does_not_wake_itself() {
     let simulator = Simulator::new(&reading);
     let mut state = state(&[Some(0), Some(0), Some(0)]);
     simulator.instant(&mut state, &known(&[1])).expect("quiet");
-    assert_eq!(simulator.run_plain(&mut state, 10).verdict, Verdict::Quiet);
+    assert_eq!(simulator.run_plain(&mut state, 0, 10).verdict, Verdict::Quiet);
     assert_eq!(state.places[..2], [2, 0]);
     assert_eq!(values(&state, 3), [Some(1), Some(1), Some(1)]);
 }
@@ -63,10 +63,10 @@ fn a_thread_does_not_wake_itself() {
 fn wires_are_due_at_the_start() {
     let reading = module(&[1], &[8], vec![(8, num(8, 7))], vec![Stmt::posedge(CLK)]);
     let simulator = Simulator::new(&reading);
-    let mut state = simulator.start().expect("read");
-    assert_eq!(state, State { due: state.due, ..State::start(0) });
+    let mut state = simulator.start(MOST).expect("read");
+    assert_eq!(state, State { due: state.due, ..State::start(0, MOST) });
     assert!(state.due[0] && !state.due[1..].contains(&true));
-    let run = simulator.run_plain(&mut state, 10);
+    let run = simulator.run_plain(&mut state, 0, 10);
     assert_eq!((run.accepted, run.verdict), (1, Verdict::Quiet));
     assert_eq!(values(&state, 3), [None, None, Some(7)]);
 }
@@ -89,7 +89,7 @@ fn a_wire_that_reads_itself() {
     let simulator = Simulator::new(&reading);
     let mut state = state(&[Some(0), Some(0), Some(0)]);
     state.due[0] = true;
-    let run = simulator.run_plain(&mut state, 100);
+    let run = simulator.run_plain(&mut state, 0, 100);
     assert_eq!((run.accepted, run.verdict), (4, Verdict::Quiet));
     assert_eq!(values(&state, 3)[2], Some(3));
 }
@@ -109,7 +109,7 @@ fn a_commit_is_one_change() {
     let simulator = Simulator::new(&reading);
     let mut state = state(&[Some(0), Some(0), Some(0), Some(0)]);
     simulator.instant(&mut state, &known(&[1])).expect("quiet");
-    assert_eq!(simulator.run_plain(&mut state, 100).verdict, Verdict::Quiet);
+    assert_eq!(simulator.run_plain(&mut state, 0, 100).verdict, Verdict::Quiet);
     assert_eq!(values(&state, 4), [Some(1), Some(1), Some(2), Some(3)]);
     assert_eq!(state.places[1], 2);
 }
@@ -122,7 +122,7 @@ fn a_change_fires_a_thread_once() {
     let thread = Stmt::list(vec![Stmt::Wait(terms.clone()), Stmt::Wait(terms)]);
     let reading = module(&[1, 8], &[1], vec![], vec![thread]);
     let simulator = Simulator::new(&reading);
-    let mut state = simulator.start().expect("read");
+    let mut state = simulator.start(MOST).expect("read");
     simulator.instant(&mut state, &known(&[1, 5])).expect("quiet");
     assert_eq!(state.places[0], 1);
 }
@@ -136,9 +136,9 @@ fn a_plain_assignment_leaves_what_is_pending() {
     let simulator = Simulator::new(&reading);
     let mut state = state(&[Some(0), Some(0)]);
     simulator.instant(&mut state, &known(&[1])).expect("quiet");
-    assert_eq!(simulator.run(&mut state, &[0, 0, 0]).accepted, 3);
+    assert_eq!(simulator.run(&mut state, 0, &[0, 0, 0]).accepted, 3);
     assert_eq!(values(&state, 2)[1], Some(2));
-    simulator.choose(&mut state, COMMIT).expect("pending");
+    simulator.choose(&mut state, 0, COMMIT).expect("pending");
     assert_eq!(values(&state, 2)[1], Some(1));
 }
 
@@ -154,12 +154,12 @@ fn numbers_under_x() {
     let thread = at_clk(vec![set(r, x.clone()), later(s, x)]);
     let reading = module(&[1], &[8, 8], vec![], vec![thread]);
     let simulator = Simulator::new(&reading);
-    let mut state = simulator.start().expect("read");
+    let mut state = simulator.start(MOST).expect("read");
     state.values = [littered; 80];
     state.pending = [Pending { held: false, slot: littered }; 32];
     state.pending[0].held = true;
     // The pending value is x, whatever its number; so is the register: no change.
-    simulator.choose(&mut state, COMMIT).expect("pending");
+    simulator.choose(&mut state, 0, COMMIT).expect("pending");
     assert_eq!(state.values[usize::from(r)], Slot::X);
     assert_eq!(state.pending, [Pending { held: false, slot: littered }; 32]);
     // An input that is x is stored with 0 under it.
@@ -167,7 +167,7 @@ fn numbers_under_x() {
     assert_eq!(state.values[usize::from(CLK)], Slot::X);
     simulator.instant(&mut state, &known(&[1])).expect("quiet");
     state.values[usize::from(r)] = littered;
-    assert_eq!(simulator.run(&mut state, &[0, 0]).accepted, 2);
+    assert_eq!(simulator.run(&mut state, 0, &[0, 0]).accepted, 2);
     assert_eq!(state.values[usize::from(r)], Slot::X);
     assert_eq!(state.pending[1], Pending { held: true, slot: Slot::X });
     // Nothing else was touched.

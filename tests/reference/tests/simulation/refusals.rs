@@ -6,7 +6,7 @@ use reference::module::{Module, Stmt};
 use reference::random::Random;
 use reference::sheet::{Refusal, read};
 use reference::simulator::{Run, Simulator, Verdict};
-use reference::state::{Pending, Slot, State};
+use reference::state::{MOST, Pending, Slot, State};
 use reference::states;
 
 use reference::build::{any, known, later, module, v};
@@ -20,9 +20,9 @@ fn two_threads() -> Result<Module, Refusal> {
 
 fn refused(simulator: &Simulator, state: &State, choice: u8) -> u8 {
     let mut after = state.clone();
-    let number = simulator.choose(&mut after, choice).expect_err("refused");
+    let number = simulator.choose(&mut after, 0, choice).expect_err("refused");
     assert_eq!(&after, state, "a refused choice alters nothing");
-    let run = simulator.run(&mut after, &[choice, choice]);
+    let run = simulator.run(&mut after, 0, &[choice, choice]);
     assert_eq!(run, Run { accepted: 0, number });
     assert_eq!(&after, state, "a run that is stopped at once alters nothing");
     number
@@ -39,7 +39,7 @@ fn refused_instant(simulator: &Simulator, state: &State, inputs: &[Slot]) -> u8 
 fn choices() {
     let reading = two_threads();
     let simulator = Simulator::new(&reading);
-    let start = simulator.start().expect("read");
+    let start = simulator.start(MOST).expect("read");
     // Items are threads 0 and 1 and wire 2.
     for choice in 3..COMMIT {
         assert_eq!(refused(&simulator, &start, choice), 22);
@@ -48,19 +48,19 @@ fn choices() {
     // The wire is due: 34 before 35.
     assert_eq!(refused(&simulator, &start, COMMIT), 34);
     let mut rested = start.clone();
-    simulator.choose(&mut rested, 2).expect("due");
+    simulator.choose(&mut rested, 0, 2).expect("due");
     assert_eq!(refused(&simulator, &rested, 2), 33);
     assert_eq!(refused(&simulator, &rested, COMMIT), 35);
-    // 36 comes last.
-    let full = State { count: u64::MAX, ..start };
+    // 47 comes last.
+    let full = State { allowances: [0, 9, 9, 9], ..start };
     assert_eq!(
         [2, 0, 3, COMMIT].map(|choice| refused(&simulator, &full, choice)),
-        [36, 33, 22, 34]
+        [47, 33, 22, 34]
     );
-    let mut pending = State { count: u64::MAX, ..rested };
+    let mut pending = State { allowances: [1, 9, 9, 9], ..rested };
     assert_eq!(refused(&simulator, &pending, COMMIT), 35);
     pending.pending[0].held = true;
-    assert_eq!(refused(&simulator, &pending, COMMIT), 36);
+    assert_eq!(refused(&simulator, &pending, COMMIT), 47);
     // 31 comes first.
     pending.places[0] = 2;
     assert_eq!([0, 2, 3, COMMIT].map(|choice| refused(&simulator, &pending, choice)), [31; 4]);
@@ -70,19 +70,20 @@ fn choices() {
 fn instants() {
     let reading = two_threads();
     let simulator = Simulator::new(&reading);
-    let start = simulator.start().expect("read");
+    let start = simulator.start(MOST).expect("read");
     let good = known(&[0, 15]);
     for bad in [vec![], known(&[0]), known(&[0, 1, 0]), known(&[2, 0]), known(&[0, 16])] {
         assert_eq!(refused_instant(&simulator, &start, &bad), 25);
     }
     assert_eq!(refused_instant(&simulator, &start, &good), 32);
     let mut rested = start.clone();
-    simulator.run_plain(&mut rested, 10);
+    simulator.run_plain(&mut rested, 0, 10);
     let mut pending = rested.clone();
     pending.pending[0].held = true;
     assert_eq!(refused_instant(&simulator, &pending, &good), 32);
-    // 25 before 32 before 36; a full count doesn't matter.
-    let full = State { time: u64::MAX, count: u64::MAX, ..rested.clone() };
+    // 25 before 32 before 36; used-up allowances don't matter.
+    let used_up = [1, 0, 0, 0];
+    let full = State { time: u64::MAX, allowances: used_up, ..rested.clone() };
     assert_eq!(refused_instant(&simulator, &full, &known(&[0])), 25);
     assert_eq!(refused_instant(&simulator, &full, &good), 36);
     let full = State { time: u64::MAX, ..start.clone() };
@@ -91,10 +92,10 @@ fn instants() {
     unfit.due[1] = true;
     assert_eq!(refused_instant(&simulator, &unfit, &known(&[0])), 31);
     // Any value of the clock; x whatever its number.
-    let mut state = State { time: u64::MAX - 1, count: u64::MAX, ..rested };
+    let mut state = State { time: u64::MAX - 1, allowances: used_up, ..rested };
     let wide_x = Slot { unknown: true, number: 99 };
     assert_eq!(simulator.instant(&mut state, &[wide_x, wide_x]), Ok(()));
-    assert_eq!((state.time, state.count), (u64::MAX, u64::MAX));
+    assert_eq!((state.time, state.counts), (u64::MAX, [1, 0, 0, 0]));
 }
 
 /// What makes a state unfit, and what isn't looked at.
@@ -102,7 +103,7 @@ fn instants() {
 fn states_that_fit() {
     let reading = two_threads();
     let simulator = Simulator::new(&reading);
-    let start = simulator.start().expect("read");
+    let start = simulator.start(MOST).expect("read");
     let number = |change: &dyn Fn(&mut State)| {
         let mut state = start.clone();
         change(&mut state);
@@ -128,6 +129,13 @@ fn states_that_fit() {
     assert_eq!(number(&|s| s.due[0] = false), 0);
     assert_eq!(number(&|s| s.due[1] = true), 31);
     assert_eq!(number(&|s| s.due[31] = true), 31);
+    // A count may be its allowance, not above it.
+    for user in 0..4 {
+        assert_eq!(number(&|s| s.counts[user] = u32::MAX.into()), 0);
+        assert_eq!(number(&|s| s.counts[user] = 1 << 32), 31);
+        assert_eq!(number(&|s| (s.counts[user], s.allowances[user]) = (7, 7)), 0);
+        assert_eq!(number(&|s| (s.counts[user], s.allowances[user]) = (7, 6)), 31);
+    }
 }
 
 /// A sheet that isn't read refuses every call with its number, whatever the state.
@@ -138,11 +146,11 @@ fn sheets() {
         let simulator = Simulator::new(&reading);
         let mut random = Random::new(7);
         for state in [State::ZERO, states::noise(&mut random)] {
-            assert_eq!(simulator.start(), Err(number));
+            assert_eq!(simulator.start(MOST), Err(number));
             assert_eq!(refused(&simulator, &state, 0), number);
             assert_eq!(refused_instant(&simulator, &state, &[]), number);
             let mut after = state.clone();
-            let run = simulator.run_plain(&mut after, 5);
+            let run = simulator.run_plain(&mut after, 0, 5);
             assert_eq!((run.accepted, run.number, run.verdict), (0, number, Verdict::Refused));
             assert_eq!(after, state);
         }
@@ -159,14 +167,14 @@ fn random_states() {
             let reading = Ok(lively::module(kind, Size::Usual, &mut random));
             let simulator = Simulator::new(&reading);
             let module = reading.as_ref().expect("made");
-            let mut state = simulator.start().expect("read");
+            let mut state = simulator.start(MOST).expect("read");
             for _ in 0..40 {
                 states::litter(&mut state, module, &mut random);
                 let mut disturbed = state.clone();
                 states::disturb(&mut disturbed, Some(module), &mut random);
                 alters_nothing_else(&simulator, &disturbed, module, &mut random);
                 alters_nothing_else(&simulator, &state, module, &mut random);
-                simulator.run_plain(&mut state, random.below(9) as u16);
+                simulator.run_plain(&mut state, 0, random.below(9) as u16);
                 let inputs: Vec<Slot> = (0..usize::from(module.inputs))
                     .map(|input| states::slot(module.widths[input], &mut random))
                     .collect();
@@ -189,7 +197,7 @@ fn alters_nothing_else(
     let any = random.byte();
     for choice in (0..=items as u8).chain([any, COMMIT]) {
         let mut after = state.clone();
-        if simulator.choose(&mut after, choice).is_err() {
+        if simulator.choose(&mut after, 0, choice).is_err() {
             assert_eq!(&after, state);
             continue;
         }

@@ -5,7 +5,7 @@ use reference::module::{Module, Stmt};
 use reference::pseudocode::{lines, translate_thread};
 use reference::sheet::Refusal;
 use reference::simulator::Simulator;
-use reference::state::State;
+use reference::state::{MOST, State};
 
 use crate::orders::resting;
 use reference::build::{
@@ -56,12 +56,12 @@ fn example_3_2_1() {
     simulator.instant(&mut state, &known(&[0, 2, 0])).expect("quiet");
     let seen = |state: &State| (state.time, state.places[0], values(state, 4)[3]);
     assert_eq!(seen(&state), (1, 1, None));
-    simulator.choose(&mut state, 0).expect("enabled");
+    simulator.choose(&mut state, 0, 0).expect("enabled");
     assert_eq!(seen(&state), (1, 2, Some(2)));
-    simulator.choose(&mut state, 0).expect("enabled");
+    simulator.choose(&mut state, 0, 0).expect("enabled");
     assert_eq!(seen(&state), (1, 0, Some(2)));
     assert!(machine.quiet(&state));
-    assert_eq!(state.count, 2);
+    assert_eq!(state.counts, [2, 0, 0, 0]);
 }
 
 /// Disjoint threads: every order ends in the same state.
@@ -78,17 +78,17 @@ fn example_3_2_2() {
     let mut state = start;
     simulator.instant(&mut state, &known(&[0, 2, 0])).expect("quiet");
     assert_eq!(state.places[..2], [1, 1]);
-    simulator.choose(&mut state, 0).expect("enabled");
+    simulator.choose(&mut state, 0, 0).expect("enabled");
     assert_eq!(
         (&state.places[..2], values(&state, 5)[3..].to_vec()),
         (&[2, 1][..], vec![Some(2), None])
     );
-    simulator.choose(&mut state, 1).expect("enabled");
+    simulator.choose(&mut state, 0, 1).expect("enabled");
     assert_eq!(
         (&state.places[..2], values(&state, 5)[3..].to_vec()),
         (&[2, 2][..], some(&[2, 3]))
     );
-    assert_eq!(simulator.run(&mut state, &[1, 0]).accepted, 2);
+    assert_eq!(simulator.run(&mut state, 0, &[1, 0]).accepted, 2);
     assert_eq!(state.places[..2], [0, 0]);
 }
 
@@ -109,7 +109,7 @@ fn example_3_2_3() {
     let finish = |choices: &[u8]| {
         let mut state = start.clone();
         simulator.instant(&mut state, &known(&[0, 2])).expect("quiet");
-        assert_eq!(simulator.run(&mut state, choices).accepted, choices.len());
+        assert_eq!(simulator.run(&mut state, 0, choices).accepted, choices.len());
         assert!(simulator.machine().expect("read").quiet(&state));
         values(&state, 4)
     };
@@ -207,7 +207,7 @@ fn from_the_start() {
     let [d, q] = [1, 2];
     let reading = module(&[1, 8], &[8], vec![], vec![at_clk(vec![set(q, v(d))])]);
     let simulator = Simulator::new(&reading);
-    let start = simulator.start().expect("read");
+    let start = simulator.start(MOST).expect("read");
     assert_eq!(rest(&reading, &start, &[1, 5]), some(&[1, 5, 5]));
     assert_eq!(rest(&reading, &start, &[0, 5]), [Some(0), Some(5), None]);
 }

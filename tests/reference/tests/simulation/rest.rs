@@ -6,7 +6,7 @@ use reference::lively::{self, Kind, Size};
 use reference::machine::{Choice, Machine};
 use reference::random::Random;
 use reference::simulator::Simulator;
-use reference::state::{Slot, State};
+use reference::state::{MOST, Slot, State};
 use reference::states;
 
 use crate::orders::resting;
@@ -49,7 +49,7 @@ fn drive(
     settle: impl Fn(&Machine, &State, &mut Random) -> State,
 ) {
     let machine = simulator.machine().expect("made");
-    let mut state = settle(machine, &simulator.start().expect("made"), random);
+    let mut state = settle(machine, &simulator.start(MOST).expect("made"), random);
     let widths = &machine.module().widths[1..machine.module().inputs.into()];
     for _ in 0..5 {
         let inputs: Vec<Slot> =
@@ -63,7 +63,7 @@ fn drive(
 }
 
 fn without_count(state: &State) -> State {
-    State { count: 0, ..state.clone() }
+    State { counts: [0; 4], ..state.clone() }
 }
 
 /// P + 2^W.
@@ -110,8 +110,10 @@ fn rest_by(
     let mut state = from.clone();
     while !machine.quiet(&state) {
         let choice = pick(machine, &state);
-        machine.choose(&mut state, choice).expect("enabled, and the count isn't full");
-        assert!(u64::from(state.count - from.count) <= bound(machine));
+        machine
+            .choose(&mut state, 0, choice)
+            .expect("enabled, and the allowance isn't used up");
+        assert!(state.total() - from.total() <= bound(machine));
     }
     state
 }

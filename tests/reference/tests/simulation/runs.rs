@@ -5,7 +5,7 @@ use reference::machine::COMMIT;
 use reference::module::Stmt;
 use reference::random::Random;
 use reference::simulator::{PlainRun, Run, Simulator, Verdict};
-use reference::state::{Pending, Slot, State};
+use reference::state::{MOST, Pending, Slot, State};
 use reference::states;
 
 use reference::build::{CLK, any, at_clk, known, later, module, num, set, v};
@@ -16,36 +16,36 @@ fn the_words_of_the_plain_run() {
     let wires = vec![(8, num(8, 1)), (8, v(2))];
     let reading = module(&[1], &[8], wires, vec![Stmt::posedge(CLK)]);
     let simulator = Simulator::new(&reading);
-    let start = simulator.start().expect("read");
+    let start = simulator.start(MOST).expect("read");
     let plain = |from: &State, limit| {
         let mut state = from.clone();
-        let PlainRun { accepted, number, verdict } = simulator.run_plain(&mut state, limit);
-        assert_eq!(state.count - from.count, accepted.into());
+        let PlainRun { accepted, number, verdict } = simulator.run_plain(&mut state, 0, limit);
+        assert_eq!(state.total() - from.total(), accepted.into());
         (accepted, number, verdict)
     };
     assert_eq!(plain(&start, 0), (0, 0, Verdict::Spent));
     assert_eq!(plain(&start, 1), (1, 0, Verdict::Spent));
     assert_eq!(plain(&start, 2), (2, 0, Verdict::Quiet));
     assert_eq!(plain(&start, u16::MAX), (2, 0, Verdict::Quiet));
-    // Spent where exactly so many ran, also at a full count; else 36.
-    let from = |count| State { count, ..start.clone() };
-    assert_eq!(plain(&from(u64::MAX), 0), (0, 0, Verdict::Spent));
-    assert_eq!(plain(&from(u64::MAX), 1), (0, 36, Verdict::Full));
-    assert_eq!(plain(&from(u64::MAX - 1), 1), (1, 0, Verdict::Spent));
-    assert_eq!(plain(&from(u64::MAX - 1), 2), (1, 36, Verdict::Full));
-    assert_eq!(plain(&from(u64::MAX - 2), 2), (2, 0, Verdict::Quiet));
-    assert_eq!(plain(&from(u32::MAX.into()), 2), (2, 0, Verdict::Quiet));
+    // Spent where exactly so many ran, also where the allowance is used up; else 47.
+    let from = |left| State { allowances: [left, 9, 9, 9], ..start.clone() };
+    assert_eq!(plain(&from(0), 0), (0, 0, Verdict::Spent));
+    assert_eq!(plain(&from(0), 1), (0, 47, Verdict::Full));
+    assert_eq!(plain(&from(1), 1), (1, 0, Verdict::Spent));
+    assert_eq!(plain(&from(1), 2), (1, 47, Verdict::Full));
+    assert_eq!(plain(&from(2), 2), (2, 0, Verdict::Quiet));
+    assert_eq!(plain(&from(u32::MAX), 2), (2, 0, Verdict::Quiet));
     // Quiet before all.
     let mut quiet = start.clone();
-    simulator.run_plain(&mut quiet, 9);
+    simulator.run_plain(&mut quiet, 0, 9);
     assert_eq!(plain(&quiet, 0), (0, 0, Verdict::Quiet));
-    quiet.count = u64::MAX;
+    quiet.allowances[0] = 2;
     assert_eq!(plain(&quiet, 0), (0, 0, Verdict::Quiet));
     assert_eq!(plain(&quiet, 9), (0, 0, Verdict::Quiet));
     // A state with something pending isn't quiet.
     quiet.pending[0] = Pending { held: true, slot: Slot::X };
     assert_eq!(plain(&quiet, 0), (0, 0, Verdict::Spent));
-    assert_eq!(plain(&quiet, 1), (0, 36, Verdict::Full));
+    assert_eq!(plain(&quiet, 1), (0, 47, Verdict::Full));
     quiet.places[0] = 2;
     assert_eq!(plain(&quiet, 1), (0, 31, Verdict::Refused));
 }
@@ -55,10 +55,10 @@ fn the_words_of_the_plain_run() {
 fn a_thread_that_never_waits() {
     let reading = module(&[1], &[8], vec![], vec![Stmt::Empty]);
     let simulator = Simulator::new(&reading);
-    let mut state = simulator.start().expect("read");
-    let run = simulator.run_plain(&mut state, u16::MAX);
+    let mut state = simulator.start(MOST).expect("read");
+    let run = simulator.run_plain(&mut state, 0, u16::MAX);
     assert_eq!((run.accepted, run.number, run.verdict), (u16::MAX, 0, Verdict::Spent));
-    assert_eq!(state, State { count: u16::MAX.into(), ..State::start(0) });
+    assert_eq!(state, State { counts: [u16::MAX.into(), 0, 0, 0], ..State::start(0, MOST) });
 }
 
 /// The lowest item goes first: threads before wires, and the commit last of all.
@@ -70,12 +70,12 @@ fn the_lowest_goes_first() {
     let reading = module(&[1], &[8, 8], vec![(8, v(r)), (8, v(3))], threads);
     let simulator = Simulator::new(&reading);
     let machine = simulator.machine().expect("read");
-    let mut state = simulator.start().expect("read");
+    let mut state = simulator.start(MOST).expect("read");
     let mut taken = Vec::new();
     for instant in 0..2 {
         while !machine.quiet(&state) {
             taken.push(machine.lowest(&state));
-            simulator.run_plain(&mut state, 1);
+            simulator.run_plain(&mut state, 0, 1);
         }
         if instant == 0 {
             simulator.instant(&mut state, &known(&[1])).expect("quiet");
@@ -102,7 +102,7 @@ fn a_run_is_its_choices() {
         let mut one_by_one = state.clone();
         let mut expected = Run { accepted: 0, number: 0 };
         for &choice in &list {
-            match simulator.choose(&mut one_by_one, choice) {
+            match simulator.choose(&mut one_by_one, 0, choice) {
                 Ok(()) => expected.accepted += 1,
                 Err(number) => {
                     expected.number = number;
@@ -110,7 +110,7 @@ fn a_run_is_its_choices() {
                 }
             }
         }
-        assert_eq!(simulator.run(state, &list), expected);
+        assert_eq!(simulator.run(state, 0, &list), expected);
         assert_eq!(state, &one_by_one);
     });
 }
@@ -126,9 +126,9 @@ fn the_plain_run_is_a_run() {
         let mut one_by_one = state.clone();
         while taken.len() < limit.into() && !machine.quiet(&one_by_one) {
             taken.push(machine.lowest(&one_by_one));
-            simulator.choose(&mut one_by_one, taken[taken.len() - 1]).expect("allowed");
+            simulator.choose(&mut one_by_one, 0, taken[taken.len() - 1]).expect("allowed");
         }
-        let run = simulator.run_plain(state, limit);
+        let run = simulator.run_plain(state, 0, limit);
         assert_eq!(state, &one_by_one);
         assert_eq!((usize::from(run.accepted), run.number), (taken.len(), 0));
         let quiet = machine.quiet(state);
@@ -146,7 +146,7 @@ fn with_random_states(
         let widths = module.widths[..module.inputs.into()].to_vec();
         let reading = Ok(module);
         let simulator = Simulator::new(&reading);
-        let mut state = simulator.start().expect("made");
+        let mut state = simulator.start(MOST).expect("made");
         for _ in 0..12 {
             check(&simulator, &mut state, random);
             let inputs: Vec<Slot> =

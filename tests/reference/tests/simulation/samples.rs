@@ -20,7 +20,7 @@ fn an_equal_value_wakes_no_thread() {
     for (before, expected) in [(Some(5), 0), (Some(4), 1), (None, 1)] {
         let mut state = state(&[Some(0), before, Some(0)]);
         simulator.instant(&mut state, &known(&[1])).expect("quiet");
-        assert_eq!(simulator.run_plain(&mut state, 100).verdict, Verdict::Quiet);
+        assert_eq!(simulator.run_plain(&mut state, 0, 100).verdict, Verdict::Quiet);
         assert_eq!(values(&state, 3), [Some(1), Some(5), Some(expected)]);
         assert_eq!(state.places[..2], [0, 0]);
     }
@@ -85,7 +85,7 @@ fn a_clock_that_is_unknown_for_a_while() {
         [(high, 1), (high, 1), (low, 1), (x, 2), (low, 2), (high, 3), (x, 3), (high, 4)];
     for (value, expected) in clock {
         simulator.instant(&mut state, &[value]).expect("quiet");
-        simulator.run_plain(&mut state, 10);
+        simulator.run_plain(&mut state, 0, 10);
         assert_eq!(values(&state, 2)[usize::from(CLK) + 1], Some(expected));
     }
 }

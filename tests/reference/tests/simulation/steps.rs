@@ -9,7 +9,7 @@ use reference::module::{Edge, Expr, Module, Variable};
 use reference::pseudocode::Instruction;
 use reference::random::Random;
 use reference::simulator::Simulator;
-use reference::state::{Slot, State};
+use reference::state::{MOST, Slot, State};
 use reference::states;
 use reference::value::{Scope, Value, evaluate};
 
@@ -24,7 +24,7 @@ fn every_choice_in_every_state() {
         for _ in 0..40 {
             let reading = Ok(lively::module(kind, Size::Tiny, &mut random));
             let simulator = Simulator::new(&reading);
-            let start = simulator.start().expect("made");
+            let start = simulator.start(MOST).expect("made");
             let mut known = start.clone();
             states::make_known(&mut known, reading.as_ref().expect("made"), &mut random);
             visit(&simulator, [start, known], &mut seen);
@@ -60,7 +60,7 @@ fn visit(simulator: &Simulator, from: [State; 2], seen: &mut Seen) {
             next = instants(simulator, &state);
         }
         for mut state in next {
-            (state.time, state.count) = (0, 0);
+            (state.time, state.counts) = (0, [0; 4]);
             if known.len() < MOST_STATES && known.insert(state.clone()) {
                 open.push_back(state);
             }
@@ -87,7 +87,7 @@ fn instants(simulator: &Simulator, state: &State) -> Vec<State> {
     let instant = |inputs: Vec<Slot>| {
         let mut after = state.clone();
         simulator.instant(&mut after, &inputs).expect("quiet");
-        assert_eq!((after.time, after.count), (state.time + 1, state.count));
+        assert_eq!((after.time, after.counts), (state.time + 1, state.counts));
         assert_eq!(after.values[..inputs.len()], inputs);
         after
     };
@@ -98,7 +98,7 @@ fn instants(simulator: &Simulator, state: &State) -> Vec<State> {
 fn check(simulator: &Simulator, before: &State, choice: u8, seen: &mut Seen) -> Option<State> {
     let machine = simulator.machine().expect("made");
     let mut after = before.clone();
-    let outcome = simulator.choose(&mut after, choice);
+    let outcome = simulator.choose(&mut after, 0, choice);
     assert_eq!(outcome, allowed(machine, before, choice));
     if outcome.is_err() {
         assert_eq!(&after, before);
@@ -230,7 +230,10 @@ impl Step<'_> {
     /// What every accepted choice does: counters, waits fired, wires marked.
     fn consequences(&self, choice: u8, seen: &mut Seen) {
         let Step { machine, before, after } = self;
-        assert_eq!((after.time, after.count), (before.time, before.count + 1));
+        let mut counts = before.counts;
+        counts[0] += 1;
+        assert_eq!((after.time, after.counts), (before.time, counts));
+        assert_eq!(after.allowances, before.allowances);
         let threads = machine.code().len();
         for thread in (0..threads).filter(|&thread| thread != usize::from(choice)) {
             let fires = self.fires(thread);

@@ -6,7 +6,7 @@ use Rattle.state.proofs.loading.counters_in.Tie as tie
 
 returns : tie.Need-returns
 unfolding countersIn
-returns c = rw (c .before .long-at .ensures, c .long-at2 .ensures)
+returns c = rw (c .before .before .long-at .ensures, c .before .counts-in .ensures, c .allowances-in .ensures)
 
 pub counters-in-spec : {M : Type 1} → statement M
-counters-in-spec = tie.close (tie.spec (λ c κs. search needs) (λ c κs. search needs) returns)
+counters-in-spec = tie.close (tie.spec (λ c κs. search needs) (λ c κs. search needs) (λ c κs. search needs) returns)

@@ -24,7 +24,8 @@ pub struct Read {
 }
 
 pub fn measured(repeats: usize) -> Result<Vec<Read>, String> {
-    let texts = [("statements", text("")), ("half comments", text("    // as the line above\n"))];
+    let texts =
+        [("statements", text("")), ("half comments", text("    // as the line above\n"))];
     texts.into_iter().map(|(name, text)| one(name, &text, repeats)).collect()
 }
 
@@ -98,5 +99,11 @@ fn text(between: &str) -> String {
 }
 
 fn line(k: usize) -> String {
-    format!("      r{:<2} <= (r{:<2} + i{}) & w{:<2};\n", k % 32, (k + 5) % 32, k % 7 + 1, k % 20)
+    format!(
+        "      r{:<2} <= (r{:<2} + i{}) & w{:<2};\n",
+        k % 32,
+        (k + 5) % 32,
+        k % 7 + 1,
+        k % 20
+    )
 }

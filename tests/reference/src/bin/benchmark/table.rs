@@ -184,7 +184,8 @@ fn million(rows: &[Measured], text: &mut String) {
 
 /// Texts of 16,384 bytes.
 pub fn reading(texts: &[Read]) -> String {
-    let columns = ["text of 16,384 bytes", "Walbryts, µs", "aim, µs", "", "Icarus, µs", "ratio"];
+    let columns =
+        ["text of 16,384 bytes", "Walbryts, µs", "aim, µs", "", "Icarus, µs", "ratio"];
     let mut text = String::from("\n");
     head(&mut text, "Reading of text", &columns);
     for read in texts {

@@ -81,8 +81,11 @@ fn around(name: &str, module: &Module) -> String {
     let registers = 0..usize::from(module.registers);
     let ports: Vec<String> = inputs.clone().map(|v| format!("i{v}")).collect();
     let outputs: Vec<String> = registers.clone().map(|r| format!("r{r}")).collect();
-    let mut text =
-        format!("module top (clk, {}, {});\n  input clk;\n", ports.join(", "), outputs.join(", "));
+    let mut text = format!(
+        "module top (clk, {}, {});\n  input clk;\n",
+        ports.join(", "),
+        outputs.join(", ")
+    );
     let mut lent = String::from(".clk(clk)");
     for v in inputs {
         writeln!(text, "  input [{}:0] i{v};", module.widths[v] - 1).expect("text");
@@ -91,7 +94,8 @@ fn around(name: &str, module: &Module) -> String {
     writeln!(text, "  {name} dut ({lent});").expect("text");
     for r in registers {
         let width = module.widths[usize::from(module.inputs) + r];
-        writeln!(text, "  output [{}:0] r{r};\n  assign r{r} = dut.r{r};", width - 1).expect("text");
+        writeln!(text, "  output [{}:0] r{r};\n  assign r{r} = dut.r{r};", width - 1)
+            .expect("text");
     }
     text.push_str("endmodule\n");
     text

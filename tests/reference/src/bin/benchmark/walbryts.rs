@@ -6,7 +6,7 @@ use reference::extraction::{NODE_WORDS, REGISTERS, ROW_WORDS};
 use reference::library::{self, Planes, SAVED};
 use reference::module::Module;
 use reference::samples::Bench;
-use reference::state::{MARKS, PLACES, Slot};
+use reference::state::{MARKS, MOST, PLACES, Slot};
 use reference::{saved, sheet};
 
 use crate::clock;
@@ -39,10 +39,10 @@ impl Walbryts {
     /// Clock cycles by events from the start; registers and wires at the end, and the seconds.
     pub fn events(&self, cycles: usize) -> (Vec<String>, f64) {
         let mut state = [0; SAVED];
-        assert_eq!(library::start(&self.sheet, &mut state), 0);
-        assert_eq!(library::run_plain(&self.sheet, &mut state, u16::MAX).1, 0);
+        assert_eq!(library::start(&self.sheet, MOST, &mut state), 0);
+        assert_eq!(library::run_plain(&self.sheet, &mut state, 0, u16::MAX).1, 0);
         let (value, unknown) = (&self.value[..16 * cycles], &self.unknown[..16 * cycles]);
-        let run = || library::run_cycles(&self.sheet, &mut state, value, unknown);
+        let run = || library::run_cycles(&self.sheet, &mut state, 0, value, unknown);
         let (done, seconds) = clock::of_call(run);
         assert_eq!(done, (2 * cycles, 0));
         let state = saved::load(&state).expect("a saved state");

@@ -1,3 +1,0 @@
-pub mod Loops
-pub mod Planes
-pub mod Fitting
