@@ -40,6 +40,9 @@ pub mod tally;
 pub mod differ;
 pub mod holding;
 pub mod order;
+pub mod scattered;
+pub mod work;
+pub mod written;
 
 pub mod stimulus;
 pub mod verilog;
