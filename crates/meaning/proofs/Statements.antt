@@ -374,20 +374,35 @@ module _ (m : Module Expr) (i : ℕ) where
     unfolding behind
     while-same q l = let d : 1 + q - 1 ≡ q = omega arith in rw d refl
 
-    while-tests : (L : Local) → L .place ≡ n → Reaches L (while e a) n 1 (size a + 1) (meaning (while e a) (L .values))
+    -- Its course, by whether its condition holds.
+    abbrev tested : Local → Bool → Course
+    tested L x = pick x (followed (meaning a (L .values)) (while e a) nothing) (ends [])
+
+    -- The condition fails: the loop is over, and its body isn't done.
+    while-passed : (L : Local) → L .place ≡ n → holds (eval (L .values) e) ≡ false →
+        Reaches L (while e a) n 1 (size a + 1) (meaning (while e a) (L .values))
+    unfolding meaning size
+    while-passed L h t =
+        subst (λ (x : Bool). Reaches L (while e a) n 1 (size a + 1) (tested L x)) (sym t)
+        (to-end 1 (omega arith)
+        (path-to m i L (n + size a + 2) (n + (size a + 2)) (omega arith) (passes-by n h e (n + size a + 2) head t)))
+
+    while-held : (L : Local) → L .place ≡ n → holds (eval (L .values) e) ≡ true →
+        Reaches L (while e a) n 1 (size a + 1) (meaning (while e a) (L .values))
     unfolding meaning size moved valuesAfter
+    while-held L h t =
+        subst (λ (x : Bool). Reaches L (while e a) n 1 (size a + 1) (tested L x)) (sym t)
+        (within 1 (size a + 1) (omega arith) (omega arith)
+        (quietly {e = 0} (n + 1) (goes-in n h e (n + size a + 2) head t)
+        (first-round a (while e a) n (n + 1) 1 refl (omega arith) while-same (A .start (moved m (n + 1) [] L) refl)
+        (sure-stops a sure loops (L .values)))))
+
+    while-tests : (L : Local) → L .place ≡ n → Reaches L (while e a) n 1 (size a + 1) (meaning (while e a) (L .values))
     while-tests L h = by (holds (eval (L .values) e)) refl
       where
-        by : (t : Bool) → holds (eval (L .values) e) ≡ t →
-            Reaches L (while e a) n 1 (size a + 1) (pick t (followed (meaning a (L .values)) (while e a) nothing) (ends []))
-        by true t =
-            within 1 (size a + 1) (omega arith) (omega arith)
-            (quietly {e = 0} (n + 1) (goes-in n h e (n + size a + 2) head t)
-            (first-round a (while e a) n (n + 1) 1 refl (omega arith) while-same (A .start (moved m (n + 1) [] L) refl)
-            (sure-stops a sure loops (L .values))))
-        by false t =
-            to-end 1 (omega arith)
-            (path-to m i L (n + size a + 2) (n + (size a + 2)) (omega arith) (passes-by n h e (n + size a + 2) head t))
+        by : (t : Bool) → holds (eval (L .values) e) ≡ t → Reaches L (while e a) n 1 (size a + 1) (meaning (while e a) (L .values))
+        by true t = while-held L h t
+        by false t = while-passed L h t
 
     while-waits : FromWaits (while e a) n
     unfolding meaning size behind isWait moved

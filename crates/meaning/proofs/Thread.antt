@@ -1,5 +1,5 @@
 -- A thread run alone by choices does what it means (as-written, the claim of specs/Thread): a path of the thread is a run of choices
--- that are all accepted while the allowance lasts (run-path), and from its start or behind any of its waits it has a path as its
+-- that are all accepted while the user's allowance lasts (run-path), and from its start or behind any of its waits it has a path as its
 -- statement means (goes). Assumes nothing.
 use Prim.Native.Nat.{ℕ, suc, _+_, _*_, _-_, _≤_, _<_}
 use mathlib.Core.Path.{_≡_, refl, sym, ap, _∙_, subst}
@@ -30,7 +30,7 @@ use Rattle.events.specs.Cycle.{codeOf, instrAt, current, isWait, items}
 use Rattle.events.specs.Calls.{stateFits, judged, refusal, chooseIn, choose, runIn, runList}
 use Rattle.events.specs.Steps.{Acts, assigns, defers, jumps, goes-in, passes-by, settles, commits}
 use Rattle.events.proofs.Cycle.{absurd-bool, none-below}
-use Rattle.events.proofs.Choices.{spend-zero, byUser-below, enabled-thread, thread-ready, refusal-ready, number-chooseIn, shaped-chooseIn}
+use Rattle.events.proofs.Choices.{byUser-below, spend-zero, enabled-thread, thread-ready, refusal-ready, number-chooseIn, shaped-chooseIn}
 use Rattle.events.proofs.Steps.{step-chooseIn}
 use Rattle.events.proofs.Fits.{Fits, fits-state, state-fits}
 use Rattle.events.proofs.Runs.{onward-accepted, fits-runIn}
@@ -93,42 +93,42 @@ module _ (m : Module Expr) (w : Sound m) (old new : State) where
   acted l (settles b h x o r s) = absurd (omega arith)
   acted l (commits h q b p x o y z r) = absurd (omega (arith, w .threads-most))
 
-module _ (m : Module Expr) (w : Sound m) (who : ℕ) (b : who < users) (i : ℕ) (l : i < length (m .threads)) where
-  -- ---- a path is a run of choices that are all accepted, while the allowance lasts
+module _ (m : Module Expr) (w : Sound m) (u : ℕ) (b : u < users) (i : ℕ) (l : i < length (m .threads)) where
+  -- ---- a path is a run of choices that are all accepted, while the user's allowance lasts
 
   record Chose (st : State) : Type 0 where
-    number : chooseIn m st who i .number ≡ 0
-    count : countOf (chooseIn m st who i .state) who ≡ countOf st who + 1
-    allowance : allowanceOf (chooseIn m st who i .state) who ≡ allowanceOf st who
-    acts : Acted m st (chooseIn m st who i .state) i
+    number : chooseIn m st u i .number ≡ 0
+    count : countOf (chooseIn m st u i .state) u ≡ countOf st u + 1
+    allowance : allowanceOf (chooseIn m st u i .state) u ≡ allowanceOf st u
+    acts : Acted m st (chooseIn m st u i .state) i
 
-  chose : (st : State) → Shaped st → isWait (current m st i) ≡ false → countOf st who < allowanceOf st who → Chose st
+  chose : (st : State) → Shaped st → isWait (current m st i) ≡ false → countOf st u + 1 ≤ allowanceOf st u → Chose st
   chose st s h room =
-      let z : chooseIn m st who i .number ≡ 0 =
-      number-chooseIn m st who i ∙ refusal-ready m st who w b (thread-ready l h) ∙ spend-zero st who room in
-      let x = step-chooseIn m w st s who i z in
+      let z : chooseIn m st u i .number ≡ 0 =
+      number-chooseIn m st u i ∙ refusal-ready m st u w b (thread-ready l h) ∙ spend-zero st u (omega arith) in
+      let x = step-chooseIn m w st s u i z in
       record {
         number = z;
         count = x .count;
-        allowance = x .allowances who;
-        acts = acted m w st (chooseIn m st who i .state) l (x .acts);
+        allowance = x .allowances u;
+        acts = acted m w st (chooseIn m st u i .state) l (x .acts);
       }
 
   pub record Runs (st : State) (n : ℕ) (ws : List Write) (M : Local) : Type 0 where
     pub end : State
-    pub run : runIn m who (replicate n i) st ≡ record { accepted = n; number = 0; state = end }
+    pub run : runIn m u (replicate n i) st ≡ record { accepted = n; number = 0; state = end }
     pub local : seen end i ≡ M
-    pub writes : writesOf m who i n st ≡ ws
+    pub writes : writesOf m u i n st ≡ ws
 
-  pub run-path : {n : ℕ} {L M : Local} {ws : List Write} → Path m i n L ws M → (st : State) → Shaped st → seen st i ≡ L → Lasts who n st →
+  pub run-path : {n : ℕ} {L M : Local} {ws : List Write} → Path m i n L ws M → (st : State) → Shaped st → seen st i ≡ L → Lasts u n st →
       Runs st n ws M
   unfolding runIn writesOf current seen turn
   run-path here st s e room = record { end = st; run = refl; local = e; writes = refl }
   run-path (onward {n = n} {L = L} {M = M} {ws = ws} h x) st s e room =
-      by (run-path x new (shaped-chooseIn m st who i s) (c .acts .local ∙ ap (turn m i) e) (omega (arith, c .count, c .allowance)))
+      by (run-path x new (shaped-chooseIn m st u i s) (c .acts .local ∙ ap (turn m i) e) (omega (arith, c .count, c .allowance)))
     where
       new : State
-      new = chooseIn m st who i .state
+      new = chooseIn m st u i .state
 
       c : Chose st
       c = chose st s (ap (λ P. isWait (instrAt (codeOf m i) (P .place))) e ∙ h) (omega arith)
@@ -140,12 +140,12 @@ module _ (m : Module Expr) (w : Sound m) (who : ℕ) (b : who < users) (i : ℕ)
       by r =
           record {
             end = r .end;
-            run = onward-accepted (chooseIn m st who i) (runIn m who (replicate n i) new) (c .number)
+            run = onward-accepted (chooseIn m st u i) (runIn m u (replicate n i) new) (c .number)
                 ∙ ap (λ q. record { accepted = q .accepted + 1; number = q .number; state = q .state }) (r .run)
                 ∙ ap (λ k. record { accepted = k; number = 0; state = r .end }) (add-one n);
             local = r .local;
-            writes = ap (λ u. u ++ writesOf m who i n new) wrote-here
-                ∙ ap (λ u. wrote (instrAt (codeOf m i) (L .place)) L ++ u) (r .writes);
+            writes = ap (λ y. y ++ writesOf m u i n new) wrote-here
+                ∙ ap (λ y. wrote (instrAt (codeOf m i) (L .place)) L ++ y) (r .writes);
           }
 
 -- ---- the thread as a whole
@@ -164,86 +164,85 @@ module _ (m : Module Expr) (i : ℕ) (loops : loopsWait (forever (bodyOf m i)) �
       by (yes l) = omega (arith, threadCode-size (getD (m .threads) i empty))
       by (no d) = absurd-bool h (rw (List·getD-eq-default (codeOf m i) (go 0) {n = p} (omega arith)))
 
-  module _ (s : List ℕ) (who : ℕ) where
-    stands-reaches : {p : ℕ} {what : Stmt Expr} → Stands s m who i p what → (L : Local) → L .place ≡ p →
-        Reaches m i L (whole s m who i) 0 (size (whole s m who i)) (2 * size (whole s m who i)) (meaning what (L .values))
-    stands-reaches at-start L h =
-        within m i (size (whole s m who i)) (2 * size (whole s m who i)) (omega arith) (omega arith) (thread-done .start L h)
-    stands-reaches (behind-wait p t) L h =
-        thread-done .waits p (wait-inside p t) (ap (λ q. isWait (instrAt (codeOf m i) q)) (omega arith) ∙ t) L (omega arith)
+  stands-reaches : {p : ℕ} {what : Stmt Expr} → Stands m i p what → (L : Local) → L .place ≡ p →
+      Reaches m i L (whole m i) 0 (size (whole m i)) (2 * size (whole m i)) (meaning what (L .values))
+  stands-reaches at-start L h =
+      within m i (size (whole m i)) (2 * size (whole m i)) (omega arith) (omega arith) (thread-done .start L h)
+  stands-reaches (behind-wait p t) L h =
+      thread-done .waits p (wait-inside p t) (ap (λ q. isWait (instrAt (codeOf m i) q)) (omega arith) ∙ t) L (omega arith)
 
-    stands-stops : {p : ℕ} {what : Stmt Expr} → Stands s m who i p what → (f : ℕ → Value) → Stops (meaning what f)
-    unfolding behind meaning surelyWaits
-    stands-stops at-start f = sure-stops (whole s m who i) refl loops f
-    stands-stops (behind-wait p t) f =
-        followed-next (meaning (behind (bodyOf m i) p) f) (whole s m who i) (λ ws. meaning (whole s m who i) (valuesAfter f ws))
-        (λ ws. sure-stops (whole s m who i) refl loops (valuesAfter f ws))
+  stands-stops : {p : ℕ} {what : Stmt Expr} → Stands m i p what → (f : ℕ → Value) → Stops (meaning what f)
+  unfolding behind meaning surelyWaits
+  stands-stops at-start f = sure-stops (whole m i) refl loops f
+  stands-stops (behind-wait p t) f =
+      followed-next (meaning (behind (bodyOf m i) p) f) (whole m i) (λ ws. meaning (whole m i) (valuesAfter f ws))
+      (λ ws. sure-stops (whole m i) refl loops (valuesAfter f ws))
 
 -- ---- the claim, of a path to a wait
 
 -- The call is the run, in a module that was read.
-run-sheet : (s : List ℕ) (m : Module Expr) → read s ≡ ok m → (who : ℕ) → who < users → (st : State) → stateFits m st ≡ true →
-    (cs : List ℕ) → runList s st who cs ≡ runIn m who cs st
+run-sheet : (s : List ℕ) (m : Module Expr) → read s ≡ ok m → (st : State) → stateFits m st ≡ true → (u : ℕ) → u < users →
+    (cs : List ℕ) → runList s st u cs ≡ runIn m u cs st
 unfolding runList judged
-run-sheet s m r who b st f cs = rw (r, f, lt-ltb who users b)
+run-sheet s m r st f u b cs = rw (r, f, lt-ltb u users b)
 
-choose-sheet : (s : List ℕ) (m : Module Expr) → read s ≡ ok m → (who : ℕ) (st : State) → stateFits m st ≡ true → (c : ℕ) →
-    choose s st who c ≡ chooseIn m st who c
+choose-sheet : (s : List ℕ) (m : Module Expr) → read s ≡ ok m → (st : State) → stateFits m st ≡ true → (u c : ℕ) →
+    choose s st u c ≡ chooseIn m st u c
 unfolding choose judged
-choose-sheet s m r who st f c = rw (r, f)
+choose-sheet s m r st f u c = rw (r, f)
 
 -- "33 item not enabled": a thread at a wait.
-refused-wait : (m : Module Expr) (who : ℕ) → who < users → (st : State) (i : ℕ) → i < length (m .threads) →
-    isWait (current m st i) ≡ true → chooseIn m st who i .number ≡ 33
+refused-wait : (m : Module Expr) (st : State) (u i : ℕ) → u < users → i < length (m .threads) → isWait (current m st i) ≡ true →
+    chooseIn m st u i .number ≡ 33
 unfolding refusal items
-refused-wait m who b st i l h =
-    number-chooseIn m st who i
-    ∙ rw (lt-ltb i (length (m .threads) + length (m .wires)) (omega arith), enabled-thread m st i l, h) (byUser-below who 33 b)
+refused-wait m st u i b l h =
+    number-chooseIn m st u i
+    ∙ rw (lt-ltb i (length (m .threads) + length (m .wires)) (omega arith), enabled-thread m st i l, h) (byUser-below u 33 b)
 
-module _ (s : List ℕ) (m : Module Expr) (r : read s ≡ ok m) (who : ℕ) (u : who < users) (i : ℕ) (l : i < length (m .threads))
-    (st : State) (shaped : Shaped st) (f : stateFits m st ≡ true) where
+module _ (s : List ℕ) (m : Module Expr) (r : read s ≡ ok m) (u : ℕ) (b : u < users) (i : ℕ) (l : i < length (m .threads)) (st : State)
+    (shaped : Shaped st) (f : stateFits m st ≡ true) where
   abbrev w : Sound m
   w = sound s r
 
   module _ {n : ℕ} {ws : List Write} {M : Local} (path : Path m i n (seen st i) ws M) where
-    along-path : (k : ℕ) → k ≤ n → Lasts who k st → Along s m who i st ws k
+    along-path : (k : ℕ) → k ≤ n → Lasts u k st → Along s m u i st ws k
     unfolding seen moved
-    along-path k b room =
-        let C = path-cut m i k path b in
-        let R = run-path m w who u i l (C .path) st shaped refl room in
-        let e = run-sheet s m r who u st f (replicate k i) ∙ R .run in
+    along-path k c room =
+        let C = path-cut m i k path c in
+        let R = run-path m w u b i l (C .path) st shaped refl room in
+        let e = run-sheet s m r st f u b (replicate k i) ∙ R .run in
         let local = R .local ∙ path-moved m i (C .path) in
         record {
           accepted = ap (λ x. x .accepted) e;
           number = ap (λ x. x .number) e;
           still = C .rest;
-          writes = C .writes ∙ ap (λ x. x ++ C .rest) (sym (R .writes));
+          writes = C .writes ∙ ap (λ y. y ++ C .rest) (sym (R .writes));
           values = λ v. ap (λ x. valueOf (x .state) v) e ∙ ap (λ x. x .values v) local
-              ∙ ap (λ x. valuesAfter (valueOf st) x v) (sym (R .writes));
+              ∙ ap (λ y. valuesAfter (valueOf st) y v) (sym (R .writes));
           pending = λ q. ap (λ x. pendingOf (x .state) q) e ∙ ap (λ x. x .pending q) local
-              ∙ ap (λ x. pendingAfter m (pendingOf st) x q) (sym (R .writes));
+              ∙ ap (λ y. pendingAfter m (pendingOf st) y q) (sym (R .writes));
         }
 
-    arrives-path : (q : ℕ) → M .place ≡ q → isWait (instrAt (codeOf m i) q) ≡ true → Lasts who n st → Arrived s m who i st ws q n
+    arrives-path : (q : ℕ) → M .place ≡ q → isWait (instrAt (codeOf m i) q) ≡ true → Lasts u n st → Arrived s m u i st ws q n
     unfolding seen current
     arrives-path q at-q h room =
-        let R = run-path m w who u i l path st shaped refl room in
-        let e = run-sheet s m r who u st f (replicate n i) ∙ R .run in
+        let R = run-path m w u b i l path st shaped refl room in
+        let e = run-sheet s m r st f u b (replicate n i) ∙ R .run in
         let there : placeOf (R .end) i ≡ q = ap (λ x. x .place) (R .local) ∙ at-q in
-        let fits = fits-runIn m who w (replicate n i) st shaped (fits-state m st shaped f) in
+        let fits = fits-runIn m u w (replicate n i) st shaped (fits-state m st shaped f) in
         let end-fits : stateFits m (R .end) ≡ true = state-fits m (R .end) (subst (λ (x : Ran). Fits m (x .state)) (R .run) fits) in
         record {
           writes = R .writes;
           place = ap (λ x. placeOf (x .state) i) e ∙ there;
-          waits = ap (λ x. choose s (x .state) who i .number) e ∙ ap (λ x. x .number) (choose-sheet s m r who (R .end) end-fits i)
-              ∙ refused-wait m who u (R .end) i l (ap (λ p. isWait (instrAt (codeOf m i) p)) there ∙ h);
+          waits = ap (λ x. choose s (x .state) u i .number) e ∙ ap (λ x. x .number) (choose-sheet s m r (R .end) end-fits u i)
+              ∙ refused-wait m (R .end) u i b l (ap (λ p. isWait (instrAt (codeOf m i) p)) there ∙ h);
         }
 
-  goes : (loops : loopsWait (whole s m who i) ≡ true) (what : Stmt Expr) (X : Course) → meaning what (valueOf st) ≡ X → Stops X →
-      Reaches m i (seen st i) (whole s m who i) 0 (size (whole s m who i)) (2 * size (whole s m who i)) X → Goes s m who i st what
+  goes : (loops : loopsWait (whole m i) ≡ true) (what : Stmt Expr) (X : Course) → meaning what (valueOf st) ≡ X → Stops X →
+      Reaches m i (seen st i) (whole m i) 0 (size (whole m i)) (2 * size (whole m i)) X → Goes s m u i st what
   unfolding moved isWait codeOf bodyOf size
-  goes loops what X e h (to-end k b x) = absurd h
-  goes loops what X e h (to-wait {ws = ws} {ts = ts} k q b d stands rest x) =
+  goes loops what X e h (to-end k c x) = absurd h
+  goes loops what X e h (to-wait {ws = ws} {ts = ts} k q c d stands rest x) =
       let z : 0 + q ≡ q = omega arith in
       let stands-q : instrAt (codeOf m i) q ≡ wait! ts = ap (instrAt (codeOf m i)) (sym z) ∙ stands in
       record {
@@ -260,9 +259,9 @@ module _ (s : List ℕ) (m : Module Expr) (r : read s ≡ ok m) (who : ℕ) (u :
 
 pub as-written : AsWritten
 unfolding seen
-as-written s m r who u i l loops st shaped f what h =
-    goes s m r who u i l st shaped f loops what (meaning what (valueOf st)) refl (stands-stops m i loops s who h (valueOf st))
-    (stands-reaches m i loops s who h (seen st i) refl)
+as-written s m r u b i l loops st shaped f what h =
+    goes s m r u b i l st shaped f loops what (meaning what (valueOf st)) refl (stands-stops m i loops h (valueOf st))
+    (stands-reaches m i loops h (seen st i) refl)
 
 -- A sheet that meets rule 17 has only such threads.
 pub rule-17 : (m : Module Expr) → runsAway m ≡ false → (i : ℕ) → i < length (m .threads) → loopsWait (forever (bodyOf m i)) ≡ true

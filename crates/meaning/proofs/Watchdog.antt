@@ -1,5 +1,5 @@
--- The claim isn't empty: both threads of the watchdog of tests/data (waits in nested loops and branches) meet rule 17, so that each
--- does what it means (watchdog-as-written). Three courses of its first thread, computed.
+-- The claims aren't empty: both threads of the watchdog of tests/data (waits in nested loops and branches) meet rule 17, so that each
+-- does what it means (watchdog-as-written), from wait to wait (watchdog-wait-to-wait). Three courses of its first thread, computed.
 use mathlib.Core.Path.{_≡_, refl}
 use mathlib.Core.Bool.{true}
 use mathlib.Core.List.{List, [], _∷_}
@@ -20,11 +20,13 @@ use Rattle.nextstate.proofs.Samples.{turning}
 use Rattle.nextstate.proofs.Watchdog.{watchdog-sheet, watchdog, watchdog-read}
 use Rattle.meaning.specs.Meaning.{deferred, valuesAfter, stops, prefixed, followed, nothing, meaning}
 use Rattle.meaning.specs.Thread.{behind, whole, Stands, Goes}
+use Rattle.meaning.specs.Waking.{WaitToWait}
 use Rattle.meaning.proofs.Thread.{as-written}
+use Rattle.meaning.proofs.Waking.{from-wait-to-wait}
 
 -- "A thread is a forever of its statement."
 abbrev thread : ℕ → Stmt Expr
-thread i = whole watchdog-sheet watchdog 0 i
+thread i = whole watchdog i
 
 watchdog-loops : (i : ℕ) → i < length (watchdog .threads) → loopsWait (thread i) ≡ true
 unfolding watchdog bodyOf surelyWaits loopsWait
@@ -33,9 +35,11 @@ watchdog-loops (suc zero) l = refl
 watchdog-loops (suc (suc i)) l = absurd (omega arith)
 
 pub watchdog-as-written : (u : ℕ) → u < users → (i : ℕ) → i < length (watchdog .threads) → (st : State) → Shaped st →
-    stateFits watchdog st ≡ true → (what : Stmt Expr) → Stands watchdog-sheet watchdog u i (placeOf st i) what →
-    Goes watchdog-sheet watchdog u i st what
+    stateFits watchdog st ≡ true → (what : Stmt Expr) → Stands watchdog i (placeOf st i) what → Goes watchdog-sheet watchdog u i st what
 watchdog-as-written u b i l = as-written watchdog-sheet watchdog watchdog-read u b i l (watchdog-loops i l)
+
+pub watchdog-wait-to-wait : (i : ℕ) → i < length (watchdog .threads) → WaitToWait watchdog-sheet watchdog i
+watchdog-wait-to-wait i l = from-wait-to-wait watchdog-sheet watchdog watchdog-read i l (watchdog-loops i l)
 
 -- ---- from its first wait
 

@@ -1,2 +1,3 @@
 pub mod Meaning
 pub mod Thread
+pub mod Waking

@@ -71,16 +71,20 @@ module _ (m : Module Expr) where
 abbrev pub Lasts : ℕ → ℕ → State → Type 0
 Lasts u k st = countOf st u + k ≤ allowanceOf st u
 
-module _ (s : List ℕ) (m : Module Expr) (u i : ℕ) where
+-- ---- where a thread can stand, and what it has to do there: "from its start or any wait"
+
+module _ (m : Module Expr) (i : ℕ) where
   -- "A thread is a forever of its statement."
   abbrev pub whole : Stmt Expr
   whole = forever (bodyOf m i)
 
-  -- Where the thread can stand, and what it has to do there: "from its start or any wait".
   pub data Stands : ℕ → Stmt Expr → Type 0 where
     at-start : Stands 0 whole
     behind-wait : (p : ℕ) → isWait (instrAt (codeOf m i) p) ≡ true → Stands (p + 1) (behind whole p)
 
+-- ---- a thread run alone by user u
+
+module _ (s : List ℕ) (m : Module Expr) (u i : ℕ) where
   -- "run alone": k choices of the thread by one user, and of nothing else.
   abbrev pub alone : ℕ → State → Ran
   alone k st = runList s st u (replicate k i)
@@ -107,7 +111,7 @@ module _ (s : List ℕ) (m : Module Expr) (u i : ℕ) where
     pub place : ℕ
     pub wait : instrAt (codeOf m i) place ≡ wait! terms
     -- "stops at a wait with what remains to do": that is what remains behind the wait at that place.
-    pub means : meaning what (valueOf st) ≡ stops writes terms (behind whole place)
+    pub means : meaning what (valueOf st) ≡ stops writes terms (behind (whole m i) place)
     -- As long as the allowance lasts it comes nearer by each choice, and there in so many.
     pub count : ℕ
     pub most : count ≤ 2 * length (codeOf m i)
@@ -119,5 +123,5 @@ module _ (s : List ℕ) (m : Module Expr) (u i : ℕ) where
 abbrev pub AsWritten : Type 0
 AsWritten =
     (s : List ℕ) (m : Module Expr) → read s ≡ ok m → (u : ℕ) → u < users → (i : ℕ) → i < length (m .threads) →
-    loopsWait (whole s m u i) ≡ true → (st : State) → Shaped st → stateFits m st ≡ true → (what : Stmt Expr) →
-    Stands s m u i (placeOf st i) what → Goes s m u i st what
+    loopsWait (whole m i) ≡ true → (st : State) → Shaped st → stateFits m st ≡ true → (what : Stmt Expr) →
+    Stands m i (placeOf st i) what → Goes s m u i st what
