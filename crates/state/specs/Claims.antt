@@ -39,6 +39,6 @@ pub record BroughtOver : Type 0 where
   pub carries : (st : State) (time count : ℕ) (allowances : List ℕ) → Shaped st → Bounded st → CarriesOver st time count allowances
   -- A state of form 3 is taken as it stands.
   pub kept : (st : State) (allowances : List ℕ) → Shaped st → Bounded st → broughtOver (saved st) allowances ≡ record { number = 0; state = st }
-  -- "bytes that are no saved state"
+  -- Bytes that are no saved state.
   pub no-other : (b allowances : List ℕ) → length b ≢ 641 → length b ≢ 649 → length b ≢ 689 →
       broughtOver b allowances ≡ record { number = 31; state = zeroState }
