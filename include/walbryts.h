@@ -11,6 +11,11 @@
  *
  * Variables are numbered from 0: inputs, then registers, then wires; input 0 is the clock. Items are threads, then
  * wires.
+ *
+ * A value is two numbers below 2 to the power of its width: the number, and the marks of its unknown bits. A bit whose
+ * mark is 1 isn't known, and is 0 in the number. So 6 with the marks 0 is the known number 6; 4 with the marks 2 is the
+ * bits 1x0; in a variable of 3 bits 0 with the marks 7 is x in all bits. A value that isn't of this form doesn't fit: an
+ * input is refused with 25 then, a state or a register with 31.
  */
 #ifndef WALBRYTS_H
 #define WALBRYTS_H
@@ -23,7 +28,7 @@
 extern "C" {
 #endif
 
-#define WALBRYTS_VERSION "0.2.0" /* of the library, the command and the Rust crate */
+#define WALBRYTS_VERSION "0.3.0" /* of the library, the command and the Rust crate */
 
 /* ---- lengths */
 
@@ -34,8 +39,9 @@ extern "C" {
 
 #define WALBRYTS_TEXT 65536  /* bytes of the buffer for a listing; no listing is longer */
 #define WALBRYTS_USERS 4     /* users that step one state */
-#define WALBRYTS_STATE 689   /* bytes of a saved state */
-#define WALBRYTS_STATE_2 649 /* bytes of one that an older release saved, in form 2 */
+#define WALBRYTS_STATE 1025  /* bytes of a saved state */
+#define WALBRYTS_STATE_3 689 /* bytes of one that an older release saved, in form 3 */
+#define WALBRYTS_STATE_2 649 /* in form 2 */
 #define WALBRYTS_STATE_1 641 /* and in form 1 */
 #define WALBRYTS_INPUTS 16   /* inputs in a row */
 #define WALBRYTS_REGISTERS 32
@@ -44,22 +50,23 @@ extern "C" {
 #define WALBRYTS_NODE_WORDS 16384 /* words of the node table: 4,096 nodes of four */
 #define WALBRYTS_ROW_WORDS 1056   /* words of the row table: 32 rows of 33 */
 
-/* ---- where a saved state has what. Multi-byte numbers are low byte first. Byte 0 names the form and is 3. */
+/* ---- where a saved state has what. Multi-byte numbers are low byte first. Byte 0 names the form and is 4. */
 
-/* Value v: a byte, 1 for x or 0 for a known number, then four bytes of number. */
-#define WALBRYTS_VALUE_AT(v) (1 + 5 * (size_t)(v))
+/* Value v: four bytes of number, then four bytes of marks. */
+#define WALBRYTS_VALUE_AT(v) (1 + 8 * (size_t)(v))
 /* The pending value of register r: a byte, 1 for held or 0, then a value. */
-#define WALBRYTS_PENDING_AT(r) (401 + 6 * (size_t)(r))
+#define WALBRYTS_PENDING_AT(r) (641 + 9 * (size_t)(r))
 /* The place of thread t: a byte. */
-#define WALBRYTS_PLACE_AT(t) (593 + (size_t)(t))
+#define WALBRYTS_PLACE_AT(t) (929 + (size_t)(t))
 /* Wire w is due: a byte, 0 or 1. */
-#define WALBRYTS_DUE_AT(w) (601 + (size_t)(w))
-/* The instants accepted: eight bytes. The choices of user u that were accepted: eight bytes. How many may be: four. (Forms
- * 1 and 2 have one count: in form 1, whose byte 0 is 1, time and count have four bytes each, at 633 and 637; in form 2
- * eight, at 633 and 641. All before them is the same.) */
-#define WALBRYTS_TIME_AT 633
-#define WALBRYTS_COUNT_AT(u) (641 + 8 * (size_t)(u))
-#define WALBRYTS_ALLOWANCE_AT(u) (673 + 4 * (size_t)(u))
+#define WALBRYTS_DUE_AT(w) (937 + (size_t)(w))
+/* The instants accepted: eight bytes. The choices of user u that were accepted: eight bytes. How many may be: four. */
+#define WALBRYTS_TIME_AT 969
+#define WALBRYTS_COUNT_AT(u) (977 + 8 * (size_t)(u))
+#define WALBRYTS_ALLOWANCE_AT(u) (1009 + 4 * (size_t)(u))
+/* (In the older forms a value is five bytes, 1 for x or 0, then its number: values stand at 1 + 5 v, pending values at
+ * 401 + 6 r, places at 593, wires that are due at 601, the time at 633. Form 3 has the same counts and allowances behind
+ * it; forms 1 and 2 have one count, form 1 with four bytes for time and count each, form 2 with eight.) */
 
 /* ---- numbers and words */
 
@@ -108,16 +115,19 @@ uint8_t walbryts_list(const uint8_t *sheet, size_t sheet_len, uint8_t *text, siz
  * All but the first two prepare the sheet on the stack: 180 KB at most. (Measured: 150 KB for a usual sheet, 171 KB for
  * one that nests as deep as it may.) */
 
-/* Are the bytes a saved state: WALBRYTS_STATE of them in this form, every flag and mark 0 or 1? */
+/* Are the bytes a saved state: WALBRYTS_STATE of them in this form, every flag 0 or 1? */
 bool walbryts_is_state(const uint8_t *bytes, size_t bytes_len);
 
-/* Brings a saved state over: of old_len bytes in form 1 or 2 into state[WALBRYTS_STATE], with its count as user 0's, 0 for
- * the others, these allowances[WALBRYTS_USERS], and all else as it was. One in this form is taken as it stands. Gives 0,
- * or 31 where the old bytes are no saved state or the count is above allowances[0]; then `state` stays. */
-uint8_t walbryts_bring_over(const uint8_t *old, size_t old_len, const uint32_t *allowances, uint8_t *state);
+/* Brings a saved state of the sheet over: old_len bytes in form 1, 2 or 3 into state[WALBRYTS_STATE]. An x becomes 0
+ * with marks on all bits of its variable's width (past the sheet's variables on 32). The one count of forms 1 and 2
+ * becomes user 0's, 0 is the others', and the allowances are allowances[WALBRYTS_USERS]; form 3 keeps its own. All else
+ * is as it was, and a state in this form is taken as it stands. Gives 0, or 1 to 11 of the sheet, or 31 where the old
+ * bytes are no saved state or the one count is above allowances[0]; then `state` stays. */
+uint8_t walbryts_bring_over(const uint8_t *sheet, size_t sheet_len, const uint8_t *old, size_t old_len,
+                            const uint32_t *allowances, uint8_t *state);
 
-/* The start state: all is x, places and counters 0, every wire due; allowances[WALBRYTS_USERS] say how many choices each
- * user has, for good. The bytes in `state` may be any. Gives 0, or 1 to 11. */
+/* The start state: all is x in all bits of its width, places and counters 0, every wire due; allowances[WALBRYTS_USERS]
+ * say how many choices each user has, for good. The bytes in `state` may be any. Gives 0, or 1 to 11. */
 uint8_t walbryts_start(const uint8_t *sheet, size_t sheet_len, const uint32_t *allowances, uint8_t *state);
 
 /* One choice of a user: an item, whose instruction or wire is run, or WALBRYTS_COMMIT. Gives 0, or 1 to 11, 31, 22, 46,
@@ -137,10 +147,10 @@ uint8_t walbryts_run_plain(const uint8_t *sheet, size_t sheet_len, uint8_t *stat
                            uint16_t *accepted, uint8_t *word);
 
 /* An instant: sets all inputs, the clock first, as one change. The state must be quiet; the start state is after a
- * plain run. value[16] and unknown[16] hold them, an x as a raised flag; `count` is how many there are. Gives 0, or 1
- * to 11, 31, 25, 32, 36. */
+ * plain run. value[16] and unknown[16] hold them, numbers and marks; `count` is how many there are. Gives 0, or 1 to
+ * 11, 31, 25, 32, 36. */
 uint8_t walbryts_instant(const uint8_t *sheet, size_t sheet_len, uint8_t *state, uint8_t count, const uint32_t *value,
-                         const bool *unknown);
+                         const uint32_t *unknown);
 
 /* Clock cycles: for each 16 values a row, with two instants, the clock low with the row's inputs and the clock high
  * with nothing else changed, and a plain run of at most 65,535 choices of the user after each. The state must be quiet at first. A
@@ -149,7 +159,8 @@ uint8_t walbryts_instant(const uint8_t *sheet, size_t sheet_len, uint8_t *state,
  * else the number that stopped it, and the state is the one reached. A refused call gives 1 to 11, 31,
  * 46, or 25 where value_len is no multiple of 16 or unknown_len is another length. */
 uint8_t walbryts_run_cycles(const uint8_t *sheet, size_t sheet_len, uint8_t *state, uint8_t user, const uint32_t *value,
-                            size_t value_len, const bool *unknown, size_t unknown_len, size_t *phases, bool *running);
+                            size_t value_len, const uint32_t *unknown, size_t unknown_len, size_t *phases,
+                            bool *running);
 
 /* ---- expressions */
 
@@ -158,22 +169,23 @@ uint8_t walbryts_run_cycles(const uint8_t *sheet, size_t sheet_len, uint8_t *sta
 uint8_t walbryts_extract(const uint8_t *sheet, size_t sheet_len, uint16_t *nodes, size_t nodes_len, uint16_t *rows,
                          size_t rows_len);
 
-/* One clock cycle by the tables. value[32], unknown[32] and places[8] hold registers and wait places before it and
- * become those after it; inputs[16] and inputs_unknown[16] the inputs from 1 up, of which `count` says how many there
- * are; wire[32] and unsure[32] take the wires, an x as a raised flag. Gives 0, or 23, 1 to 21, 24, 31, 25; refused, all
- * five arrays stay. */
+/* One clock cycle by the tables. value[32], unknown[32] and places[8] hold the registers' numbers and marks and the wait
+ * places before it and become those after it; inputs[16] and inputs_unknown[16] are the inputs from 1 up, of which
+ * `count` says how many there are; wire[32] and unsure[32] take the wires' numbers and marks, all 32 marks past the
+ * sheet's wires. Gives 0, or 23, 1 to 21, 24, 31, 25; refused, all five arrays stay. */
 uint8_t walbryts_cycle(const uint8_t *sheet, size_t sheet_len, const uint16_t *nodes, size_t nodes_len,
-                       const uint16_t *rows, size_t rows_len, uint32_t *value, bool *unknown, uint8_t *places,
-                       uint8_t count, const uint32_t *inputs, const bool *inputs_unknown, uint32_t *wire, bool *unsure);
+                       const uint16_t *rows, size_t rows_len, uint32_t *value, uint32_t *unknown, uint8_t *places,
+                       uint8_t count, const uint32_t *inputs, const uint32_t *inputs_unknown, uint32_t *wire,
+                       uint32_t *unsure);
 
 /* A clock cycle by the tables for each 16 inputs, up to the first that is refused; a row's item 0, the clock's, isn't
  * looked at. *cycles takes how many were accepted; the arrays become what the last of these gave, and where none was
  * accepted they stay. Gives 0 where all were accepted, else the number that refused the next. A refused call gives 23,
  * 1 to 21, 24, 31, or 25 where inputs_len is no multiple of 16 or inputs_unknown_len is another length. */
 uint8_t walbryts_cycles(const uint8_t *sheet, size_t sheet_len, const uint16_t *nodes, size_t nodes_len,
-                        const uint16_t *rows, size_t rows_len, uint32_t *value, bool *unknown, uint8_t *places,
-                        const uint32_t *inputs, size_t inputs_len, const bool *inputs_unknown,
-                        size_t inputs_unknown_len, size_t *cycles, uint32_t *wire, bool *unsure);
+                        const uint16_t *rows, size_t rows_len, uint32_t *value, uint32_t *unknown, uint8_t *places,
+                        const uint32_t *inputs, size_t inputs_len, const uint32_t *inputs_unknown,
+                        size_t inputs_unknown_len, size_t *cycles, uint32_t *wire, uint32_t *unsure);
 
 /* ---- many modules, run side by side */
 

@@ -36,11 +36,17 @@ static uint64_t counter_at(const uint8_t *state, size_t at) {
     return number_at(state, at) | (uint64_t)number_at(state, at + 4) << 32;
 }
 
-static void print_value(uint32_t number, bool unknown) {
-    if (unknown) {
+/* A value of 8 bits: in decimal, x where no bit is known, else its bits. */
+static void print_value(uint32_t number, uint32_t unknown) {
+    if (unknown == 0) {
+        printf("%" PRIu32, number);
+    } else if (unknown == 0xFF) {
         printf("x");
     } else {
-        printf("%" PRIu32, number);
+        printf("b");
+        for (int bit = 7; bit >= 0; bit--) {
+            printf("%c", unknown >> bit & 1 ? 'x' : number >> bit & 1 ? '1' : '0');
+        }
     }
 }
 
@@ -48,7 +54,7 @@ static void print_state(const uint8_t *state) {
     size_t at = WALBRYTS_VALUE_AT(REGISTER);
     printf("time %" PRIu64 " count %" PRIu64 " place %u register ", counter_at(state, WALBRYTS_TIME_AT),
            counter_at(state, WALBRYTS_COUNT_AT(USER)), state[WALBRYTS_PLACE_AT(0)]);
-    print_value(number_at(state, at + 1), state[at] == 1);
+    print_value(number_at(state, at), number_at(state, at + 4));
     printf("\n");
 }
 
@@ -65,13 +71,13 @@ static void list(void) {
 }
 
 /* A clock cycle: the clock low, then high, with a plain run after each. */
-static void cycle_by_events(uint8_t *state, uint32_t number, bool unknown) {
+static void cycle_by_events(uint8_t *state, uint32_t number, uint32_t unknown) {
     for (uint32_t clock = 0; clock < 2; clock++) {
         uint32_t value[WALBRYTS_INPUTS] = {clock, number};
-        bool flags[WALBRYTS_INPUTS] = {false, unknown};
+        uint32_t marks[WALBRYTS_INPUTS] = {0, unknown};
         uint16_t choices;
         uint8_t word;
-        accepted("instant", walbryts_instant(sheet, sizeof sheet, state, INPUTS, value, flags));
+        accepted("instant", walbryts_instant(sheet, sizeof sheet, state, INPUTS, value, marks));
         accepted("run_plain", walbryts_run_plain(sheet, sizeof sheet, state, USER, 1000, &choices, &word));
     }
     print_state(state);
@@ -80,10 +86,10 @@ static void cycle_by_events(uint8_t *state, uint32_t number, bool unknown) {
 /* The clock low and high, and then a choice of a user without an allowance; another user takes it. */
 static uint8_t used_up(uint8_t *state) {
     uint32_t value[WALBRYTS_INPUTS] = {0, 9};
-    bool flags[WALBRYTS_INPUTS] = {false};
-    accepted("instant", walbryts_instant(sheet, sizeof sheet, state, INPUTS, value, flags));
+    uint32_t marks[WALBRYTS_INPUTS] = {0};
+    accepted("instant", walbryts_instant(sheet, sizeof sheet, state, INPUTS, value, marks));
     value[0] = 1;
-    accepted("instant", walbryts_instant(sheet, sizeof sheet, state, INPUTS, value, flags));
+    accepted("instant", walbryts_instant(sheet, sizeof sheet, state, INPUTS, value, marks));
     uint8_t number = walbryts_choose(sheet, sizeof sheet, state, 3, 0);
     accepted("choose", walbryts_choose(sheet, sizeof sheet, state, OTHER, 0));
     return number;
@@ -93,10 +99,11 @@ static void by_events(void) {
     uint8_t state[WALBRYTS_STATE], kept[WALBRYTS_STATE];
     accepted("start", walbryts_start(sheet, sizeof sheet, allowances, state));
     print_state(state);
-    cycle_by_events(state, 5, false);
+    cycle_by_events(state, 5, 0);
     memcpy(kept, state, sizeof kept);
-    cycle_by_events(state, 0, true);
-    cycle_by_events(kept, 200, false);
+    cycle_by_events(state, 0, 0xFF);
+    cycle_by_events(state, 0x84, 0x02); /* bit 1 isn't known */
+    cycle_by_events(kept, 200, 0);
     printf("commit: refused %u\n", walbryts_choose(sheet, sizeof sheet, state, USER, WALBRYTS_COMMIT));
     printf("user 3: %u, user 4: %u\n", used_up(state), walbryts_choose(sheet, sizeof sheet, state, 4, WALBRYTS_COMMIT));
     kept[0] = 7;
@@ -106,7 +113,7 @@ static void by_events(void) {
 /* Three rows; the third is too wide. */
 static void by_rows(void) {
     uint32_t value[3 * WALBRYTS_INPUTS] = {0};
-    bool unknown[3 * WALBRYTS_INPUTS] = {false};
+    uint32_t unknown[3 * WALBRYTS_INPUTS] = {0};
     uint8_t state[WALBRYTS_STATE];
     size_t phases;
     bool running;
@@ -123,7 +130,7 @@ static void by_rows(void) {
 static void by_expressions(void) {
     static uint16_t nodes[WALBRYTS_NODE_WORDS], rows[WALBRYTS_ROW_WORDS];
     uint32_t value[WALBRYTS_REGISTERS] = {0}, wire[WALBRYTS_WIRES], inputs[WALBRYTS_INPUTS] = {5};
-    bool unknown[WALBRYTS_REGISTERS] = {true}, unsure[WALBRYTS_WIRES], inputs_unknown[WALBRYTS_INPUTS] = {false};
+    uint32_t unknown[WALBRYTS_REGISTERS] = {0xFF}, unsure[WALBRYTS_WIRES], inputs_unknown[WALBRYTS_INPUTS] = {0};
     uint8_t places[WALBRYTS_THREADS] = {0};
     accepted("extract", walbryts_extract(sheet, sizeof sheet, nodes, WALBRYTS_NODE_WORDS, rows, WALBRYTS_ROW_WORDS));
     printf("register 0 becomes node %u, the place node %u\n", rows[0], rows[32]);

@@ -60,9 +60,11 @@ fn main() -> Result<(), Box<dyn Error>> {
         let module = &mut modules[usize::from(picked)];
         module.turn()?;
         let turns = records[usize::from(picked)].turns;
-        let registers = (0..module.sheet.registers())
-            .map(|register| module.state.value(module.sheet.register(register)).to_string());
-        let registers = registers.collect::<Vec<_>>().join(" ");
+        let registers =
+            (0..module.sheet.registers()).map(|register| module.sheet.register(register));
+        let shown =
+            |register| module.state.value(register).shown(module.sheet.widths()[register]);
+        let registers = registers.map(shown).collect::<Vec<_>>().join(" ");
         println!("{turn:>4} {:<8} {turns:>5} {registers}", module.name);
     }
     Ok(())

@@ -5,7 +5,7 @@
 
 use std::error::Error;
 
-use walbryts::{Inputs, Registers, Rows, Sheet, State, USERS, Value};
+use walbryts::{Inputs, Registers, Rows, Sheet, State, USERS};
 
 const WATCHDOG: &str = include_str!("../../tests/data/watchdog.hex");
 /// Registers of the watchdog: the count of repeated readings, and whether it has tripped.
@@ -19,7 +19,7 @@ fn main() -> Result<(), Box<dyn Error>> {
     let tables = sheet.extract()?;
     let mut state = sheet.start([u32::MAX; USERS]);
     sheet.run_plain(&mut state, 0, u16::MAX)?;
-    let mut registers = Registers::start();
+    let mut registers = Registers::start(&sheet);
     println!("cycle reading counted tripped choices");
     for (cycle, reading) in [0, 7, 7, 7, 7, 7, 7].into_iter().enumerate() {
         // Reset, reading, limit, acknowledged.
@@ -28,7 +28,8 @@ fn main() -> Result<(), Box<dyn Error>> {
         by_events(&sheet, &mut state, inputs)?;
         sheet.cycle(&tables, &mut registers, &Inputs::from(inputs))?;
         assert_eq!(registers, Registers::of(&sheet, &state));
-        let [counted, tripped]: [Value; 2] = [COUNTED, TRIPPED].map(|r| registers.value(r));
+        let shown = |r| registers.value(r).shown(sheet.widths()[sheet.register(r)]);
+        let [counted, tripped] = [COUNTED, TRIPPED].map(shown);
         let choices = state.count(0) - before;
         println!("{cycle:>5} {reading:>7} {counted:>7} {tripped:>7} {choices:>7}");
     }

@@ -52,21 +52,27 @@ impl Tables {
 #[derive(Clone, Debug, PartialEq, Eq, Hash)]
 pub struct Registers {
     value: [u32; REGISTERS],
-    unknown: [bool; REGISTERS],
+    unknown: [u32; REGISTERS],
     places: [u8; PLACES],
 }
 
 impl Registers {
-    /// As at the start: all registers x, all places 0.
+    /// As at the sheet's start: all registers x in all bits, all places 0.
     #[must_use]
-    pub fn start() -> Registers {
-        Registers { value: [0; REGISTERS], unknown: [true; REGISTERS], places: [0; PLACES] }
+    pub fn start(sheet: &Sheet) -> Registers {
+        let (value, unknown) = ([0; REGISTERS], [u32::MAX; REGISTERS]);
+        let mut registers = Registers { value, unknown, places: [0; PLACES] };
+        for register in 0..sheet.registers() {
+            let width = sheet.widths()[sheet.register(register)];
+            registers.set_value(register, Value::all_unknown(width));
+        }
+        registers
     }
 
     /// Those of a state of the simulation.
     #[must_use]
     pub fn of(sheet: &Sheet, state: &State) -> Registers {
-        let mut registers = Registers::start();
+        let mut registers = Registers::start(sheet);
         for register in 0..sheet.registers() {
             registers.set_value(register, state.value(sheet.register(register)));
         }
@@ -83,7 +89,7 @@ impl Registers {
     /// From register 32 on, which no sheet has.
     #[must_use]
     pub fn value(&self, register: usize) -> Value {
-        Value::of(self.value[register], self.unknown[register])
+        Value { number: self.value[register], unknown: self.unknown[register] }
     }
 
     /// Sets a register's value.
@@ -92,7 +98,7 @@ impl Registers {
     ///
     /// From register 32 on, which no sheet has.
     pub fn set_value(&mut self, register: usize, value: Value) {
-        (self.value[register], self.unknown[register]) = value.apart();
+        (self.value[register], self.unknown[register]) = (value.number, value.unknown);
     }
 
     /// The place that a thread waits at.
@@ -119,22 +125,22 @@ impl Registers {
 #[derive(Clone, Debug, PartialEq, Eq, Hash)]
 pub struct Wires {
     value: [u32; WIRES],
-    unknown: [bool; WIRES],
+    unknown: [u32; WIRES],
 }
 
 impl Wires {
-    /// A wire's value; x past the sheet's.
+    /// A wire's value; x in 32 bits past the sheet's.
     ///
     /// # Panics
     ///
     /// From wire 32 on, which no sheet has.
     #[must_use]
     pub fn value(&self, wire: usize) -> Value {
-        Value::of(self.value[wire], self.unknown[wire])
+        Value { number: self.value[wire], unknown: self.unknown[wire] }
     }
 
     fn unknown() -> Wires {
-        Wires { value: [0; WIRES], unknown: [true; WIRES] }
+        Wires { value: [0; WIRES], unknown: [u32::MAX; WIRES] }
     }
 }
 
@@ -145,7 +151,7 @@ pub struct Cycles {
     pub accepted: usize,
     /// What refused the next one; none where all rows ran.
     pub stopped: Option<Refusal>,
-    /// The wires after the last accepted cycle; x before the first.
+    /// The wires after the last accepted cycle; x in 32 bits before the first.
     pub wires: Wires,
 }
 
@@ -157,9 +163,9 @@ impl Sheet {
     /// # let sheet = walbryts::Sheet::read(&bytes)?;
     /// use walbryts::{Inputs, Registers, Value};
     /// let tables = sheet.extract()?;
-    /// let mut registers = Registers::start();
+    /// let mut registers = Registers::start(&sheet);
     /// sheet.cycle(&tables, &mut registers, &Inputs::from([5]))?;
-    /// assert_eq!(registers.value(0), Value::Known(5));
+    /// assert_eq!(registers.value(0), Value::known(5));
     /// # Ok::<(), walbryts::Refusal>(())
     /// ```
     ///

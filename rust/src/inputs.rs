@@ -11,14 +11,14 @@ pub(crate) const INPUTS: usize = 16;
 /// ```
 /// use walbryts::{Inputs, Value};
 /// let low = Inputs::from([0, 5]);
-/// let dead = Inputs::new(&[Value::Known(0), Value::X]);
+/// let dead = Inputs::new(&[Value::known(0), Value::all_unknown(8)]);
 /// assert_ne!(low, dead);
 /// ```
 #[derive(Clone, Copy, Debug, PartialEq, Eq, Hash)]
 pub struct Inputs {
     pub(crate) count: u8,
     pub(crate) value: [u32; INPUTS],
-    pub(crate) unknown: [bool; INPUTS],
+    pub(crate) unknown: [u32; INPUTS],
 }
 
 impl Inputs {
@@ -27,9 +27,9 @@ impl Inputs {
     #[must_use]
     pub fn new(values: &[Value]) -> Inputs {
         let count = u8::try_from(values.len()).unwrap_or(u8::MAX);
-        let mut inputs = Inputs { count, value: [0; INPUTS], unknown: [false; INPUTS] };
+        let mut inputs = Inputs { count, value: [0; INPUTS], unknown: [0; INPUTS] };
         for (i, value) in values.iter().take(INPUTS).enumerate() {
-            (inputs.value[i], inputs.unknown[i]) = value.apart();
+            (inputs.value[i], inputs.unknown[i]) = (value.number, value.unknown);
         }
         inputs
     }
@@ -58,7 +58,7 @@ impl<T: Into<Value>, const N: usize> From<[T; N]> for Inputs {
 pub struct Rows {
     inputs: usize,
     pub(crate) value: Vec<u32>,
-    pub(crate) unknown: Vec<bool>,
+    pub(crate) unknown: Vec<u32>,
 }
 
 impl Rows {
@@ -72,24 +72,24 @@ impl Rows {
     ///
     /// # Errors
     ///
-    /// 25 where the sheet has another number of inputs; nothing is added then. Values that are
-    /// too wide are refused by the call that runs the rows.
+    /// 25 where the sheet has another number of inputs; nothing is added then. Values that don't
+    /// fit are refused by the call that runs the rows.
     pub fn push<T: Into<Value>>(
         &mut self,
         inputs: impl IntoIterator<Item = T>,
     ) -> Result<(), Refusal> {
         let start = self.value.len();
         self.value.push(0);
-        self.unknown.push(false);
+        self.unknown.push(0);
         for value in inputs {
-            let (number, unknown) = value.into().apart();
+            let Value { number, unknown } = value.into();
             self.value.push(number);
             self.unknown.push(unknown);
         }
         let fits = self.value.len() - start == self.inputs;
         let end = if fits { start + INPUTS } else { start };
         self.value.resize(end, 0);
-        self.unknown.resize(end, false);
+        self.unknown.resize(end, 0);
         if fits { Ok(()) } else { Err(Refusal::of(25)) }
     }
 
@@ -105,9 +105,9 @@ impl Rows {
         self.value.is_empty()
     }
 
-    /// Numbers and flags as the library takes them; no rows, where they are those of a sheet with
+    /// Numbers and marks as the library takes them; no rows, where they are those of a sheet with
     /// another number of inputs, so that all else is judged first.
-    pub(crate) fn lent(&self, sheet: &Sheet) -> (&[u32], &[bool]) {
+    pub(crate) fn lent(&self, sheet: &Sheet) -> (&[u32], &[u32]) {
         match self.fit(sheet) {
             true => (&self.value, &self.unknown),
             false => (&[], &[]),

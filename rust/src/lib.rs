@@ -26,12 +26,12 @@
 //!     sheet.instant(&mut state, &Inputs::from([clock, 5]))?;
 //!     assert_eq!(sheet.run_plain(&mut state, 0, 1000)?.verdict, Verdict::Quiet);
 //! }
-//! assert_eq!(state.value(sheet.register(0)), Value::Known(5));
+//! assert_eq!(state.value(sheet.register(0)), Value::known(5));
 //!
 //! let tables = sheet.extract()?;
-//! let mut registers = Registers::start();
+//! let mut registers = Registers::start(&sheet);
 //! sheet.cycle(&tables, &mut registers, &Inputs::from([5]))?;
-//! assert_eq!(registers.value(0), Value::Known(5));
+//! assert_eq!(registers.value(0), Value::known(5));
 //! # Ok::<(), walbryts::Refusal>(())
 //! ```
 //!

@@ -30,6 +30,8 @@ unsafe extern "C" {
     pub fn walbryts_is_state(bytes: *const u8, bytes_len: usize) -> bool;
 
     pub fn walbryts_bring_over(
+        sheet: *const u8,
+        sheet_len: usize,
         old: *const u8,
         old_len: usize,
         allowances: *const u32,
@@ -77,7 +79,7 @@ unsafe extern "C" {
         state: *mut u8,
         count: u8,
         value: *const u32,
-        unknown: *const bool,
+        unknown: *const u32,
     ) -> u8;
 
     pub fn walbryts_run_cycles(
@@ -87,7 +89,7 @@ unsafe extern "C" {
         user: u8,
         value: *const u32,
         value_len: usize,
-        unknown: *const bool,
+        unknown: *const u32,
         unknown_len: usize,
         phases: *mut usize,
         running: *mut bool,
@@ -110,13 +112,13 @@ unsafe extern "C" {
         rows: *const u16,
         rows_len: usize,
         value: *mut u32,
-        unknown: *mut bool,
+        unknown: *mut u32,
         places: *mut u8,
         count: u8,
         inputs: *const u32,
-        inputs_unknown: *const bool,
+        inputs_unknown: *const u32,
         wire: *mut u32,
-        unsure: *mut bool,
+        unsure: *mut u32,
     ) -> u8;
 
     pub fn walbryts_cycles(
@@ -127,15 +129,15 @@ unsafe extern "C" {
         rows: *const u16,
         rows_len: usize,
         value: *mut u32,
-        unknown: *mut bool,
+        unknown: *mut u32,
         places: *mut u8,
         inputs: *const u32,
         inputs_len: usize,
-        inputs_unknown: *const bool,
+        inputs_unknown: *const u32,
         inputs_unknown_len: usize,
         cycles: *mut usize,
         wire: *mut u32,
-        unsure: *mut bool,
+        unsure: *mut u32,
     ) -> u8;
 
     pub fn walbryts_dispatch(
@@ -156,7 +158,7 @@ mod tests {
 
     const FLIP_FLOP: [u8; 16] = [2, 1, 0, 1, 1, 8, 8, 0x0C, 0x10, 1, 1, 0, 0x23, 2, 2, 1];
     const SHORT: [u8; 9] = [2, 1, 0, 1, 1, 8, 8, 0x0C, 0x10];
-    const STATE: usize = 689;
+    const STATE: usize = 1025;
     const MOST: [u32; 4] = [u32::MAX; 4];
 
     fn started() -> [u8; STATE] {
@@ -176,15 +178,15 @@ mod tests {
         let mut state = bytes;
         let lent = state.as_mut_ptr();
         let (mut accepted, mut few, mut word, mut phases, mut running) = (7, 7, 7, 7, true);
-        let (value, unknown) = ([0; 16], [false; 16]);
-        let (numbers, flags) = (value.as_ptr(), unknown.as_ptr());
+        let (value, unknown) = ([0; 16], [0; 16]);
+        let (numbers, marks) = (value.as_ptr(), unknown.as_ptr());
         // Safety: pointers and lengths are those of one slice each, the rest are locals'.
         let numbers = unsafe {
             [
                 walbryts_choose(at, len, lent, 0, 0),
                 walbryts_run(at, len, lent, 0, [0].as_ptr(), 1, &mut accepted),
                 walbryts_run_plain(at, len, lent, 0, 9, &mut few, &mut word),
-                walbryts_instant(at, len, lent, 2, numbers, flags),
+                walbryts_instant(at, len, lent, 2, numbers, marks),
                 walbryts_run_cycles(
                     at,
                     len,
@@ -192,7 +194,7 @@ mod tests {
                     0,
                     numbers,
                     16,
-                    flags,
+                    marks,
                     16,
                     &mut phases,
                     &mut running,
@@ -206,7 +208,7 @@ mod tests {
 
     #[test]
     fn no_saved_state_is_31_after_the_sheet() {
-        for (at, byte) in [(0, 0), (0, 1), (0, 2), (0, 255), (1, 2), (401, 2), (601, 7)] {
+        for (at, byte) in [(0, 0), (0, 1), (0, 2), (0, 3), (0, 255), (641, 2), (937, 7)] {
             let mut bytes = started();
             bytes[at] = byte;
             // Safety: as above.
@@ -217,32 +219,38 @@ mod tests {
         refused(&SHORT, started(), 2);
     }
 
-    /// 641 bytes of form 1 are brought over; one byte less, another form or a count above the
-    /// allowance leaves what is lent.
+    /// 641 bytes of form 1 are brought over; a sheet that isn't read, one byte less, another form or
+    /// a count above the allowance leaves what is lent.
     #[test]
     fn a_refused_bringing_leaves_the_bytes() {
         let state = started();
-        let mut old = [&state[..633], &[2, 1, 0, 0, 3, 0, 0, 0]].concat();
+        let mut old = [0; 641];
         old[0] = 1;
-        let bring = |old: &[u8], allowances: [u32; 4]| {
+        old[1..401].chunks_mut(5).for_each(|value| value[0] = 1);
+        old[633..].copy_from_slice(&[2, 1, 0, 0, 3, 0, 0, 0]);
+        let bring = |sheet: &[u8], old: &[u8], allowances: [u32; 4]| {
             let mut lent = [0xA5; STATE];
             let (at, len, allowed) = (old.as_ptr(), old.len(), allowances.as_ptr());
             // Safety: as above, and the lent bytes have the length of a saved state.
-            let number = unsafe { walbryts_bring_over(at, len, allowed, lent.as_mut_ptr()) };
+            let number = unsafe {
+                let (sheet, sheet_len) = (sheet.as_ptr(), sheet.len());
+                walbryts_bring_over(sheet, sheet_len, at, len, allowed, lent.as_mut_ptr())
+            };
             (number, lent)
         };
         let mut expected = state;
-        expected[633] = 2;
-        expected[634] = 1;
-        expected[641] = 3;
+        expected[969] = 2;
+        expected[970] = 1;
+        expected[977] = 3;
         // Safety: as above.
         assert!(!unsafe { walbryts_is_state(old.as_ptr(), old.len()) });
-        assert_eq!(bring(&old, MOST), (0, expected));
-        assert_eq!(bring(&expected, [0; 4]), (0, expected));
-        assert_eq!(bring(&old, [2, 9, 9, 9]), (31, [0xA5; STATE]));
-        assert_eq!(bring(&old[..640], MOST), (31, [0xA5; STATE]));
+        assert_eq!(bring(&FLIP_FLOP, &old, MOST), (0, expected));
+        assert_eq!(bring(&FLIP_FLOP, &expected, [0; 4]), (0, expected));
+        assert_eq!(bring(&FLIP_FLOP, &old, [2, 9, 9, 9]), (31, [0xA5; STATE]));
+        assert_eq!(bring(&FLIP_FLOP, &old[..640], MOST), (31, [0xA5; STATE]));
+        assert_eq!(bring(&SHORT, &old[..640], MOST), (2, [0xA5; STATE]));
         old[0] = 2;
-        assert_eq!(bring(&old, MOST), (31, [0xA5; STATE]));
+        assert_eq!(bring(&FLIP_FLOP, &old, MOST), (31, [0xA5; STATE]));
     }
 
     #[test]
@@ -269,8 +277,8 @@ mod tests {
     #[test]
     fn rows_are_whole_or_25() {
         let bytes = started();
-        let (value, unknown) = ([0; 48], [false; 48]);
-        for (values, flags) in [(1, 1), (15, 15), (17, 17), (32, 16), (16, 32), (0, 1)] {
+        let (value, unknown) = ([0; 48], [0; 48]);
+        for (values, marks) in [(1, 1), (15, 15), (17, 17), (32, 16), (16, 32), (0, 1)] {
             let mut state = bytes;
             let (mut phases, mut running) = (7, true);
             // Safety: as above.
@@ -283,7 +291,7 @@ mod tests {
                     value.as_ptr(),
                     values,
                     unknown.as_ptr(),
-                    flags,
+                    marks,
                     &mut phases,
                     &mut running,
                 )

@@ -111,7 +111,7 @@ reasons! {
     NoItem = 22, "the choice names no item";
     TableLength = 23, "a lent table has another length";
     Table = 24, "the tables don't hold together";
-    Inputs = 25, "the inputs are of the wrong number or too wide";
+    Inputs = 25, "the inputs are of the wrong number, too wide, or have a number under a mark";
     Unfit = 31, "the state doesn't fit the sheet";
     NotQuiet = 32, "an instant needs a quiet state";
     NotEnabled = 33, "the item isn't enabled";

@@ -50,8 +50,9 @@ pub struct CycleRuns {
 }
 
 impl Sheet {
-    /// The start state: all is x, places and counters 0, every wire due; the allowances say how many
-    /// choices each user may take, for good. It is quiet, as an instant needs it, after a plain run.
+    /// The start state: all is x in all bits, places and counters 0, every wire due; the allowances
+    /// say how many choices each user may take, for good. It is quiet, as an instant needs it, after a
+    /// plain run.
     #[must_use]
     pub fn start(&self, allowances: [u32; USERS]) -> State {
         let (sheet, len) = self.raw();
@@ -142,7 +143,7 @@ impl Sheet {
     /// 31, 25, 32, 36. The state stays.
     pub fn instant(&self, state: &mut State, inputs: &Inputs) -> Result<(), Refusal> {
         let (sheet, len) = self.raw();
-        // Safety: as in `start`; there are 16 numbers and flags.
+        // Safety: as in `start`; there are 16 numbers and marks.
         let number = unsafe {
             raw::walbryts_instant(
                 sheet,

@@ -3,10 +3,11 @@ use std::fmt;
 
 use crate::raw;
 use crate::refusal::Refusal;
+use crate::sheet::Sheet;
 use crate::value::Value;
 
 /// The bytes of a saved state.
-pub const SAVED: usize = 689;
+pub const SAVED: usize = 1025;
 
 /// How many users step one state.
 pub const USERS: usize = 4;
@@ -17,11 +18,11 @@ const SLOTS: usize = 32;
 const PLACES: usize = 8;
 const MARKS: usize = 32;
 
-/// Where a saved state has what: the form's byte, then 80 values of 5 bytes, 32 slots of 6,
-/// 8 places, 32 marks, time, four counts, four allowances.
+/// Where a saved state has what: the form's byte, then 80 values of 8 bytes, 32 slots of 9,
+/// 8 places, 32 marks of wires, time, four counts, four allowances.
 const VALUES_AT: usize = 1;
-const SLOTS_AT: usize = VALUES_AT + 5 * VALUES;
-const PLACES_AT: usize = SLOTS_AT + 6 * SLOTS;
+const SLOTS_AT: usize = VALUES_AT + 8 * VALUES;
+const PLACES_AT: usize = SLOTS_AT + 9 * SLOTS;
 const MARKS_AT: usize = PLACES_AT + PLACES;
 const TIME_AT: usize = MARKS_AT + MARKS;
 const COUNTS_AT: usize = TIME_AT + 8;
@@ -35,7 +36,7 @@ const ALLOWANCES_AT: usize = COUNTS_AT + 8 * USERS;
 /// use walbryts::{Sheet, State, Value};
 /// let sheet = Sheet::read(&bytes)?;
 /// let state = sheet.start([100, 20, 0, 0]);
-/// assert_eq!(state.value(sheet.register(0)), Value::X);
+/// assert_eq!(state.value(sheet.register(0)), Value::all_unknown(8));
 /// assert_eq!((state.time(), state.count(1), state.allowance(1)), (0, 0, 20));
 /// assert_eq!(State::load(state.save()), Ok(state));
 /// # Ok::<(), walbryts::Refusal>(())
@@ -46,10 +47,10 @@ pub struct State {
 }
 
 impl State {
-    /// The saved form: a byte 3, which names the form, then 80 values (1 for x or 0, and the
-    /// number, low byte first), 32 pending slots (1 for held or 0, and a value), 8 places, 32
-    /// marks of wires that are due, time and four counts (8 bytes each), four allowances (4 bytes
-    /// each).
+    /// The saved form: a byte 4, which names the form, then 80 values (the number and its marks,
+    /// 4 bytes each, low byte first), 32 pending slots (1 for held or 0, and a value), 8 places,
+    /// 32 marks of wires that are due, time and four counts (8 bytes each), four allowances (4
+    /// bytes each).
     #[must_use]
     pub fn save(&self) -> &[u8; SAVED] {
         &self.bytes
@@ -71,34 +72,45 @@ impl State {
         }
     }
 
-    /// The state that an older release saved, in form 1 with time and count of 4 bytes each or in
-    /// form 2 with 8: the count becomes user 0's, the others' are 0, the allowances are these, and
-    /// all else is as it was. One of the form that [`State::save`] gives is taken as it stands.
+    /// The state of the sheet that an older release saved, in form 1 with time and one count of 4
+    /// bytes each, in form 2 with 8, or in form 3 with four counts and allowances. An x becomes x in
+    /// all bits of its variable's width; the one count becomes user 0's, the others' are 0, the
+    /// allowances are these; form 3 keeps its own. All else is as it was. One of the form that
+    /// [`State::save`] gives is taken as it stands.
     ///
     /// ```
     /// # let bytes = [2, 1, 0, 1, 1, 8, 8, 0x0C, 0x10, 1, 1, 0, 0x23, 2, 2, 1];
-    /// use walbryts::{Sheet, State};
-    /// let start = Sheet::read(&bytes)?.start([0; 4]);
-    /// let mut old = start.save()[..633].to_vec();
+    /// use walbryts::{Sheet, State, Value};
+    /// let sheet = Sheet::read(&bytes)?;
+    /// let mut old = vec![0; 641];
     /// old[0] = 1;
-    /// old.extend(258_u32.to_le_bytes());
-    /// old.extend(3_u32.to_le_bytes());
-    /// let state = State::bring_over(&old, [100, 20, 0, 0])?;
+    /// old[1 + 5 * 1 + 1] = 7; // variable 1 was 7
+    /// old[1 + 5 * 2] = 1; // variable 2 was x
+    /// old[633..637].copy_from_slice(&258_u32.to_le_bytes());
+    /// old[637..641].copy_from_slice(&3_u32.to_le_bytes());
+    /// let state = State::bring_over(&sheet, &old, [100, 20, 0, 0])?;
     /// assert_eq!((state.time(), state.count(0), state.allowance(1)), (258, 3, 20));
-    /// assert_eq!(state.save()[1..633], start.save()[1..633]);
-    /// assert_eq!(State::bring_over(&old, [2, 20, 0, 0]).unwrap_err().number(), 31);
+    /// assert_eq!((state.value(1), state.value(2)), (Value::known(7), Value::all_unknown(8)));
+    /// assert_eq!(State::bring_over(&sheet, &old, [2, 20, 0, 0]).unwrap_err().number(), 31);
     /// # Ok::<(), walbryts::Refusal>(())
     /// ```
     ///
     /// # Errors
     ///
     /// 31 where the bytes are no saved state, or their one count is above user 0's allowance.
-    pub fn bring_over(saved: &[u8], allowances: [u32; USERS]) -> Result<State, Refusal> {
+    pub fn bring_over(
+        sheet: &Sheet,
+        saved: &[u8],
+        allowances: [u32; USERS],
+    ) -> Result<State, Refusal> {
         let mut bytes = [0; SAVED];
+        let (sheet, sheet_len) = sheet.raw();
         let (old, len, lent) = (saved.as_ptr(), saved.len(), bytes.as_mut_ptr());
-        // Safety: pointer and length are those of one slice, a saved state has so many bytes, and
-        // there are four allowances.
-        let number = unsafe { raw::walbryts_bring_over(old, len, allowances.as_ptr(), lent) };
+        let allowed = allowances.as_ptr();
+        // Safety: pointers and lengths are those of one slice each, a saved state has so many
+        // bytes, and there are four allowances.
+        let number =
+            unsafe { raw::walbryts_bring_over(sheet, sheet_len, old, len, allowed, lent) };
         Refusal::judge(number).map(|()| State { bytes })
     }
 
@@ -110,21 +122,20 @@ impl State {
     #[must_use]
     pub fn value(&self, variable: usize) -> Value {
         assert!(variable < VALUES, "there are {VALUES} variables");
-        self.value_at(VALUES_AT + 5 * variable)
+        self.value_at(VALUES_AT + 8 * variable)
     }
 
-    /// Sets a variable's value; wires that read it aren't marked. A value too wide for a sheet
-    /// makes a state that doesn't fit it.
+    /// Sets a variable's value; wires that read it aren't marked. A value too wide for a sheet, or
+    /// with a number under a mark, makes a state that doesn't fit it.
     ///
     /// # Panics
     ///
     /// From variable 80 on, which no sheet has.
     pub fn set_value(&mut self, variable: usize, value: Value) {
         assert!(variable < VALUES, "there are {VALUES} variables");
-        let (number, unknown) = value.apart();
-        let at = VALUES_AT + 5 * variable;
-        self.bytes[at] = unknown.into();
-        self.bytes[at + 1..at + 5].copy_from_slice(&number.to_le_bytes());
+        let at = VALUES_AT + 8 * variable;
+        self.bytes[at..at + 4].copy_from_slice(&value.number.to_le_bytes());
+        self.bytes[at + 4..at + 8].copy_from_slice(&value.unknown.to_le_bytes());
     }
 
     /// The value pending for a register, if one is.
@@ -135,7 +146,7 @@ impl State {
     #[must_use]
     pub fn pending(&self, register: usize) -> Option<Value> {
         assert!(register < SLOTS, "there are {SLOTS} registers");
-        let at = SLOTS_AT + 6 * register;
+        let at = SLOTS_AT + 9 * register;
         (self.bytes[at] == 1).then(|| self.value_at(at + 1))
     }
 
@@ -190,7 +201,7 @@ impl State {
     }
 
     fn value_at(&self, at: usize) -> Value {
-        Value::of(self.number_at(at + 1), self.bytes[at] == 1)
+        Value { number: self.number_at(at), unknown: self.number_at(at + 4) }
     }
 
     fn counter_at(&self, at: usize) -> u64 {

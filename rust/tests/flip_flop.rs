@@ -27,12 +27,12 @@ fn choice_by_choice() {
     sheet.instant(&mut state, &Inputs::from([1, 5])).unwrap();
     assert_eq!((state.place(0), state.pending(0)), (1, None));
     sheet.choose(&mut state, 0, 0).unwrap();
-    assert_eq!((state.place(0), state.pending(0)), (2, Some(Value::Known(5))));
-    assert_eq!(state.value(2), Value::X);
+    assert_eq!((state.place(0), state.pending(0)), (2, Some(Value::known(5))));
+    assert_eq!(state.value(2), Value::all_unknown(8));
     sheet.choose(&mut state, 0, 0).unwrap();
     sheet.choose(&mut state, 0, COMMIT).unwrap();
     assert_eq!((state.place(0), state.pending(0)), (0, None));
-    assert_eq!(state.value(2), Value::Known(5));
+    assert_eq!(state.value(2), Value::known(5));
     assert_eq!((state.time(), state.count(0)), (2, 3));
 }
 
@@ -50,13 +50,14 @@ fn runs_over_lists() {
     assert_eq!((plain.accepted, plain.verdict), (1, Verdict::Spent));
     let plain = sheet.run_plain(&mut state, 0, 5).unwrap();
     assert_eq!((plain.accepted, plain.verdict), (1, Verdict::Quiet));
-    assert_eq!(state.value(2), Value::Known(7));
+    assert_eq!(state.value(2), Value::known(7));
 }
 
 #[test]
 fn rows_agree_with_single_calls_and_expressions() {
     let sheet = flip_flop();
-    let values = [Value::Known(5), Value::X, Value::Known(255)];
+    let partly = Value { number: 0b1100_0001, unknown: 0b0010_1000 };
+    let values = [Value::known(5), Value::all_unknown(8), partly, Value::known(255)];
     let mut rows = Rows::new(&sheet);
     assert!(rows.is_empty());
     for value in values {
@@ -64,14 +65,14 @@ fn rows_agree_with_single_calls_and_expressions() {
     }
     let mut many = sheet.start(MOST);
     let run = sheet.run_cycles(&mut many, 0, &rows).unwrap();
-    assert_eq!((run.phases, run.stopped), (6, None));
+    assert_eq!((run.phases, run.stopped), (8, None));
 
     let tables = sheet.extract().unwrap();
     let mut single = sheet.start(MOST);
-    let mut registers = Registers::start();
+    let mut registers = Registers::start(&sheet);
     for value in values {
         for clock in [0, 1] {
-            let inputs = Inputs::new(&[Value::Known(clock), value]);
+            let inputs = Inputs::new(&[Value::known(clock), value]);
             sheet.instant(&mut single, &inputs).unwrap();
             sheet.run_plain(&mut single, 0, u16::MAX).unwrap();
         }
@@ -81,9 +82,9 @@ fn rows_agree_with_single_calls_and_expressions() {
     }
     assert_eq!(many, single);
 
-    let mut at_once = Registers::start();
+    let mut at_once = Registers::start(&sheet);
     let run = sheet.cycles(&tables, &mut at_once, &rows).unwrap();
-    assert_eq!((run.accepted, run.stopped), (3, None));
+    assert_eq!((run.accepted, run.stopped), (4, None));
     assert_eq!(at_once, registers);
 }
 

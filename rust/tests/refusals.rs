@@ -81,7 +81,7 @@ fn of_extraction() {
         let refusal = sheet.extract().unwrap_err();
         assert_eq!((refusal.number(), refusal.place()), (number, None));
         let (tables, inputs) = (flip_flop().extract().unwrap(), Inputs::from([5]));
-        assert_eq!(sheet.cycle(&tables, &mut Registers::start(), &inputs), Err(refusal));
+        assert_eq!(sheet.cycle(&tables, &mut Registers::start(&sheet), &inputs), Err(refusal));
     }
 }
 
@@ -99,14 +99,14 @@ fn risen() -> State {
 /// A state with all ones for its time.
 fn late(state: &State) -> State {
     let mut bytes = *state.save();
-    bytes[633..641].fill(0xFF);
+    bytes[969..977].fill(0xFF);
     State::load(&bytes).unwrap()
 }
 
 /// A state with another number for user 0's count, which has eight bytes.
 fn counted(state: &State, count: u64) -> State {
     let mut bytes = *state.save();
-    bytes[641..649].copy_from_slice(&count.to_le_bytes());
+    bytes[977..985].copy_from_slice(&count.to_le_bytes());
     State::load(&bytes).unwrap()
 }
 
@@ -132,11 +132,19 @@ fn entering(state: &State, inputs: impl Into<Inputs>) -> Reason {
     refusal.reason()
 }
 
+/// Values that don't fit 8 bits: a number or marks too wide, or a number under a mark.
+const UNFIT: [Value; 4] = [
+    Value::known(256),
+    Value { number: 0, unknown: 256 },
+    Value::all_unknown(32),
+    Value { number: 5, unknown: 4 },
+];
+
 #[test]
 fn of_the_simulation() {
     let quiet = flip_flop().start(MOST);
     let mut unfit = quiet.clone();
-    unfit.set_value(2, Value::Known(256));
+    unfit.set_value(2, Value::known(256));
     assert_eq!(choosing(&quiet, 1), Reason::NoItem);
     assert_eq!(choosing(&quiet, 0), Reason::NotEnabled);
     assert_eq!(choosing(&quiet, COMMIT), Reason::NothingPending);
@@ -144,6 +152,12 @@ fn of_the_simulation() {
     assert_eq!(choosing(&used_up(&risen()), 0), Reason::UsedUp);
     assert_eq!(choosing(&counted(&risen(), 1 << 32), 0), Reason::Unfit);
     assert_eq!(choosing(&unfit, 0), Reason::Unfit);
+    for value in UNFIT {
+        let mut state = quiet.clone();
+        state.set_value(2, value);
+        assert_eq!(choosing(&state, 0), Reason::Unfit, "{value:?}");
+        assert_eq!(entering(&quiet, [Value::known(0), value]), Reason::Inputs, "{value:?}");
+    }
     assert_eq!(entering(&quiet, [0]), Reason::Inputs);
     assert_eq!(entering(&quiet, [0; 300]), Reason::Inputs);
     assert_eq!(entering(&quiet, [0, 256]), Reason::Inputs);
@@ -158,7 +172,7 @@ fn of_plain_runs_and_rows() {
     let run = sheet.run_plain(&mut used_up(&risen()), 0, 9).unwrap();
     assert_eq!((run.accepted, run.verdict), (0, Verdict::Full));
     let mut unfit = sheet.start(MOST);
-    unfit.set_value(2, Value::Known(256));
+    unfit.set_value(2, Value::known(256));
     let reason = |refusal: Refusal| refusal.reason();
     let kept = unfit.clone();
     assert_eq!(sheet.run_plain(&mut unfit, 0, 9).map_err(reason), Err(Reason::Unfit));
@@ -196,15 +210,18 @@ fn of_cycles_by_expressions() {
         nodes[4 * 4095] = kind;
         Tables::of_words(nodes, tables.rows().to_vec())
     };
-    let mut wide = Registers::start();
-    wide.set_value(0, Value::Known(256));
-    let mut astray = Registers::start();
+    let mut wide = Registers::start(&sheet);
+    wide.set_value(0, Value::known(256));
+    let mut under = Registers::start(&sheet);
+    under.set_value(0, Value { number: 128, unknown: 255 });
+    let mut astray = Registers::start(&sheet);
     astray.set_place(0, 1);
-    let good = || Registers::start();
+    let good = || Registers::start(&sheet);
     let refused = [
         (Tables::of_words(vec![0; 5], vec![]), good(), 5, Reason::TableLength),
         (with_node(99), good(), 5, Reason::Table),
         (with_node(0), wide, 5, Reason::Unfit),
+        (with_node(0), under, 5, Reason::Unfit),
         (with_node(0), astray, 5, Reason::Unfit),
         (tables.clone(), good(), 256, Reason::Inputs),
     ];

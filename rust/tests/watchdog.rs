@@ -16,7 +16,7 @@ fn trips(sheet: &Sheet, cycles: &[Cycle]) -> Vec<Value> {
     let tables = sheet.extract().expect("extractable");
     let mut state = sheet.start(MOST);
     sheet.run_plain(&mut state, 0, u16::MAX).expect("the start state fits");
-    let mut registers = Registers::start();
+    let mut registers = Registers::start(sheet);
     cycles.iter().map(|&cycle| one(sheet, &tables, &mut state, &mut registers, cycle)).collect()
 }
 
@@ -45,7 +45,7 @@ fn readings(readings: &[u32]) -> Vec<Cycle> {
 }
 
 fn numbers(values: &[Value]) -> Vec<u32> {
-    values.iter().map(|value| value.known().expect("known after the reset")).collect()
+    values.iter().map(|value| value.as_known().expect("known after the reset")).collect()
 }
 
 #[test]

@@ -45,12 +45,12 @@ typedef struct {
     uint16_t nodes[WALBRYTS_NODE_WORDS + 1];
     uint16_t rows[WALBRYTS_ROW_WORDS + 1];
     uint32_t value[WALBRYTS_REGISTERS];
-    bool unknown[WALBRYTS_REGISTERS];
+    uint32_t unknown[WALBRYTS_REGISTERS];
     uint8_t places[WALBRYTS_THREADS];
     uint32_t wire[WALBRYTS_WIRES];
-    bool unsure[WALBRYTS_WIRES];
+    uint32_t unsure[WALBRYTS_WIRES];
     uint32_t inputs[ROWS];
-    bool inputs_unknown[ROWS];
+    uint32_t inputs_unknown[ROWS];
     uint8_t sheet[WALBRYTS_SHEET + 1];
     uint16_t names[WALBRYTS_VARIABLES];
     uint16_t lengths[WALBRYTS_VARIABLES];
@@ -84,9 +84,9 @@ static void lend(void) {
     memset(lent.lengths, 0xA5, sizeof lent.lengths);
     for (size_t i = 0; i < WALBRYTS_WIRES; i++) {
         lent.wire[i] = 0xA5A5A5A5u ^ (uint32_t)i;
-        lent.unsure[i] = i % 3 == 0;
+        lent.unsure[i] = 0x5A5A5A5Au ^ (uint32_t)i;
         lent.value[i] = (uint32_t)i;
-        lent.unknown[i] = i % 2 == 0;
+        lent.unknown[i] = 64 - (uint32_t)i;
     }
     if (walbryts_start(good.bytes, good.len, allowances, lent.state) != 0 ||
         walbryts_extract(good.bytes, good.len, lent.nodes, WALBRYTS_NODE_WORDS, lent.rows, WALBRYTS_ROW_WORDS) != 0) {
@@ -136,11 +136,11 @@ static void instant(Sheet s, uint8_t count, uint8_t expected) {
     hold("instant", number, expected, true);
 }
 
-static void run_cycles(Sheet s, size_t values, size_t flags, uint8_t expected) {
+static void run_cycles(Sheet s, size_t values, size_t marks, uint8_t expected) {
     size_t phases = 77;
     bool running = true;
     uint8_t number =
-        walbryts_run_cycles(s.bytes, s.len, lent.state, user, lent.inputs, values, lent.inputs_unknown, flags, &phases,
+        walbryts_run_cycles(s.bytes, s.len, lent.state, user, lent.inputs, values, lent.inputs_unknown, marks, &phases,
                             &running);
     hold("run_cycles", number, expected, phases == 0 && !running);
 }
@@ -155,12 +155,16 @@ static void cycle(Sheet s, size_t nodes, uint8_t count, uint8_t expected) {
     hold("cycle", number, expected, true);
 }
 
-static void cycles(Sheet s, size_t nodes, size_t values, size_t flags, uint8_t expected) {
+static void cycles(Sheet s, size_t nodes, size_t values, size_t marks, uint8_t expected) {
     size_t accepted = 77;
     uint8_t number = walbryts_cycles(s.bytes, s.len, lent.nodes, nodes, lent.rows, WALBRYTS_ROW_WORDS, lent.value, lent.unknown,
-                                     lent.places, lent.inputs, values, lent.inputs_unknown, flags, &accepted, lent.wire,
+                                     lent.places, lent.inputs, values, lent.inputs_unknown, marks, &accepted, lent.wire,
                                      lent.unsure);
     hold("cycles", number, expected, accepted == 0);
+}
+
+static void bring_over(Sheet s, const uint8_t *old, size_t old_len, uint8_t expected) {
+    hold("bring_over", walbryts_bring_over(s.bytes, s.len, old, old_len, allowances, lent.state), expected, true);
 }
 
 /* ---- sheets that aren't read: 1 to 11 before all else but 23 */
@@ -183,6 +187,8 @@ static void sheets(void) {
         extract(s, WALBRYTS_NODE_WORDS, WALBRYTS_ROW_WORDS, s.number);
         cycle(s, WALBRYTS_NODE_WORDS, 1, s.number);
         cycles(s, WALBRYTS_NODE_WORDS, 15, 1, s.number);
+        bring_over(s, lent.text, WALBRYTS_STATE_3, s.number);
+        bring_over(s, kept.state, WALBRYTS_STATE, s.number);
         lent.state[0] = 7; /* no saved state, which is judged after the sheet */
         keep();
         start(s, s.number);
@@ -191,10 +197,6 @@ static void sheets(void) {
 }
 
 /* ---- 31: bytes that are no saved state, and a state that doesn't fit */
-
-static void bring_over(const uint8_t *old, size_t old_len) {
-    hold("bring_over", walbryts_bring_over(old, old_len, allowances, lent.state), 31, true);
-}
 
 static void no_state(size_t at, uint8_t byte, bool saved) {
     lend();
@@ -207,8 +209,8 @@ static void no_state(size_t at, uint8_t byte, bool saved) {
     if (!saved) {
         uint8_t old[WALBRYTS_STATE];
         memcpy(old, lent.state, sizeof old);
-        bring_over(old, WALBRYTS_STATE);
-        bring_over(old, WALBRYTS_STATE - 1);
+        bring_over(good, old, WALBRYTS_STATE, 31);
+        bring_over(good, old, WALBRYTS_STATE - 1, 31);
     }
     choose(good, WALBRYTS_COMMIT, 31);
     choose(good, 200, 31);
@@ -222,11 +224,13 @@ static void no_state(size_t at, uint8_t byte, bool saved) {
 static void states(void) {
     no_state(0, 1, false);
     no_state(0, 2, false);
-    no_state(WALBRYTS_VALUE_AT(79), 2, false);
+    no_state(0, 3, false);
     no_state(WALBRYTS_PENDING_AT(0), 255, false);
     no_state(WALBRYTS_DUE_AT(31), 2, false);
     no_state(WALBRYTS_PLACE_AT(0), 3, true);
     no_state(WALBRYTS_DUE_AT(0), 1, true);
+    no_state(WALBRYTS_VALUE_AT(2), 1, true);     /* a number under a mark */
+    no_state(WALBRYTS_VALUE_AT(2) + 5, 1, true); /* a mark behind the width */
     for (size_t u = 0; u < WALBRYTS_USERS; u++) {
         no_state(WALBRYTS_COUNT_AT(u), 10, true); /* above its allowance */
         no_state(WALBRYTS_COUNT_AT(u) + 7, 1, true);
@@ -238,24 +242,58 @@ static void states(void) {
         failed++;
         printf("FAILED is_state on other bytes\n");
     }
-    bring_over(lent.text, 0);
-    bring_over(lent.text, WALBRYTS_STATE_1);
-    bring_over(lent.text, WALBRYTS_STATE_2);
-    bring_over(lent.text, WALBRYTS_STATE);
+    bring_over(good, lent.text, 0, 31);
+    bring_over(good, lent.text, WALBRYTS_STATE_1, 31);
+    bring_over(good, lent.text, WALBRYTS_STATE_2, 31);
+    bring_over(good, lent.text, WALBRYTS_STATE_3, 31);
+    bring_over(good, lent.text, WALBRYTS_STATE, 31);
+}
+
+/* What the older forms have in front of the counters: all is x but input 1, which is 200; the register waits to become x; both
+ * have a number under their x. */
+enum { BODY = 633, FLAG_1 = 6, FLAG_2 = 11, SLOT_0 = 401, WIDTH_2 = 0xFF };
+
+static void fill_old(uint8_t *old, uint8_t form) {
+    memset(old, 0, BODY);
+    old[0] = form;
+    for (size_t v = 0; v < WALBRYTS_VARIABLES; v++) {
+        old[1 + 5 * v] = 1;
+    }
+    old[FLAG_1] = 0;
+    old[FLAG_1 + 1] = 200;
+    old[FLAG_2 + 1] = 99;
+    old[SLOT_0] = old[SLOT_0 + 1] = 1;
+    old[SLOT_0 + 2] = 77;
+}
+
+/* The same as it is brought over: the start's values, whose marks are as wide as their variables, but for input 1. */
+static void fill_new(uint8_t *state) {
+    memcpy(state, lent.state, WALBRYTS_STATE);
+    memset(state + WALBRYTS_TIME_AT, 0, WALBRYTS_STATE - WALBRYTS_TIME_AT);
+    memset(state + WALBRYTS_VALUE_AT(1), 0, 8);
+    state[WALBRYTS_VALUE_AT(1)] = 200;
+    state[WALBRYTS_PENDING_AT(0)] = 1;
+    state[WALBRYTS_PENDING_AT(0) + 5] = WIDTH_2;
+}
+
+static void brought(const uint8_t *old, size_t old_len, const uint32_t *reach, const uint8_t *expected) {
+    if (walbryts_is_state(old, old_len) || walbryts_bring_over(good.bytes, good.len, old, old_len, reach, lent.state) != 0 ||
+        memcmp(lent.state, expected, WALBRYTS_STATE) != 0) {
+        failed++;
+        printf("FAILED bring_over of a state in form %u\n", old[0]);
+    }
 }
 
 /* A state with one count, in form 1 or 2, is brought over with these allowances, into lent bytes that were any; a count above
  * user 0's is refused. */
 static void brought_from(uint8_t form, size_t old_len) {
     static const uint32_t reach[WALBRYTS_USERS] = {7, 8, 0, 0xFFFFFFFFu}, less[WALBRYTS_USERS] = {6, 8, 0, 0xFFFFFFFFu};
-    size_t width = form == 1 ? 4 : 8;
-    uint8_t old[WALBRYTS_STATE_2] = {0}, expected[WALBRYTS_STATE] = {0};
+    uint8_t old[WALBRYTS_STATE_2] = {0}, expected[WALBRYTS_STATE];
     lend();
-    memcpy(expected, lent.state, WALBRYTS_TIME_AT);
-    memcpy(old, lent.state, WALBRYTS_TIME_AT);
-    old[0] = form;
-    memset(old + WALBRYTS_TIME_AT, 0xFF, 4);
-    old[WALBRYTS_TIME_AT + width] = 7;
+    fill_old(old, form);
+    fill_new(expected);
+    memset(old + BODY, 0xFF, 4);
+    old[BODY + (form == 1 ? 4 : 8)] = 7;
     memset(expected + WALBRYTS_TIME_AT, 0xFF, 4);
     expected[WALBRYTS_COUNT_AT(0)] = 7;
     expected[WALBRYTS_ALLOWANCE_AT(0)] = 7;
@@ -263,24 +301,35 @@ static void brought_from(uint8_t form, size_t old_len) {
     memset(expected + WALBRYTS_ALLOWANCE_AT(3), 0xFF, 4);
     memset(lent.state, 0xA5, sizeof lent.state);
     keep();
-    hold("bring_over", walbryts_bring_over(old, old_len, less, lent.state), 31, true);
-    if (walbryts_is_state(old, old_len) || walbryts_bring_over(old, old_len, reach, lent.state) != 0 ||
-        memcmp(lent.state, expected, sizeof expected) != 0) {
-        failed++;
-        printf("FAILED bring_over of a state in form %u\n", form);
+    hold("bring_over", walbryts_bring_over(good.bytes, good.len, old, old_len, less, lent.state), 31, true);
+    brought(old, old_len, reach, expected);
+}
+
+/* One in form 3 keeps its counters, whatever they are. */
+static void brought_whole(void) {
+    static const uint32_t none[WALBRYTS_USERS] = {0};
+    uint8_t old[WALBRYTS_STATE_3], expected[WALBRYTS_STATE];
+    lend();
+    fill_old(old, 3);
+    fill_new(expected);
+    for (size_t i = 0; i < WALBRYTS_STATE - WALBRYTS_TIME_AT; i++) {
+        old[BODY + i] = expected[WALBRYTS_TIME_AT + i] = (uint8_t)(3 * i + 1);
     }
+    memset(lent.state, 0xA5, sizeof lent.state);
+    brought(old, sizeof old, none, expected);
 }
 
 static void brought_over(void) {
     brought_from(1, WALBRYTS_STATE_1);
     brought_from(2, WALBRYTS_STATE_2);
+    brought_whole();
 }
 
 /* ---- choices and instants */
 
 static void drive(uint32_t clock) {
     uint32_t value[WALBRYTS_INPUTS] = {clock, 5};
-    bool unknown[WALBRYTS_INPUTS] = {false};
+    uint32_t unknown[WALBRYTS_INPUTS] = {0};
     if (walbryts_instant(good.bytes, good.len, lent.state, 2, value, unknown) != 0) {
         failed++;
         printf("FAILED an instant that is in order\n");
@@ -306,6 +355,23 @@ static void users(void) {
     }
 }
 
+/* An input with a mark behind its width, and one with a number under a mark. */
+static void marks_of(size_t input) {
+    for (uint32_t mark = 256; mark != 0; mark = mark == 256 ? 4 : 0) {
+        lent.inputs[input] = 5;
+        lent.inputs_unknown[input] = mark;
+        keep();
+        if (input == 1) {
+            instant(good, 2, 25);
+            run_cycles(good, 32, 32, 25);
+        } else {
+            cycle(good, WALBRYTS_NODE_WORDS, 1, 25);
+        }
+    }
+    lent.inputs_unknown[input] = 0;
+    keep();
+}
+
 static void choices(void) {
     lend();
     choose(good, 1, 22);
@@ -324,6 +390,7 @@ static void choices(void) {
     keep();
     instant(good, 2, 25);
     run_cycles(good, 32, 32, 25);
+    marks_of(1);
     full_time();
     lent.inputs[1] = 5;
     keep();
@@ -370,8 +437,14 @@ static void tables(void) {
     keep();
     cycle(good, WALBRYTS_NODE_WORDS, 1, 25);
     cycles(good, WALBRYTS_NODE_WORDS, 32, 32, 25);
+    marks_of(0);
     lent.value[0] = 256;
-    lent.unknown[0] = false;
+    lent.unknown[0] = 0;
+    keep();
+    cycle(good, WALBRYTS_NODE_WORDS, 1, 31);
+    cycles(good, WALBRYTS_NODE_WORDS, 31, 1, 31);
+    lent.value[0] = 1;
+    lent.unknown[0] = 255;
     keep();
     cycle(good, WALBRYTS_NODE_WORDS, 1, 31);
     cycles(good, WALBRYTS_NODE_WORDS, 31, 1, 31);

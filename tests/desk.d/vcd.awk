@@ -1,7 +1,8 @@
 # Reads a value change dump and prints a line for each cycle: its number, and the values of registers and wires after the clock's rise,
-# in decimal, x for unknown. Registers are the variables of kind `reg`, wires those after the last of them.
+# in decimal, x where no bit is known, else b and the bits. Registers are the variables of kind `reg`, wires those after the last of them.
 function decimal(bits,    n, i) {
-    if (bits ~ /[xX]/) return "x"
+    if (bits ~ /^[xX]+$/) return "x"
+    if (bits ~ /[xX]/) return "b" tolower(bits)
     n = 0
     for (i = 1; i <= length(bits); i++) n = 2 * n + substr(bits, i, 1)
     return sprintf("%.0f", n)

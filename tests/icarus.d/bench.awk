@@ -1,6 +1,7 @@
 # Writes a test bench that runs a module as the command does: row k of the inputs with the clock low at time 10 k + 10, the clock's rise at
 # 10 k + 15, and at 10 k + 19 a row of the table.
-#   awk -v rows=INPUTS [-v wave=WAVE] [-v heading=TITLES] -f bench.awk MODULE.v
+#   awk -v rows=INPUTS [-v digits=1] [-v wave=WAVE] [-v heading=TITLES] -f bench.awk MODULE.v
+# With `digits` the inputs are binary digits, x among them, else decimal numbers.
 # `heading` is the first line of the command's table; without it no table is printed, without `wave` no waveform is written.
 { sub(/\/\/.*/, "") }
 $1 == "module" { module = $2; sub(/\(.*/, "", module) }
@@ -37,7 +38,7 @@ END {
     for (i = 1; i <= inputs; i++) print "  reg " shape[i] name[i] ";"
     for (i = 2; i <= inputs; i++) print "  reg " shape[i] "next_" name[i] ";"
     for (i = 2; i <= inputs; i++) {
-        format = format (i == 2 ? "" : " ") "%d"
+        format = format (i == 2 ? "" : " ") (digits ? "%b" : "%d")
         targets = targets ", next_" name[i]
         taken = taken " " name[i] " = next_" name[i] ";"
     }

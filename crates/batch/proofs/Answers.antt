@@ -54,7 +54,7 @@ module _ (s : List ℕ) (u : ℕ) (inputs : ℕ → Inputs) where
       by true false h = refl
       by false b h = refl
 
-module _ (s : List ℕ) (st : State) (u : ℕ) (ns : List ℕ) (xs : List Bool) where
+module _ (s : List ℕ) (st : State) (u : ℕ) (ns xs : List ℕ) where
   same-cycles : told (prepared.runCycles s st u ns xs) ≡ runCycles s st u ns xs
   unfolding prepared.runCycles runCycles judged
   same-cycles = by (read s)

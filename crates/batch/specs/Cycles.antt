@@ -37,7 +37,7 @@ module _ (s : List ℕ) (u : ℕ) (inputs : ℕ → Inputs) where
 -- ---- run_cycles: the rows, one after the other
 
 -- "1 to 11, 31", 46, "25": a sheet, a state, a user above 3 or rows that aren't whole are refused at once.
-unfoldable pub runCycles : List ℕ → State → ℕ → List ℕ → List Bool → Cycled
+unfoldable pub runCycles : List ℕ → State → ℕ → List ℕ → List ℕ → Cycled
 runCycles s st u ns xs =
     judged (read s) st
     (λ n. cycled 0 n false st)

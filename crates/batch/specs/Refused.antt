@@ -10,5 +10,5 @@ use Rattle.batch.specs.Cycles.{runCycles}
 -- the call got. A run that is stopped comes after an accepted instant: `running` tells it.
 abbrev pub Unaltered : Type 0
 Unaltered =
-    (s : List ℕ) (st : State) (u : ℕ) (ns : List ℕ) (xs : List Bool) → runCycles s st u ns xs .phases ≡ 0 →
+    (s : List ℕ) (st : State) (u : ℕ) (ns xs : List ℕ) → runCycles s st u ns xs .phases ≡ 0 →
     runCycles s st u ns xs .running ≡ false → runCycles s st u ns xs .state ≡ st

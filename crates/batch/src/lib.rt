@@ -40,7 +40,7 @@ fn told(c: prepared_cycles::Cycled) -> Cycled
 }
 
 // Rows of 16 inputs, for each an instant with the clock low and one with the clock high, a user's plain run after each.
-pub fn run_cycles(sheet: &[u8], st: State, user: u8, value: &[u32], unknown: &[bool]) -> Cycled
+pub fn run_cycles(sheet: &[u8], st: State, user: u8, value: &[u32], unknown: &[u32]) -> Cycled
     ensures { λ r. ⌜ r ≡ runCycles (now (sheet .entry)) st user (now (value .entry)) (now (unknown .entry)) ⌝ }
 {
     let mut plan = [0u32; 25212];

@@ -2,7 +2,7 @@
 use mathlib.Core.Path.{_≡_, refl, _∙_}
 use mathlib.Core.Bool.{Bool, true, false, _&&_}
 use mathlib.Core.List.{[]}
-use Rattle.state.specs.Saved.{listOf}
+use Rattle.state.specs.Rows.{listOf}
 use Rattle.events.proofs.Cycle.{and-left}
 use Rattle.nextstate.specs.Nodes.{nodeAt}
 use Rattle.nextstate.specs.CycleRun.{nodesFit, rowsFit, tablesFit, tablesIn}

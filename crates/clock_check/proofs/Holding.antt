@@ -11,7 +11,7 @@ use lib.ListN.{length, getD, List·getD-eq-default}
 use Rattle.sheet.specs.Expression.{Expr}
 use Rattle.sheet.specs.Module.{Module}
 use Rattle.pseudocode.specs.Translation.{Instr, go}
-use Rattle.state.specs.Saved.{listOf, allBelow}
+use Rattle.state.specs.Rows.{listOf, allBelow}
 use Rattle.state.proofs.Rows.{length-listOf}
 use Rattle.soundness.specs.Soundness.{Sound}
 use Rattle.events.specs.Cycle.{variables, codeOf, instrAt, isWait}

@@ -8,7 +8,7 @@ use native.Mathlib.Omega.{arith}
 use borrow.Author.Tests.{lt-ltb, le-ltb, eqb-true}
 use lib.Dec.{eqb}
 use lib.ListN.{getD}
-use Rattle.state.specs.Saved.{allBelow}
+use Rattle.state.specs.Rows.{allBelow}
 use Rattle.events.proofs.Cycle.{and-left, and-right}
 use Rattle.plan.specs.Plan.{Plan}
 use Rattle.nextstate.specs.Nodes.{nodeFrom, nodeAt, aVariable}

@@ -8,7 +8,7 @@ use lib.ListN.{length, getD}
 use Rattle.sheet.specs.Expression.{Expr}
 use Rattle.sheet.specs.Module.{Module}
 use Rattle.masks.specs.Masks.{bits}
-use Rattle.state.specs.Saved.{listOf}
+use Rattle.state.specs.Rows.{listOf}
 use Rattle.soundness.specs.Soundness.{Sound}
 use Rattle.plan.specs.Plan.{Plan}
 use Rattle.plan_fill.specs.Holding.{Holds}

@@ -9,7 +9,7 @@ use lib.ListN.{getD, drop, replicate}
 use Rattle.values.specs.Values.{pick}
 use Rattle.values.specs.Operators.{unaryWidth, binaryWidth}
 use Rattle.masks.specs.Masks.{bits}
-use Rattle.state.specs.Saved.{allBelow}
+use Rattle.state.specs.Rows.{allBelow}
 use Rattle.plan.specs.Plan.{Plan}
 use Rattle.nextstate.specs.Nodes.{Node, aVariable, aConstant, anUnknown, aUnary, aBinary, aConditional, aBranch, nodeAt}
 use Rattle.clock_nodes.specs.Rows.{entryAt}

@@ -5,7 +5,6 @@ use nodes::size_at;
 use nodes::wide;
 use nodes::word_at;
 use plan::PlanTable;
-use values::Value;
 ghost use mathlib.Core.Path.{_≡_};
 ghost use mathlib.Core.Bool.{_&&_};
 ghost use Prim.Native.Nat.{_+_, _-_, _*_, _^_, _%_, _≤_};
@@ -33,7 +32,7 @@ fn constant_fits(w: u16, n: u32) -> bool
     if 32 < w {
         return false;
     }
-    values::fits(w as u8, Value::Known(n))
+    values::below(w as u8, n)
 }
 
 // Are two nodes before node `n`, and of one width?

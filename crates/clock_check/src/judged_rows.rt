@@ -11,7 +11,7 @@ ghost use mathlib.Core.Bool.{false, not, _&&_, _||_};
 ghost use Prim.Native.Nat.{_≤_, _<_};
 ghost use lib.Dec.{ltb};
 ghost use lib.ListN.{replicate};
-ghost use Rattle.state.specs.Saved.{allBelow};
+ghost use Rattle.state.specs.Rows.{allBelow};
 ghost use Rattle.plan.specs.Plan.{planOf};
 ghost use Rattle.nextstate.specs.Rules.{one};
 ghost use Rattle.clock_nodes.specs.Rows.{entryAt};

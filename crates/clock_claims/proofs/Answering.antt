@@ -10,45 +10,33 @@ use lib.Dec.{ltb}
 use lib.ListN.{length, getD, set, replicate, length-replicate}
 use lib.Seq.{ext-getD}
 use Rattle.values.specs.declared.Value.{Value}
-use Rattle.values.specs.declared.Value.the-variants.{Unknown}
-use Rattle.values.specs.Values.{pick}
-use Rattle.values.specs.Planes.{numberOf, isUnknown}
+use Rattle.values.specs.Values.{pick, ones, allUnknown, nowhere}
+use Rattle.values.specs.Planes.{numberOf, marksOf}
 use Rattle.sheet.specs.Expression.{Expr}
 use Rattle.sheet.specs.Module.{Module}
-use Rattle.state.specs.Saved.{listOf}
+use Rattle.state.specs.Rows.{listOf}
 use Rattle.state.proofs.Rows.{length-listOf, getD-listOf}
 use Rattle.events.specs.Cycle.{wireVariable}
-use Rattle.cells.specs.Cells.{cellAt}
-use Rattle.plan_state.specs.Planes.{numberIn, unknownIn}
+use Rattle.values.specs.Cells.{cellAt}
 use Rattle.nextstate.specs.declared.Registers.{Registers}
 use Rattle.nextstate.specs.Rules.{writes, someThread}
 use Rattle.nextstate.specs.Book.{Book}
 use Rattle.nextstate.specs.CycleRun.{withRegister, storeRegisters, withWait, storePlaces, stored, wireValue}
-use Rattle.clock_run.specs.Running.{numbersTo, flagsTo, wireNumbersTo, wireFlagsTo}
+use Rattle.clock_run.specs.Running.{numbersTo, marksTo}
 use Rattle.clock_claims.proofs.Lists.{setTo, pickTo, to-length, to-at, to-above, to-picked}
 
 -- ---- the lists that the loops leave
 
 module _ (cs : List ℕ) (first : ℕ) where
-  pub numbers-are : (n : ℕ) (ns : List ℕ) → numbersTo cs first n ns ≡ setTo (λ r. numberIn (getD cs (first + r) 0)) n ns
+  pub numbers-are : (n : ℕ) (ns : List ℕ) → numbersTo cs first n ns ≡ setTo (λ r. numberOf (cellAt cs (first + r))) n ns
   unfolding numbersTo setTo
   numbers-are zero ns = refl
   numbers-are (suc n) ns = rw (numbers-are n ns)
 
-  pub flags-are : (n : ℕ) (xs : List Bool) → flagsTo cs first n xs ≡ setTo (λ r. unknownIn (getD cs (first + r) 0)) n xs
-  unfolding flagsTo setTo
-  flags-are zero xs = refl
-  flags-are (suc n) xs = rw (flags-are n xs)
-
-  pub wires-are : (n : ℕ) (ns : List ℕ) → wireNumbersTo cs first n ns ≡ setTo (λ k. numberOf (cellAt cs (first + k))) n ns
-  unfolding wireNumbersTo setTo
-  wires-are zero ns = refl
-  wires-are (suc n) ns = rw (wires-are n ns)
-
-  pub unsure-are : (n : ℕ) (xs : List Bool) → wireFlagsTo cs first n xs ≡ setTo (λ k. isUnknown (cellAt cs (first + k))) n xs
-  unfolding wireFlagsTo setTo
-  unsure-are zero xs = refl
-  unsure-are (suc n) xs = rw (unsure-are n xs)
+  pub marks-are : (n : ℕ) (us : List ℕ) → marksTo cs first n us ≡ setTo (λ r. marksOf (cellAt cs (first + r))) n us
+  unfolding marksTo setTo
+  marks-are zero us = refl
+  marks-are (suc n) us = rw (marks-are n us)
 
 -- ---- registers
 
@@ -75,7 +63,7 @@ module _ (m : Module Expr) (b : Book) (g : Registers) where
       by true e = rw e
       by false e = e
 
-  stored-unknown : (n : ℕ) → storeRegisters m b n g .unknown ≡ pickTo some (λ r. isUnknown (b .values (I + r))) n (g .unknown)
+  stored-unknown : (n : ℕ) → storeRegisters m b n g .unknown ≡ pickTo some (λ r. marksOf (b .values (I + r))) n (g .unknown)
   unfolding storeRegisters withRegister pickTo
   stored-unknown zero = refl
   stored-unknown (suc n) = by (some n) (stored-unknown n)
@@ -83,11 +71,11 @@ module _ (m : Module Expr) (b : Book) (g : Registers) where
       h : Registers
       h = storeRegisters m b n g
 
-      ys : List Bool
-      ys = pickTo some (λ r. isUnknown (b .values (I + r))) n (g .unknown)
+      ys : List ℕ
+      ys = pickTo some (λ r. marksOf (b .values (I + r))) n (g .unknown)
 
       by : (t : Bool) → h .unknown ≡ ys →
-          pick t (withRegister m h n (b .values (I + n))) h .unknown ≡ pick t (set ys n (isUnknown (b .values (I + n)))) ys
+          pick t (withRegister m h n (b .values (I + n))) h .unknown ≡ pick t (set ys n (marksOf (b .values (I + n)))) ys
       by true e = rw e
       by false e = e
 
@@ -135,21 +123,21 @@ module _ (m : Module Expr) (b : Book) (g : Registers) (cs : List ℕ) where
   written r = someThread m (λ i. writes m i (J + r))
 
   pub value-stored :
-      ((r : ℕ) → r < R → numberIn (getD cs (J + r) 0) ≡ pick (written r) (numberOf (b .values (J + r))) (getD (g .value) r 0)) →
+      ((r : ℕ) → r < R → numberOf (cellAt cs (J + r)) ≡ pick (written r) (numberOf (b .values (J + r))) (getD (g .value) r 0)) →
       numbersTo cs J R (g .value) ≡ stored m b g .value
   unfolding stored
   value-stored h =
       numbers-are cs J R (g .value)
-      ∙ to-picked (λ r. numberIn (getD cs (J + r) 0)) 0 (g .value) written (λ r. numberOf (b .values (J + r))) R h
+      ∙ to-picked (λ r. numberOf (cellAt cs (J + r))) 0 (g .value) written (λ r. numberOf (b .values (J + r))) R h
       ∙ sym (places-value m b (storeRegisters m b R g) N ∙ stored-value m b g R)
 
   pub unknown-stored :
-      ((r : ℕ) → r < R → unknownIn (getD cs (J + r) 0) ≡ pick (written r) (isUnknown (b .values (J + r))) (getD (g .unknown) r false)) →
-      flagsTo cs J R (g .unknown) ≡ stored m b g .unknown
+      ((r : ℕ) → r < R → marksOf (cellAt cs (J + r)) ≡ pick (written r) (marksOf (b .values (J + r))) (getD (g .unknown) r 0)) →
+      marksTo cs J R (g .unknown) ≡ stored m b g .unknown
   unfolding stored
   unknown-stored h =
-      flags-are cs J R (g .unknown)
-      ∙ to-picked (λ r. unknownIn (getD cs (J + r) 0)) false (g .unknown) written (λ r. isUnknown (b .values (J + r))) R h
+      marks-are cs J R (g .unknown)
+      ∙ to-picked (λ r. marksOf (cellAt cs (J + r))) 0 (g .unknown) written (λ r. marksOf (b .values (J + r))) R h
       ∙ sym (places-unknown m b (storeRegisters m b R g) N ∙ stored-unknown m b g R)
 
   pub places-stored :
@@ -166,15 +154,10 @@ module _ (m : Module Expr) (b : Book) (g : Registers) (cs : List ℕ) where
 
   -- ---- wires
 
-  none-at : (n k : ℕ) → _≡_ {A = ℕ} (getD (replicate n 0) k 0) 0
-  none-at zero k = refl
-  none-at (suc n) zero = refl
-  none-at (suc n) (suc k) = none-at n k
-
-  up-at : (n k : ℕ) → k < n → getD (replicate n true) k false ≡ true
-  up-at zero k h = absurd (omega arith)
-  up-at (suc n) zero h = refl
-  up-at (suc n) (suc k) h = up-at n k (omega arith)
+  filled-at : (n k x : ℕ) → k < n → getD (replicate n x) k 0 ≡ x
+  filled-at zero k x h = absurd (omega arith)
+  filled-at (suc n) zero x h = refl
+  filled-at (suc n) (suc k) x h = filled-at n k x (omega arith)
 
   abbrev W : ℕ
   W = length (m .wires)
@@ -184,51 +167,36 @@ module _ (m : Module Expr) (b : Book) (g : Registers) (cs : List ℕ) where
     unfolding wireValue
     value-in k h = rw (lt-ltb k W h)
 
-    value-past : (k : ℕ) → W ≤ k → wireValue m b k ≡ Unknown
+    value-past : (k : ℕ) → W ≤ k → wireValue m b k ≡ nowhere
     unfolding wireValue
     value-past k h = rw (le-ltb k W h)
 
-    pub wires-given : wireNumbersTo cs (J + R) W (replicate 32 0) ≡ listOf 32 (λ k. numberOf (wireValue m b k))
-    unfolding numberOf
-    wires-given =
-        let c : ℕ → ℕ = λ k. numberOf (cellAt cs (J + R + k)) in
-        let e = length-replicate {A = ℕ} 32 0 in
-        wires-are cs (J + R) W (replicate 32 0)
-        ∙ ext-getD 0 (setTo c W (replicate 32 0)) (listOf 32 (λ k. numberOf (wireValue m b k)))
-        (to-length c 0 (replicate 32 0) W ∙ e ∙ sym (length-listOf (λ k. numberOf (wireValue m b k)) 32))
+    -- A plane of what f takes from the wires' values, filled with what it takes from nowhere.
+    plane-given : (f : Value → ℕ) (x : ℕ) → x ≡ f nowhere →
+        setTo (λ k. f (cellAt cs (J + R + k))) W (replicate 32 x) ≡ listOf 32 (λ k. f (wireValue m b k))
+    plane-given f x e =
+        let c : ℕ → ℕ = λ k. f (cellAt cs (J + R + k)) in
+        let l = length-replicate {A = ℕ} 32 x in
+        ext-getD 0 (setTo c W (replicate 32 x)) (listOf 32 (λ k. f (wireValue m b k)))
+        (to-length c 0 (replicate 32 x) W ∙ l ∙ sym (length-listOf (λ k. f (wireValue m b k)) 32))
         (λ k o.
-        let u : k < 32 = omega (arith, to-length c 0 (replicate 32 0) W) in
-        by k (decLt k W) ∙ sym (getD-listOf (λ k. numberOf (wireValue m b k)) 32 k 0 u))
+        let u : k < 32 = omega (arith, to-length c 0 (replicate 32 x) W) in
+        by k u (decLt k W) ∙ sym (getD-listOf (λ k. f (wireValue m b k)) 32 k 0 u))
       where
-        by : (k : ℕ) → Dec (k < W) → getD (setTo (λ k. numberOf (cellAt cs (J + R + k))) W (replicate 32 0)) k 0
-            ≡ numberOf (wireValue m b k)
-        by k (yes o) =
-            to-at (λ k. numberOf (cellAt cs (J + R + k))) 0 (replicate 32 0) W k o (omega (arith, length-replicate {A = ℕ} 32 0))
-            ∙ ap numberOf (same k o ∙ sym (value-in k o))
-        by k (no d) =
-            to-above (λ k. numberOf (cellAt cs (J + R + k))) 0 (replicate 32 0) W k (omega arith)
-            ∙ none-at 32 k
-            ∙ sym (ap numberOf (value-past k (omega arith)))
-
-    pub unsure-given : wireFlagsTo cs (J + R) W (replicate 32 true) ≡ listOf 32 (λ k. isUnknown (wireValue m b k))
-    unfolding isUnknown
-    unsure-given =
-        let c : ℕ → Bool = λ k. isUnknown (cellAt cs (J + R + k)) in
-        let e = length-replicate {A = Bool} 32 true in
-        unsure-are cs (J + R) W (replicate 32 true)
-        ∙ ext-getD false (setTo c W (replicate 32 true)) (listOf 32 (λ k. isUnknown (wireValue m b k)))
-        (to-length c false (replicate 32 true) W ∙ e ∙ sym (length-listOf (λ k. isUnknown (wireValue m b k)) 32))
-        (λ k o.
-        let u : k < 32 = omega (arith, to-length c false (replicate 32 true) W) in
-        by k u (decLt k W) ∙ sym (getD-listOf (λ k. isUnknown (wireValue m b k)) 32 k false u))
-      where
-        by : (k : ℕ) → k < 32 → Dec (k < W) →
-            getD (setTo (λ k. isUnknown (cellAt cs (J + R + k))) W (replicate 32 true)) k false ≡ isUnknown (wireValue m b k)
+        by : (k : ℕ) → k < 32 → Dec (k < W) → getD (setTo (λ k. f (cellAt cs (J + R + k))) W (replicate 32 x)) k 0 ≡ f (wireValue m b k)
         by k u (yes o) =
-            to-at (λ k. isUnknown (cellAt cs (J + R + k))) false (replicate 32 true) W k o
-            (omega (arith, length-replicate {A = Bool} 32 true))
-            ∙ ap isUnknown (same k o ∙ sym (value-in k o))
+            to-at (λ k. f (cellAt cs (J + R + k))) 0 (replicate 32 x) W k o (omega (arith, length-replicate {A = ℕ} 32 x))
+            ∙ ap f (same k o ∙ sym (value-in k o))
         by k u (no d) =
-            to-above (λ k. isUnknown (cellAt cs (J + R + k))) false (replicate 32 true) W k (omega arith)
-            ∙ up-at 32 k u
-            ∙ sym (ap isUnknown (value-past k (omega arith)))
+            to-above (λ k. f (cellAt cs (J + R + k))) 0 (replicate 32 x) W k (omega arith)
+            ∙ filled-at 32 k x u
+            ∙ e
+            ∙ sym (ap f (value-past k (omega arith)))
+
+    pub wires-given : numbersTo cs (J + R) W (replicate 32 0) ≡ listOf 32 (λ k. numberOf (wireValue m b k))
+    unfolding numberOf nowhere allUnknown
+    wires-given = numbers-are cs (J + R) W (replicate 32 0) ∙ plane-given numberOf 0 refl
+
+    pub unsure-given : marksTo cs (J + R) W (replicate 32 (ones 32)) ≡ listOf 32 (λ k. marksOf (wireValue m b k))
+    unfolding marksOf nowhere allUnknown
+    unsure-given = marks-are cs (J + R) W (replicate 32 (ones 32)) ∙ plane-given marksOf (ones 32) refl

@@ -7,9 +7,8 @@ use native.Mathlib.Omega.{arith}
 use borrow.Author.Tests.{lt-ltb}
 use lib.ListN.{length, getD, replicate}
 use Rattle.values.specs.declared.Value.{Value}
-use Rattle.values.specs.declared.Value.the-variants.{Known}
-use Rattle.values.specs.Values.{pick, fits}
-use Rattle.values.specs.Planes.{valueAt, numberOf, isUnknown}
+use Rattle.values.specs.Values.{pick, known, ones, fits}
+use Rattle.values.specs.Planes.{valueAt, numberOf, marksOf}
 use Rattle.sheet.specs.Expression.{Expr}
 use Rattle.sheet.specs.Module.{Module}
 use Rattle.soundness.specs.Soundness.{Sound}
@@ -17,11 +16,9 @@ use Rattle.events.specs.declared.Inputs.{Inputs}
 use Rattle.events.specs.Cycle.{variables, codeOf, instrAt, isWait, wireVariable, allBelow}
 use Rattle.events.specs.Calls.{widthOf}
 use Rattle.events.proofs.Cycle.{and-right, all-below}
-use Rattle.cells.specs.Cells.{cellOf, valueOf, cellAt}
-use Rattle.cells.proofs.Cells.{at-fits}
+use Rattle.values.specs.Cells.{small, cellOf, cellAt}
+use Rattle.values.proofs.Cells.{at-small}
 use Rattle.plan.specs.Plan as plan
-use Rattle.plan_state.specs.Planes.{marked, numberIn, unknownIn}
-use Rattle.plan_state.proofs.Planes.{number-cell, flag-cell, number-marked, flag-marked}
 use Rattle.plan_fill.specs.Holding.{Holds}
 use Rattle.nextstate.specs.declared.Registers.{Registers}
 use Rattle.nextstate.specs.declared.Clocked.{Clocked}
@@ -41,11 +38,11 @@ use Rattle.clock_steps.proofs.Settling.{Settled, settled, settled-kept}
 use Rattle.clock_steps.proofs.RowNumbers.{most-same, wait-inside}
 use Rattle.clock_steps.proofs.Entries.{place-lands}
 use Rattle.clock_steps.proofs.Claims.{rise-is-the-books}
-use Rattle.clock_run.specs.Running.{upperOf, putItems, handOn, numbersTo, flagsTo, wireNumbersTo, wireFlagsTo, answerOn, turnOn}
+use Rattle.clock_run.specs.Running.{upperOf, blank, putValues, handOn, numbersTo, marksTo, answerOn, turnOn}
 use Rattle.clock_run.specs.Running.{settledOn, clockedOn}
 use Rattle.clock_claims.specs.Claims.{Whole, Ready}
 use Rattle.clock_claims.proofs.Holding.{wired, coded, lent}
-use Rattle.clock_claims.proofs.Handing.{cells-are, cells-long, register-cell, cells-value}
+use Rattle.clock_claims.proofs.Handing.{cell-value, cells-are, cells-long, register-cell, cells-value}
 use Rattle.clock_claims.proofs.Answering.{value-stored, unknown-stored, places-stored, wires-given, unsure-given}
 
 module _ (m : Module Expr) (z : Sound m) (q : plan.Plan) (h : Holds m q) (ns us rs written : List ℕ) (y : Ready m ns us rs written)
@@ -76,12 +73,12 @@ module _ (m : Module Expr) (z : Sound m) (q : plan.Plan) (h : Holds m q) (ns us 
 
     module _ (b : book.Book) (waits : (i : ℕ) → i < N → isWait (instrAt (codeOf m i) (b .places i)) ≡ true) where
       lands : (i : ℕ) → i < N →
-          (p : ℕ) × (book.worth m T (b .values) (book.entry m T i (b .places i) 32) ≡ Known p) × (isWait (instrAt (codeOf m i) p) ≡ true)
+          (p : ℕ) × (book.worth m T (b .values) (book.entry m T i (b .places i) 32) ≡ known p) × (isWait (instrAt (codeOf m i) p) ≡ true)
       lands i o =
           place-worth m ns (b .values) i rs (book.entry m T i (b .places i) 32) (place-lands m ns us rs written (lent m z q h y) i (b .places i) o (waits i o))
 
       next-is : (i : ℕ) (o : i < N) → book.nextPlace m T b i ≡ lands i o .0
-      unfolding book.nextPlace numberOf
+      unfolding book.nextPlace numberOf known
       next-is i o = rw (lt-ltb i N o, lands i o .1)
 
       pub waiting : Waiting m T b
@@ -150,7 +147,7 @@ module _ (m : Module Expr) (z : Sound m) (q : plan.Plan) (h : Holds m q) (ns us 
     -- ---- what a turn gives, where the registers' cells were those of g
 
     module _ (g : Registers) (w : Whole g) (b : book.Book) (s t : Stand) (x : Turned b s t)
-        (mine : (r : ℕ) → r < R → getD (s .cells) (I + r) 0 ≡ marked (getD (g .value) r 0) (getD (g .unknown) r false))
+        (mine : (r : ℕ) → r < R → getD (s .cells) (I + r) 0 ≡ cellOf (valueAt (g .value) (g .unknown) r))
         (here : s .places ≡ g .places) where
       abbrev c : book.Book
       c = book.rise m T (book.settled m b)
@@ -172,7 +169,7 @@ module _ (m : Module Expr) (z : Sound m) (q : plan.Plan) (h : Holds m q) (ns us 
       inside r o = omega (arith, z .variables)
 
       pub cell-is : (r : ℕ) → r < R →
-          getD ds (I + r) 0 ≡ pick (written? r) (cellOf (c .values (I + r))) (marked (getD (g .value) r 0) (getD (g .unknown) r false))
+          getD ds (I + r) 0 ≡ pick (written? r) (cellOf (c .values (I + r))) (cellOf (valueAt (g .value) (g .unknown) r))
       cell-is r o =
           x .high (I + r) (omega arith)
           ∙ x .risen .cell (I + r) (omega (arith, few))
@@ -182,27 +179,36 @@ module _ (m : Module Expr) (z : Sound m) (q : plan.Plan) (h : Holds m q) (ns us 
       unfolding book.settled
       value-is r o = settle-below m (c .values) (I + r) (omega arith)
 
-      pub value-small : (r : ℕ) → r < R → fits 32 (c .values (I + r)) ≡ true
-      value-small r o = rw (x .risen .stands .value (I + r) (inside r o)) at (at-fits (t .cells) (I + r))
+      pub value-small : (r : ℕ) → r < R → small (c .values (I + r)) ≡ true
+      value-small r o = rw (x .risen .stands .value (I + r) (inside r o)) at (at-small (t .cells) (I + r))
 
-      number-is : (r : ℕ) → r < R → numberIn (getD ds (I + r) 0) ≡ pick (written? r) (numberOf (d .values (I + r))) (getD (g .value) r 0)
-      number-is r o = ap numberIn (cell-is r o) ∙ by (written? r)
+      held-is : (r : ℕ) → r < R → cellAt ds (I + r) ≡ pick (written? r) (d .values (I + r)) (valueAt (g .value) (g .unknown) r)
+      held-is r o = by (written? r) (cell-is r o)
+        where
+          by : (u : Bool) → getD ds (I + r) 0 ≡ pick u (cellOf (c .values (I + r))) (cellOf (valueAt (g .value) (g .unknown) r)) →
+              cellAt ds (I + r) ≡ pick u (d .values (I + r)) (valueAt (g .value) (g .unknown) r)
+          by true e = cell-value ds (I + r) (c .values (I + r)) (value-small r o) e ∙ sym (value-is r o)
+          by false e = cell-value ds (I + r) (valueAt (g .value) (g .unknown) r) (w .words r) e
+
+      number-is : (r : ℕ) → r < R → numberOf (cellAt ds (I + r)) ≡ pick (written? r) (numberOf (d .values (I + r))) (getD (g .value) r 0)
+      unfolding numberOf valueAt
+      number-is r o = ap numberOf (held-is r o) ∙ by (written? r)
         where
           by : (u : Bool) →
-              numberIn (pick u (cellOf (c .values (I + r))) (marked (getD (g .value) r 0) (getD (g .unknown) r false)))
+              numberOf (pick u (d .values (I + r)) (valueAt (g .value) (g .unknown) r))
               ≡ pick u (numberOf (d .values (I + r))) (getD (g .value) r 0)
-          by true = sym (ap numberOf (value-is r o) ∙ number-cell (c .values (I + r)) (value-small r o))
-          by false = number-marked (getD (g .value) r 0) (getD (g .unknown) r false) (w .small r)
+          by true = refl
+          by false = refl
 
-      flag-is : (r : ℕ) → r < R → unknownIn (getD ds (I + r) 0)
-          ≡ pick (written? r) (isUnknown (d .values (I + r))) (getD (g .unknown) r false)
-      flag-is r o = ap unknownIn (cell-is r o) ∙ by (written? r)
+      marks-is : (r : ℕ) → r < R → marksOf (cellAt ds (I + r)) ≡ pick (written? r) (marksOf (d .values (I + r))) (getD (g .unknown) r 0)
+      unfolding marksOf valueAt
+      marks-is r o = ap marksOf (held-is r o) ∙ by (written? r)
         where
           by : (u : Bool) →
-              unknownIn (pick u (cellOf (c .values (I + r))) (marked (getD (g .value) r 0) (getD (g .unknown) r false)))
-              ≡ pick u (isUnknown (d .values (I + r))) (getD (g .unknown) r false)
-          by true = sym (ap isUnknown (value-is r o) ∙ flag-cell (c .values (I + r)) (value-small r o))
-          by false = flag-marked (getD (g .value) r 0) (getD (g .unknown) r false) (w .small r)
+              marksOf (pick u (d .values (I + r)) (valueAt (g .value) (g .unknown) r))
+              ≡ pick u (marksOf (d .values (I + r))) (getD (g .unknown) r 0)
+          by true = refl
+          by false = refl
 
       place-is : (i : ℕ) → i < N → getD (t .places) i 0 ≡ d .places i
       unfolding book.settled
@@ -217,10 +223,10 @@ module _ (m : Module Expr) (z : Sound m) (q : plan.Plan) (h : Holds m q) (ns us 
           record {
             number = 0;
             value = numbersTo ds i (atMost 32 r) (g .value);
-            unknown = flagsTo ds i (atMost 32 r) (g .unknown);
+            unknown = marksTo ds i (atMost 32 r) (g .unknown);
             places = t .places;
-            wire = wireNumbersTo ds (i + r) (atMost 32 n) (replicate 32 0);
-            unsure = wireFlagsTo ds (i + r) (atMost 32 n) (replicate 32 true);
+            wire = numbersTo ds (i + r) (atMost 32 n) (replicate 32 0);
+            unsure = marksTo ds (i + r) (atMost 32 n) (replicate 32 (ones 32));
           }
 
       put-is : {i j r p n l : ℕ} → i ≡ j → r ≡ p → n ≡ l → put i r n ≡ put j p l
@@ -234,7 +240,7 @@ module _ (m : Module Expr) (z : Sound m) (q : plan.Plan) (h : Holds m q) (ns us 
             most-same 32 R (z .registers-most),
             most-same 32 (length (m .wires)) (z .wires-most),
             value-stored m d g ds number-is,
-            unknown-stored m d g ds flag-is,
+            unknown-stored m d g ds marks-is,
             wires-given m d g ds (z .wires-most) wire-is,
             unsure-given m d g ds (z .wires-most) wire-is,
             places-stored m d g ds (t .places) (x .risen .stands .eight ∙ sym (w .eight)) (omega (arith, w .eight, z .threads-most))
@@ -246,7 +252,7 @@ module _ (m : Module Expr) (z : Sound m) (q : plan.Plan) (h : Holds m q) (ns us 
 
     module _ (g : Registers) (w : Whole g) (a : Inputs) (right : registersFit m g ≡ true) (fit : upperInputsFit m a ≡ true) where
       abbrev first : Stand
-      first = stand (putItems (a .value) (a .unknown) 0 (upperOf q) (handOn q g (replicate 4176 4294967296))) (g .places)
+      first = stand (putValues (a .value) (a .unknown) 1 0 (upperOf q) (handOn q g (replicate 4176 blank))) (g .places)
 
       first-stands : Stands m (handed m g a) first
       unfolding handed
@@ -267,7 +273,7 @@ module _ (m : Module Expr) (z : Sound m) (q : plan.Plan) (h : Holds m q) (ns us 
           (allBelow N (λ i. isWait (instrAt (codeOf m i) (getD (g .places) i 0)))) right)
           i o
 
-      first-cells : (r : ℕ) → r < R → getD (first .cells) (I + r) 0 ≡ marked (getD (g .value) r 0) (getD (g .unknown) r false)
+      first-cells : (r : ℕ) → r < R → getD (first .cells) (I + r) 0 ≡ cellOf (valueAt (g .value) (g .unknown) r)
       first-cells r o = ap (λ (cs : List ℕ). getD cs (I + r) 0) (cells-are m z q h g w a fit) ∙ register-cell m z q h g w a fit r o
 
       pub cycle-given : clockedOn q P rows numbers g a ≡ given m (clocked m T g a) g

@@ -15,7 +15,7 @@ use Rattle.values.specs.Planes.{valueAt}
 use Rattle.values.proofs.Values.{fits-known}
 use Rattle.sheet.specs.Expression.{Expr}
 use Rattle.sheet.specs.Module.{Module}
-use Rattle.state.specs.Saved.{listOf}
+use Rattle.state.specs.Rows.{listOf}
 use Rattle.state.proofs.Rows.{length-listOf}
 use Rattle.soundness.specs.Soundness.{Fitting, Sound}
 use Rattle.events.specs.declared.Inputs.{Inputs}

@@ -14,7 +14,7 @@ use Rattle.values.specs.Planes.{valueAt}
 use Rattle.sheet.specs.Expression.{Expr}
 use Rattle.sheet.specs.Module.{Module}
 use Rattle.pseudocode.specs.Translation.{Instr, go}
-use Rattle.state.specs.Saved.{allBelow}
+use Rattle.state.specs.Rows.{allBelow}
 use Rattle.soundness.specs.Soundness.{Sound}
 use Rattle.events.specs.declared.Inputs.{Inputs}
 use Rattle.events.specs.Cycle.{variables, codeOf, instrAt, isWait, wireExpr, wireVariable}
@@ -104,7 +104,7 @@ module _ (m : Module Expr) (z : Sound m) (q : Plan) (h : Holds m q) where
       let f : 1 + v ≡ v + 1 = omega arith in
       rw (f, width-is (v + 1) (omega (arith, z .variables)))
 
-  module _ (ns : List ℕ) (xs : List Bool) where
+  module _ (ns xs : List ℕ) where
     register-same : (r : ℕ) → r < m .scope .registers →
         fits (q .width (q .inputs + r)) (valueAt ns xs (0 + r)) ≡ fits (widthOf m (m .scope .inputs + r)) (valueAt ns xs r)
     register-same r o =

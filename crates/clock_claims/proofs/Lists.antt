@@ -11,6 +11,7 @@ use borrow.Author.Tests.{lt-ltb}
 use lib.ListN.{length, getD, set, length-set}
 use lib.Seq.{getD-set-same, getD-set-other, set-getD, ext-getD}
 use Rattle.values.specs.Values.{pick}
+use Rattle.values.specs.Planes.{valueAt}
 use Rattle.events.proofs.Cycle.{Below, at-end, before, below-suc}
 use Rattle.clock_steps.specs.Settling.{putCell}
 
@@ -118,3 +119,10 @@ to-twice f other c n xs l =
         to-above f other (setTo c n xs) n j (omega arith)
         ∙ to-above c other xs n j (omega arith)
         ∙ sym (to-above f other xs n j (omega arith))
+
+-- ---- two planes that hold the same number and the same marks
+
+pub planes-same : (ns us ms ws : List ℕ) (v w : ℕ) → getD ns v 0 ≡ getD ms w 0 → getD us v 0 ≡ getD ws w 0 →
+    valueAt ns us v ≡ valueAt ms ws w
+unfolding valueAt
+planes-same ns us ms ws v w n u = λ i. record { number = n i; unknown = u i }

@@ -3,8 +3,7 @@ use mathlib.Core.Path.{_≡_, refl, sym, ap, _∙_}
 use mathlib.Core.Logic.{_≢_}
 use mathlib.Core.Bool.{Bool, true, false, _&&_}
 use mathlib.Core.List.{List}
-use Prim.Native.Nat.{ℕ, zero, suc, _+_, _-_, _*_, _/_, _^_, _≤_, _<_}
-use native.Mathlib.Nat.{mod-lt}
+use Prim.Native.Nat.{ℕ, zero, suc, _+_, _-_, _*_, _/_, _≤_, _<_}
 use native.Mathlib.Decide.{decLt}
 use native.Mathlib.Omega.{arith}
 use borrow.Author.Tests.{lt-ltb, le-ltb, ne-eqb, eq-eqb}
@@ -12,9 +11,8 @@ use lib.Dec.{ltb, eqb}
 use lib.ListN.{length, getD, replicate, length-replicate}
 use lib.Seq.{ext-getD}
 use Rattle.values.specs.declared.Value.{Value}
-use Rattle.values.specs.declared.Value.the-variants.{Known, Unknown}
-use Rattle.values.specs.Values.{pick, fits}
-use Rattle.values.specs.Planes.{valueAt, numberOf, isUnknown}
+use Rattle.values.specs.Values.{pick, known, ones, nowhere, fits}
+use Rattle.values.specs.Planes.{valueAt, numberOf, marksOf}
 use Rattle.sheet.specs.Expression.{Expr}
 use Rattle.sheet.specs.Module.{Module}
 use Rattle.soundness.specs.Soundness.{Fitting, Sound}
@@ -22,10 +20,9 @@ use Rattle.events.specs.declared.Inputs.{Inputs}
 use Rattle.events.specs.Cycle.{variables, codeOf, instrAt, isWait, wireVariable, allBelow}
 use Rattle.events.specs.Calls.{widthOf, inputOf}
 use Rattle.events.proofs.Cycle.{absurd-bool, all-same, below-all, below-none}
-use Rattle.cells.specs.Cells.{cellOf, valueOf, cellAt}
+use Rattle.values.specs.Cells.{small, cellOf, cellAt}
+use Rattle.values.proofs.Cells.{at-small}
 use Rattle.plan.specs.Plan as plan
-use Rattle.plan_state.specs.Planes.{marked, numberIn, unknownIn}
-use Rattle.plan_state.proofs.Planes.{number-cell, flag-cell, number-marked, flag-marked}
 use Rattle.plan_fill.specs.Holding.{Holds}
 use Rattle.nextstate.specs.declared.Registers.{Registers}
 use Rattle.nextstate.specs.declared.Clocked.{Clocked}
@@ -42,43 +39,37 @@ use Rattle.clock_steps.specs.Numbers.{numberRows, fillRows}
 use Rattle.clock_nodes.specs.Reach.{Counted}
 use Rattle.clock_steps.specs.Claims.{Room, Stands}
 use Rattle.clock_steps.proofs.RowNumbers.{most-same}
-use Rattle.clock_run.specs.Running.{valuesFit, upperOf, putItems, handOn, numbersTo, flagsTo, wireNumbersTo, wireFlagsTo, answerOn}
-use Rattle.clock_run.specs.Running.{turnOn, settledOn}
+use Rattle.clock_run.specs.Running.{valuesFit, upperOf, putValues, handOn, numbersTo, marksTo, answerOn, turnOn, settledOn}
 use Rattle.clock_run.specs.declared.Rounds.{Rounds}
 use Rattle.clock_run.specs.Rounds.{endedAt, lastOn, rowAt, rowFits, rowOn, roundsFrom, registersOf, repeatFrom}
 use Rattle.clock_run.specs.Traces.{wordOf, putWords, rowWord, putBoth, TurnTraced, turnTraced, highOn, traceTurn, traced, takenOn, fedOn}
 use Rattle.clock_run.specs.Traces.{traceFrom}
 use Rattle.clock_claims.specs.Traced.{cycleWord, lowBook, lowRow, highRow, repeatTrace}
 use Rattle.clock_claims.specs.Claims.{Whole, Ready, RowInputs}
-use Rattle.clock_claims.proofs.Lists.{setTo, to-length, to-at, to-above, to-twice}
-use Rattle.clock_claims.proofs.Answering.{numbers-are, flags-are, wires-are, unsure-are}
+use Rattle.clock_claims.proofs.Lists.{setTo, to-length, to-at, to-above, to-twice, planes-same}
+use Rattle.clock_claims.proofs.Answering.{numbers-are, marks-are}
 use Rattle.clock_claims.proofs.Rows.{words-same, word-same}
 use Rattle.clock_claims.proofs.Holding.{lent, upper-is, width-same}
-use Rattle.clock_claims.proofs.Handing.{base, marked-value, handed-past, hand-are, hand-long, hand-clock, hand-register, fed}
-use Rattle.clock_claims.proofs.Handing.{fed-are, fed-long, fed-input}
+use Rattle.clock_claims.proofs.Handing.{cell-value, input-small, base, handed-past, hand-are, hand-long, hand-clock}
+use Rattle.clock_claims.proofs.Handing.{hand-register, fed, fed-are, fed-long, fed-input}
 use Rattle.clock_claims.proofs.Handing.{fed-clock, fed-past, fed-value}
 use Rattle.clock_claims.proofs.Fits.{handed-fits, first-waits, rise-fits}
 use Rattle.clock_claims.proofs.Cycling.{Turned, turned, cell-is, value-small, given-is, next-waits}
 
--- ---- a cell's number and flag make it again
+-- ---- a value's number and marks make it again, and a small value's cell comes back from the value that it holds
 
-value-again : (a : Value) → marked (numberOf a) (isUnknown a) ≡ cellOf a
-unfolding marked numberOf isUnknown cellOf
-value-again (Known n) = refl
-value-again Unknown = refl
+value-again : (a : Value) (ns us : List ℕ) (v : ℕ) → getD ns v 0 ≡ numberOf a → getD us v 0 ≡ marksOf a → valueAt ns us v ≡ a
+unfolding valueAt numberOf marksOf
+value-again a ns us v n u = λ i. record { number = n i; unknown = u i }
 
-again : (u : Bool) (a : Value) (n : ℕ) (f : Bool) → fits 32 a ≡ true → n < 4294967296 → (v : ℕ) → v ≡ pick u (cellOf a) (marked n f) →
-    marked (numberIn v) (unknownIn v) ≡ v
-again true a n f s l v e = rw (e, ← number-cell a s, ← flag-cell a s) (value-again a)
-again false a n f s l v e = rw (e, number-marked n f l, flag-marked n f l)
-
-number-small : (v : ℕ) → numberIn v < 2 ^ 32
-unfolding numberIn
-number-small v = mod-lt v (omega arith)
+again : (u : Bool) (a b : Value) → small a ≡ true → small b ≡ true → (cs : List ℕ) (v : ℕ) →
+    getD cs v 0 ≡ pick u (cellOf a) (cellOf b) → cellOf (cellAt cs v) ≡ getD cs v 0
+again true a b s l cs v e = ap cellOf (cell-value cs v a s e) ∙ sym e
+again false a b s l cs v e = ap cellOf (cell-value cs v b l e) ∙ sym e
 
 module _ (m : Module Expr) (z : Sound m) (ruled : Ruled m) (q : plan.Plan) (h : Holds m q) (ns us rs written : List ℕ)
     (y : Ready m ns us rs written) (count : ℕ) (k : Counted rs count) (ws ls ts ms : List ℕ) (room : Room ws ls ts ms)
-    (g : Registers) (wg : Whole g) (vs : List ℕ) (xs : List Bool) (inputs : ℕ → Inputs) (given-rows : RowInputs m vs xs inputs)
+    (g : Registers) (wg : Whole g) (vs xs : List ℕ) (inputs : ℕ → Inputs) (given-rows : RowInputs m vs xs inputs)
   where
     abbrev T : Tables
     T = tablesIn ns rs
@@ -105,12 +96,12 @@ module _ (m : Module Expr) (z : Sound m) (ruled : Ruled m) (q : plan.Plan) (h : 
     record Held (c : Clocked) (s : Stand) : Type 0 where
       long : length (s .cells) ≡ 4176
       clock : getD (s .cells) 0 0 ≡ 1
-      mine : (j : ℕ) → j < R → getD (s .cells) (I + j) 0 ≡ marked (getD (c .value) j 0) (getD (c .unknown) j false)
+      mine : (j : ℕ) → j < R → getD (s .cells) (I + j) 0 ≡ cellOf (valueAt (c .value) (c .unknown) j)
       places : s .places ≡ c .places
       whole : Whole (registersOf c)
       right : registersFit m (registersOf c) ≡ true
       numbers-kept : (f : ℕ → ℕ) → setTo f R (c .value) ≡ setTo f R (g .value)
-      flags-kept : (f : ℕ → Bool) → setTo f R (c .unknown) ≡ setTo f R (g .unknown)
+      marks-kept : (f : ℕ → ℕ) → setTo f R (c .unknown) ≡ setTo f R (g .unknown)
 
     held-first : registersFit m g ≡ true → Held (refused 0 g) (stand (handOn q g (base m z q h g)) (g .places))
     unfolding refused
@@ -121,10 +112,10 @@ module _ (m : Module Expr) (z : Sound m) (ruled : Ruled m) (q : plan.Plan) (h : 
           clock = hand-clock m z q h g;
           mine = hand-register m z q h g;
           places = refl;
-          whole = record { numbers = wg .numbers; flags = wg .flags; eight = wg .eight; small = wg .small };
+          whole = record { numbers = wg .numbers; marks = wg .marks; eight = wg .eight; words = wg .words };
           right = e;
           numbers-kept = λ f. refl;
-          flags-kept = λ f. refl;
+          marks-kept = λ f. refl;
         })
 
     -- ---- a row more
@@ -157,7 +148,7 @@ module _ (m : Module Expr) (z : Sound m) (ruled : Ruled m) (q : plan.Plan) (h : 
           fed-value m z old (x .whole) a fit vs xs (rowAt r) (λ v u. given-rows .item r v o u) (s .cells) (x .long) (x .clock) (x .mine)
 
       abbrev b : book.Book
-      b = record { values = λ v. pick (ltb v (variables m)) (cellAt cs v) Unknown; places = λ i. getD (c .places) i 0 }
+      b = record { values = λ v. pick (ltb v (variables m)) (cellAt cs v) nowhere; places = λ i. getD (c .places) i 0 }
 
       inside : I + R ≤ variables m
       unfolding variables
@@ -178,7 +169,7 @@ module _ (m : Module Expr) (z : Sound m) (ruled : Ruled m) (q : plan.Plan) (h : 
           let w : v < variables m = omega (arith, inside) in
           rw (lt-ltb v (variables m) w) (low-value v u)
 
-      b-past : (v : ℕ) → variables m ≤ v → b .values v ≡ Unknown
+      b-past : (v : ℕ) → variables m ≤ v → b .values v ≡ nowhere
       b-past v u = rw (le-ltb v (variables m) u)
 
       settled-same : book.settle m (b .values) ≡ book.settle m (handed m old a .values)
@@ -214,7 +205,7 @@ module _ (m : Module Expr) (z : Sound m) (ruled : Ruled m) (q : plan.Plan) (h : 
       abbrev ds : List ℕ
       ds = settle q (t .cells)
 
-      mine-too : (j : ℕ) → j < R → getD cs (I + j) 0 ≡ marked (getD (c .value) j 0) (getD (c .unknown) j false)
+      mine-too : (j : ℕ) → j < R → getD cs (I + j) 0 ≡ cellOf (valueAt (c .value) (c .unknown) j)
       mine-too j u = fed-past m z vs xs (rowAt r) (s .cells) (x .long) (I + j) (omega arith) ∙ x .mine j u
 
       abbrev e : Clocked
@@ -230,10 +221,10 @@ module _ (m : Module Expr) (z : Sound m) (ruled : Ruled m) (q : plan.Plan) (h : 
       -- ---- the lists of the answer
 
       abbrev F : ℕ → ℕ
-      F j = numberIn (getD ds (I + j) 0)
+      F j = numberOf (cellAt ds (I + j))
 
-      abbrev G : ℕ → Bool
-      G j = unknownIn (getD ds (I + j) 0)
+      abbrev G : ℕ → ℕ
+      G j = marksOf (cellAt ds (I + j))
 
       list-is : (l : List ℕ) → numbersTo ds (q .inputs) (atMost 32 (q .registers)) l ≡ setTo F R l
       list-is l =
@@ -242,41 +233,45 @@ module _ (m : Module Expr) (z : Sound m) (ruled : Ruled m) (q : plan.Plan) (h : 
           ∙ ap (λ (n : ℕ). numbersTo ds I n l) (most-same 32 R (z .registers-most))
           ∙ numbers-are ds I R l
 
-      flags-is : (l : List Bool) → flagsTo ds (q .inputs) (atMost 32 (q .registers)) l ≡ setTo G R l
-      flags-is l =
-          ap (λ (i : ℕ). flagsTo ds i (atMost 32 (q .registers)) l) (h .inputs)
-          ∙ ap (λ (n : ℕ). flagsTo ds I (atMost 32 n) l) (h .registers)
-          ∙ ap (λ (n : ℕ). flagsTo ds I n l) (most-same 32 R (z .registers-most))
-          ∙ flags-are ds I R l
+      marks-is : (l : List ℕ) → marksTo ds (q .inputs) (atMost 32 (q .registers)) l ≡ setTo G R l
+      marks-is l =
+          ap (λ (i : ℕ). marksTo ds i (atMost 32 (q .registers)) l) (h .inputs)
+          ∙ ap (λ (n : ℕ). marksTo ds I (atMost 32 n) l) (h .registers)
+          ∙ ap (λ (n : ℕ). marksTo ds I n l) (most-same 32 R (z .registers-most))
+          ∙ marks-are ds I R l
 
       value-list : e .value ≡ setTo F R (c .value)
       unfolding answerOn
       value-list = list-is (c .value)
 
-      flag-list : e .unknown ≡ setTo G R (c .unknown)
+      marks-list : e .unknown ≡ setTo G R (c .unknown)
       unfolding answerOn
-      flag-list = flags-is (c .unknown)
+      marks-list = marks-is (c .unknown)
 
       value-at : (j : ℕ) → j < R → getD (e .value) j 0 ≡ F j
       value-at j u =
           ap (λ (l : List ℕ). getD l j 0) value-list
           ∙ to-at F 0 (c .value) R j u (omega (arith, x .whole .numbers, z .registers-most))
 
-      flag-at : (j : ℕ) → j < R → getD (e .unknown) j false ≡ G j
-      flag-at j u =
-          ap (λ (l : List Bool). getD l j false) flag-list
-          ∙ to-at G false (c .unknown) R j u (omega (arith, x .whole .flags, z .registers-most))
+      marks-at : (j : ℕ) → j < R → getD (e .unknown) j 0 ≡ G j
+      marks-at j u =
+          ap (λ (l : List ℕ). getD l j 0) marks-list
+          ∙ to-at G 0 (c .unknown) R j u (omega (arith, x .whole .marks, z .registers-most))
 
-      cells-again : (j : ℕ) → j < R → getD ds (I + j) 0 ≡ marked (getD (e .value) j 0) (getD (e .unknown) j false)
+      value-held : (j : ℕ) → j < R → valueAt (e .value) (e .unknown) j ≡ cellAt ds (I + j)
+      value-held j u = value-again (cellAt ds (I + j)) (e .value) (e .unknown) j (value-at j u) (marks-at j u)
+
+      cells-again : (j : ℕ) → j < R → getD ds (I + j) 0 ≡ cellOf (valueAt (e .value) (e .unknown) j)
       cells-again j u =
-          rw (value-at j u, flag-at j u)
-          (sym
-          (again (someThread m (λ i. writes m i (I + j))) (book.rise m T (book.settled m b) .values (I + j)) (getD (c .value) j 0)
-          (getD (c .unknown) j false) (value-small m z q h ns us rs written y count k ws ls ts ms room old (x .whole) b next t turn
-          mine-too (x .places) j u) (x .whole .small j) (getD ds (I + j) 0)
-          (cell-is m z q h ns us rs written y count k ws ls ts ms room old (x .whole) b next t turn mine-too (x .places) j u)))
+          sym
+          (ap cellOf (value-held j u)
+          ∙ again (someThread m (λ i. writes m i (I + j))) (book.rise m T (book.settled m b) .values (I + j))
+          (valueAt (c .value) (c .unknown) j)
+          (value-small m z q h ns us rs written y count k ws ls ts ms room old (x .whole) b next t turn mine-too (x .places) j u)
+          (x .whole .words j) ds (I + j)
+          (cell-is m z q h ns us rs written y count k ws ls ts ms room old (x .whole) b next t turn mine-too (x .places) j u))
 
-      mine-next : (j : ℕ) → j < R → getD (t .cells) (I + j) 0 ≡ marked (getD (e .value) j 0) (getD (e .unknown) j false)
+      mine-next : (j : ℕ) → j < R → getD (t .cells) (I + j) 0 ≡ cellOf (valueAt (e .value) (e .unknown) j)
       mine-next j u = sym (turn .high (I + j) (omega arith)) ∙ cells-again j u
 
       -- ---- the clock's cell
@@ -300,13 +295,16 @@ module _ (m : Module Expr) (z : Sound m) (ruled : Ruled m) (q : plan.Plan) (h : 
 
       -- ---- what it gives fits again
 
-      small-next : (j : ℕ) → getD (e .value) j 0 < 2 ^ 32
-      small-next j = by (decLt j R)
+      words-next : (j : ℕ) → small (valueAt (e .value) (e .unknown) j) ≡ true
+      words-next j = by (decLt j R)
         where
-          by : Dec (j < R) → getD (e .value) j 0 < 2 ^ 32
-          by (yes u) = rw (value-at j u) (number-small (getD ds (I + j) 0))
+          by : Dec (j < R) → small (valueAt (e .value) (e .unknown) j) ≡ true
+          by (yes u) = rw (value-held j u) (at-small ds (I + j))
           by (no d) =
-              rw (ap (λ (l : List ℕ). getD l j 0) value-list ∙ to-above F 0 (c .value) R j (omega arith)) (x .whole .small j)
+              let o : R ≤ j = omega arith in
+              let n = ap (λ (l : List ℕ). getD l j 0) value-list ∙ to-above F 0 (c .value) R j o in
+              let u = ap (λ (l : List ℕ). getD l j 0) marks-list ∙ to-above G 0 (c .unknown) R j o in
+              rw (planes-same (e .value) (e .unknown) (c .value) (c .unknown) j j n u) (x .whole .words j)
 
       places-next : e .places ≡ t .places
       unfolding answerOn
@@ -316,9 +314,9 @@ module _ (m : Module Expr) (z : Sound m) (ruled : Ruled m) (q : plan.Plan) (h : 
       whole-next =
           record {
             numbers = ap length value-list ∙ to-length F 0 (c .value) R ∙ x .whole .numbers;
-            flags = ap length flag-list ∙ to-length G false (c .unknown) R ∙ x .whole .flags;
+            marks = ap length marks-list ∙ to-length G 0 (c .unknown) R ∙ x .whole .marks;
             eight = ap length places-next ∙ turn .risen .stands .eight;
-            small = small-next;
+            words = words-next;
           }
 
       fitting : Fitting (m .scope) (book.settled m b .values)
@@ -330,10 +328,8 @@ module _ (m : Module Expr) (z : Sound m) (ruled : Ruled m) (q : plan.Plan) (h : 
       waits-settled = waits
 
       value-next : (j : ℕ) → j < R → valueAt (e .value) (e .unknown) j ≡ book.rise m T (book.settled m b) .values (I + j)
-      unfolding cellAt
       value-next j u =
-          sym (marked-value (registersOf e) whole-next j (omega (arith, z .registers-most)))
-          ∙ ap valueOf (sym (mine-next j u))
+          sym (cell-value (t .cells) (I + j) (valueAt (e .value) (e .unknown) j) (words-next j) (mine-next j u))
           ∙ turn .risen .stands .value (I + j) (omega (arith, inside))
 
       register-next : (j : ℕ) → j < R → fits (widthOf m (I + j)) (valueAt (e .value) (e .unknown) j) ≡ true
@@ -362,13 +358,13 @@ module _ (m : Module Expr) (z : Sound m) (ruled : Ruled m) (q : plan.Plan) (h : 
           ≡ numbersTo ds (q .inputs) (atMost 32 (q .registers)) (c .value)
       numbers-both = list-is (g .value) ∙ sym (x .numbers-kept F) ∙ sym (list-is (c .value))
 
-      flags-both : flagsTo ds (q .inputs) (atMost 32 (q .registers)) (g .unknown)
-          ≡ flagsTo ds (q .inputs) (atMost 32 (q .registers)) (c .unknown)
-      flags-both = flags-is (g .unknown) ∙ sym (x .flags-kept G) ∙ sym (flags-is (c .unknown))
+      marks-both : marksTo ds (q .inputs) (atMost 32 (q .registers)) (g .unknown)
+          ≡ marksTo ds (q .inputs) (atMost 32 (q .registers)) (c .unknown)
+      marks-both = marks-is (g .unknown) ∙ sym (x .marks-kept G) ∙ sym (marks-is (c .unknown))
 
       last-next : lastOn q g (r + 1) t ≡ e
       unfolding lastOn answerOn
-      last-next = rw (ne-eqb (r + 1) 0 (λ d. omega arith), numbers-both, flags-both)
+      last-next = rw (ne-eqb (r + 1) 0 (λ d. omega arith), numbers-both, marks-both)
 
       held-answer : Held e t
       held-answer =
@@ -383,10 +379,10 @@ module _ (m : Module Expr) (z : Sound m) (ruled : Ruled m) (q : plan.Plan) (h : 
                 λ f. ap (setTo f R) value-list
                 ∙ to-twice f 0 F R (c .value) (omega (arith, x .whole .numbers, z .registers-most))
                 ∙ x .numbers-kept f;
-            flags-kept =
-                λ f. ap (setTo f R) flag-list
-                ∙ to-twice f false G R (c .unknown) (omega (arith, x .whole .flags, z .registers-most))
-                ∙ x .flags-kept f;
+            marks-kept =
+                λ f. ap (setTo f R) marks-list
+                ∙ to-twice f 0 G R (c .unknown) (omega (arith, x .whole .marks, z .registers-most))
+                ∙ x .marks-kept f;
           }
 
       held-next : Held (clockedIn m T old a) t
@@ -407,7 +403,7 @@ module _ (m : Module Expr) (z : Sound m) (ruled : Ruled m) (q : plan.Plan) (h : 
             whole = x .whole;
             right = x .right;
             numbers-kept = x .numbers-kept;
-            flags-kept = x .flags-kept;
+            marks-kept = x .marks-kept;
           }
 
       answer-both : answerOn q g (stand ds (t .places)) ≡ clockedIn m T old a
@@ -415,7 +411,7 @@ module _ (m : Module Expr) (z : Sound m) (ruled : Ruled m) (q : plan.Plan) (h : 
       answer-both = both ∙ answer-is
         where
           both : answerOn q g (stand ds (t .places)) ≡ e
-          both = rw (numbers-both, flags-both)
+          both = rw (numbers-both, marks-both)
 
       number-next : clockedIn m T old a .number ≡ 0
       unfolding answerOn
@@ -436,13 +432,19 @@ module _ (m : Module Expr) (z : Sound m) (ruled : Ruled m) (q : plan.Plan) (h : 
       fed-cell : (v : ℕ) → v < I - 1 → getD cs (1 + v) 0 ≡ cellOf (inputOf a v)
       fed-cell v u = fed-input m z vs xs (rowAt r) (s .cells) (x .long) v u ∙ ap cellOf (sym (given-rows .item r v o u))
 
-      low-input : (v : ℕ) → v < I - 1 → getD settled-low (1 + v) 0 ≡ cellOf (inputOf a v)
-      low-input v u = turn .low (1 + v) (omega arith) ∙ fed-cell v u
+      low-cell : (v : ℕ) → v < I - 1 → getD settled-low (1 + v) 0 ≡ cellOf (inputOf a v)
+      low-cell v u = turn .low (1 + v) (omega arith) ∙ fed-cell v u
 
-      low-register : (j : ℕ) → j < R → getD settled-low (I + j) 0 ≡ marked (getD (c .value) j 0) (getD (c .unknown) j false)
-      low-register j u = turn .low (I + j) (omega arith) ∙ mine-too j u
+      low-input : (v : ℕ) → v < I - 1 → cellOf (cellAt settled-low (1 + v)) ≡ cellOf (inputOf a v)
+      low-input v u = ap cellOf (cell-value settled-low (1 + v) (inputOf a v) (input-small m z a fit v u) (low-cell v u))
 
-      low-clock : (v : ℕ) → v ≢ 0 → v < I + R → handed m old a .values v ≡ book.put (handed m old a .values) 0 (Known 0) v
+      low-register : (j : ℕ) → j < R → cellOf (cellAt settled-low (I + j)) ≡ cellOf (valueAt (c .value) (c .unknown) j)
+      low-register j u =
+          ap cellOf
+          (cell-value settled-low (I + j) (valueAt (c .value) (c .unknown) j) (x .whole .words j)
+          (turn .low (I + j) (omega arith) ∙ mine-too j u))
+
+      low-clock : (v : ℕ) → v ≢ 0 → v < I + R → handed m old a .values v ≡ book.put (handed m old a .values) 0 (known 0) v
       unfolding book.put
       low-clock v e u = rw (ne-eqb v 0 e)
 
@@ -453,7 +455,7 @@ module _ (m : Module Expr) (z : Sound m) (ruled : Ruled m) (q : plan.Plan) (h : 
           ap cellOf
           (turn .mid .value v (omega (arith, z .variables))
           ∙ ap (λ (f : ℕ → Value). f v) settled-same
-          ∙ clock-apart m z ruled (handed m old a .values) (book.put (handed m old a .values) 0 (Known 0)) low-clock v
+          ∙ clock-apart m z ruled (handed m old a .values) (book.put (handed m old a .values) 0 (known 0)) low-clock v
           (λ e. omega (arith, z .inputs-some)) (omega (arith, z .variables)))
 
       unwritten : (v : ℕ) → v < I → someThread m (λ i. writes m i v) ≡ false
@@ -464,47 +466,56 @@ module _ (m : Module Expr) (z : Sound m) (ruled : Ruled m) (q : plan.Plan) (h : 
           by i u true e = absurd (omega (arith, lent m z q h y .only i v u e .0))
           by i u false e = refl
 
-      high-input : (v : ℕ) → v < I - 1 → getD ds (1 + v) 0 ≡ cellOf (inputOf a v)
+      high-input : (v : ℕ) → v < I - 1 → cellOf (cellAt ds (1 + v)) ≡ cellOf (inputOf a v)
       high-input v u =
-          turn .high (1 + v) (omega arith)
+          ap cellOf
+          (cell-value ds (1 + v) (inputOf a v) (input-small m z a fit v u)
+          (turn .high (1 + v) (omega arith)
           ∙ turn .risen .cell (1 + v) (omega (arith, z .inputs-most))
-          ∙ rw (unwritten (1 + v) (omega arith)) (low-input v u)
+          ∙ rw (unwritten (1 + v) (omega arith)) (low-cell v u)))
+
+      high-register : (j : ℕ) → j < R → cellOf (cellAt ds (I + j)) ≡ cellOf (valueAt (d .value) (d .unknown) j)
+      high-register j u =
+          ap cellOf
+          (cell-value ds (I + j) (valueAt (d .value) (d .unknown) j) (held-settled .whole .words j) (held-settled .mine j u))
 
       wire-list : e .wire ≡ setTo (λ w. numberOf (cellAt ds (I + R + w))) (length (m .wires)) (replicate 32 0)
       unfolding answerOn
       wire-list =
-          ap (λ (i : ℕ). wireNumbersTo ds (i + q .registers) (atMost 32 (q .wires)) (replicate 32 0)) (h .inputs)
-          ∙ ap (λ (n : ℕ). wireNumbersTo ds (I + n) (atMost 32 (q .wires)) (replicate 32 0)) (h .registers)
-          ∙ ap (λ (n : ℕ). wireNumbersTo ds (I + R) (atMost 32 n) (replicate 32 0)) (h .wires)
-          ∙ ap (λ (n : ℕ). wireNumbersTo ds (I + R) n (replicate 32 0)) (most-same 32 (length (m .wires)) (z .wires-most))
-          ∙ wires-are ds (I + R) (length (m .wires)) (replicate 32 0)
+          ap (λ (i : ℕ). numbersTo ds (i + q .registers) (atMost 32 (q .wires)) (replicate 32 0)) (h .inputs)
+          ∙ ap (λ (n : ℕ). numbersTo ds (I + n) (atMost 32 (q .wires)) (replicate 32 0)) (h .registers)
+          ∙ ap (λ (n : ℕ). numbersTo ds (I + R) (atMost 32 n) (replicate 32 0)) (h .wires)
+          ∙ ap (λ (n : ℕ). numbersTo ds (I + R) n (replicate 32 0)) (most-same 32 (length (m .wires)) (z .wires-most))
+          ∙ numbers-are ds (I + R) (length (m .wires)) (replicate 32 0)
 
-      unsure-list : e .unsure ≡ setTo (λ w. isUnknown (cellAt ds (I + R + w))) (length (m .wires)) (replicate 32 true)
+      abbrev none : List ℕ
+      none = replicate 32 (ones 32)
+
+      unsure-list : e .unsure ≡ setTo (λ w. marksOf (cellAt ds (I + R + w))) (length (m .wires)) none
       unfolding answerOn
       unsure-list =
-          ap (λ (i : ℕ). wireFlagsTo ds (i + q .registers) (atMost 32 (q .wires)) (replicate 32 true)) (h .inputs)
-          ∙ ap (λ (n : ℕ). wireFlagsTo ds (I + n) (atMost 32 (q .wires)) (replicate 32 true)) (h .registers)
-          ∙ ap (λ (n : ℕ). wireFlagsTo ds (I + R) (atMost 32 n) (replicate 32 true)) (h .wires)
-          ∙ ap (λ (n : ℕ). wireFlagsTo ds (I + R) n (replicate 32 true)) (most-same 32 (length (m .wires)) (z .wires-most))
-          ∙ unsure-are ds (I + R) (length (m .wires)) (replicate 32 true)
+          ap (λ (i : ℕ). marksTo ds (i + q .registers) (atMost 32 (q .wires)) none) (h .inputs)
+          ∙ ap (λ (n : ℕ). marksTo ds (I + n) (atMost 32 (q .wires)) none) (h .registers)
+          ∙ ap (λ (n : ℕ). marksTo ds (I + R) (atMost 32 n) none) (h .wires)
+          ∙ ap (λ (n : ℕ). marksTo ds (I + R) n none) (most-same 32 (length (m .wires)) (z .wires-most))
+          ∙ marks-are ds (I + R) (length (m .wires)) none
 
-      high-wire : (w : ℕ) → w < length (m .wires) →
-          cellOf (cellAt ds (I + R + w)) ≡ marked (getD (d .wire) w 0) (getD (d .unsure) w false)
+      high-wire : (w : ℕ) → w < length (m .wires) → cellOf (cellAt ds (I + R + w)) ≡ cellOf (valueAt (d .wire) (d .unsure) w)
       high-wire w u =
           let n : getD (d .wire) w 0 ≡ numberOf (cellAt ds (I + R + w)) =
           ap (λ (k : Clocked). getD (k .wire) w 0) (sym answer-is)
           ∙ ap (λ (l : List ℕ). getD l w 0) wire-list
           ∙ to-at (λ w. numberOf (cellAt ds (I + R + w))) 0 (replicate 32 0) (length (m .wires)) w u
           (omega (arith, z .wires-most, length-replicate {A = ℕ} 32 0)) in
-          let f : getD (d .unsure) w false ≡ isUnknown (cellAt ds (I + R + w)) =
-          ap (λ (k : Clocked). getD (k .unsure) w false) (sym answer-is)
-          ∙ ap (λ (l : List Bool). getD l w false) unsure-list
-          ∙ to-at (λ w. isUnknown (cellAt ds (I + R + w))) false (replicate 32 true) (length (m .wires)) w u
-          (omega (arith, z .wires-most, length-replicate {A = Bool} 32 true)) in
-          rw (n, f) (sym (value-again (cellAt ds (I + R + w))))
+          let f : getD (d .unsure) w 0 ≡ marksOf (cellAt ds (I + R + w)) =
+          ap (λ (k : Clocked). getD (k .unsure) w 0) (sym answer-is)
+          ∙ ap (λ (l : List ℕ). getD l w 0) unsure-list
+          ∙ to-at (λ w. marksOf (cellAt ds (I + R + w))) 0 none (length (m .wires)) w u
+          (omega (arith, z .wires-most, length-replicate {A = ℕ} 32 (ones 32))) in
+          ap cellOf (sym (value-again (cellAt ds (I + R + w)) (d .wire) (d .unsure) w n f))
 
       counts-are : (clock : ℕ) (b : Stand) (k : ℕ) →
-          rowWord q clock b k ≡ wordOf (I + R) (I + R + length (m .wires)) clock (b .cells) (b .places) k
+          rowWord q clock b k ≡ wordOf (I + R + length (m .wires)) clock (b .cells) (b .places) k
       unfolding rowWord
       counts-are clock b k = rw (h .inputs, h .registers, h .wires)
 
@@ -512,10 +523,10 @@ module _ (m : Module Expr) (z : Sound m) (ruled : Ruled m) (q : plan.Plan) (h : 
       unfolding lowRow
       low-word k =
           counts-are 0 (stand settled-low (s .places)) k
-          ∙ word-same m 0 a (λ j. marked (getD (c .value) j 0) (getD (c .unknown) j false))
+          ∙ word-same m 0 a (λ j. cellOf (valueAt (c .value) (c .unknown) j))
           (λ w. cellOf (lowBook m old a .values (wireVariable m w))) settled-low (s .places) low-input low-register low-wire k
           ∙ ap
-          (λ (ps : List ℕ). cycleWord m 0 a (λ j. marked (getD (c .value) j 0) (getD (c .unknown) j false))
+          (λ (ps : List ℕ). cycleWord m 0 a (λ j. cellOf (valueAt (c .value) (c .unknown) j))
           (λ w. cellOf (lowBook m old a .values (wireVariable m w))) ps k)
           (x .places)
 
@@ -523,11 +534,11 @@ module _ (m : Module Expr) (z : Sound m) (ruled : Ruled m) (q : plan.Plan) (h : 
       unfolding highRow
       high-word k =
           counts-are 1 (stand ds (t .places)) k
-          ∙ word-same m 1 a (λ j. marked (getD (d .value) j 0) (getD (d .unknown) j false))
-          (λ w. marked (getD (d .wire) w 0) (getD (d .unsure) w false)) ds (t .places) high-input (held-settled .mine) high-wire k
+          ∙ word-same m 1 a (λ j. cellOf (valueAt (d .value) (d .unknown) j)) (λ w. cellOf (valueAt (d .wire) (d .unsure) w)) ds
+          (t .places) high-input high-register high-wire k
           ∙ ap
-          (λ (ps : List ℕ). cycleWord m 1 a (λ j. marked (getD (d .value) j 0) (getD (d .unknown) j false))
-          (λ w. marked (getD (d .wire) w 0) (getD (d .unsure) w false)) ps k)
+          (λ (ps : List ℕ). cycleWord m 1 a (λ j. cellOf (valueAt (d .value) (d .unknown) j))
+          (λ w. cellOf (valueAt (d .wire) (d .unsure) w)) ps k)
           (held-next .places)
 
       fed-row : fedOn q P tab numbers g vs xs r s ≡ next

@@ -12,13 +12,12 @@ use lib.ListN.{length, getD, length-append, List·getD-append, List·getD-eq-def
 use lib.Seq.{getD-at}
 use lib.Dec.{ltb, eqb}
 use Rattle.values.specs.declared.Value.{Value}
-use Rattle.values.specs.declared.Value.the-variants.{Known, Unknown}
-use Rattle.values.specs.Values.{pick, holds, fits}
+use Rattle.values.specs.Values.{pick, known, nowhere, holds, fits}
 use Rattle.values.proofs.Values.{fits-known, fits-unknown, pick-fits}
 use Rattle.values.proofs.Operators.{unary-fits, binary-fits, choice-fits}
 use Rattle.sheet.specs.Expression.{Expr}
 use Rattle.sheet.specs.Module.{Module}
-use Rattle.state.specs.Saved.{listOf}
+use Rattle.state.specs.Rows.{listOf}
 use Rattle.soundness.specs.Soundness.{Fitting}
 use Rattle.events.specs.Cycle.{variables, codeOf, instrAt, isWait}
 use Rattle.events.proofs.Cycle.{absurd-bool, and-left, and-right, Below, at-end, before, below-suc}
@@ -61,15 +60,15 @@ module _ (ws : List ℕ) (f : ℕ → Value) where
   -- The last one, and those before it.
   value-last :
       (g : ℕ → Node) (n : ℕ) →
-      getD (workedTo g (suc n) .values) n Unknown ≡ nodeValue (workedTo g n .widths) f (workedTo g n .values) (g n)
+      getD (workedTo g (suc n) .values) n nowhere ≡ nodeValue (workedTo g n .widths) f (workedTo g n .values) (g n)
   value-last g n =
-      ap (λ (w : Worked). getD (w .values) n Unknown) (work-next g n)
-      ∙ getD-at (workedTo g n .values) _ [] Unknown n (length-worked g n)
+      ap (λ (w : Worked). getD (w .values) n nowhere) (work-next g n)
+      ∙ getD-at (workedTo g n .values) _ [] nowhere n (length-worked g n)
 
-  value-before : (g : ℕ → Node) (n a : ℕ) → a < n → getD (workedTo g (suc n) .values) a Unknown ≡ getD (workedTo g n .values) a Unknown
+  value-before : (g : ℕ → Node) (n a : ℕ) → a < n → getD (workedTo g (suc n) .values) a nowhere ≡ getD (workedTo g n .values) a nowhere
   value-before g n a h =
-      ap (λ (w : Worked). getD (w .values) a Unknown) (work-next g n)
-      ∙ List·getD-append (workedTo g n .values) _ Unknown a (omega (arith, length-worked g n))
+      ap (λ (w : Worked). getD (w .values) a nowhere) (work-next g n)
+      ∙ List·getD-append (workedTo g n .values) _ nowhere a (omega (arith, length-worked g n))
 
 module _ (m : Module Expr) (g : ℕ → Node) where
   widths-worked : (f : ℕ → Value) (n : ℕ) → workedTo (m .scope .widths) f g n .widths ≡ widthsTo m g n
@@ -88,10 +87,10 @@ module _ (m : Module Expr) (g : ℕ → Node) where
 
 module _ (m : Module Expr) (ns : List ℕ) (f : ℕ → Value) (i : ℕ) where
   abbrev value : ℕ → ℕ → Value
-  value n a = getD (workedTo (m .scope .widths) f (nodeAt ns) n .values) a Unknown
+  value n a = getD (workedTo (m .scope .widths) f (nodeAt ns) n .values) a nowhere
 
   abbrev Lands : Value → Type 0
-  Lands v = (p : ℕ) × (v ≡ Known p) × (isWait (instrAt (codeOf m i) p) ≡ true)
+  Lands v = (p : ℕ) × (v ≡ known p) × (isWait (instrAt (codeOf m i) p) ≡ true)
 
   abbrev mark : ℕ → ℕ → Bool
   mark n a = getD (landings m i (listOf n (nodeAt ns)) []) a false
@@ -157,9 +156,9 @@ module _ (m : Module Expr) (ns : List ℕ) (f : ℕ → Value) (i : ℕ) where
 -- ---- where the variables' values fit their widths, what a node is worth fits the node's
 
 arms-fit :
-    (us : List ℕ) (vs : List Value) → ((a : ℕ) → a < length us → fits (getD us a 0) (getD vs a Unknown) ≡ true) → (a b : ℕ) →
+    (us : List ℕ) (vs : List Value) → ((a : ℕ) → a < length us → fits (getD us a 0) (getD vs a nowhere) ≡ true) → (a b : ℕ) →
     (ltb a (length us) && (ltb b (length us) && eqb (getD us a 0) (getD us b 0))) ≡ true →
-    (fits (getD us a 0) (getD vs a Unknown) ≡ true) × (fits (getD us a 0) (getD vs b Unknown) ≡ true)
+    (fits (getD us a 0) (getD vs a nowhere) ≡ true) × (fits (getD us a 0) (getD vs b nowhere) ≡ true)
 arms-fit us vs k a b e =
     let both = and-right (ltb a (length us)) (ltb b (length us) && eqb (getD us a 0) (getD us b 0)) e in
     let w = eqb-true (getD us a 0) (getD us b 0) (and-right (ltb b (length us)) (eqb (getD us a 0) (getD us b 0)) both) in (
@@ -169,26 +168,26 @@ arms-fit us vs k a b e =
 
 value-fits :
     (m : Module Expr) (us : List ℕ) (f : ℕ → Value) (vs : List Value) → Fitting (m .scope) f →
-    ((a : ℕ) → a < length us → fits (getD us a 0) (getD vs a Unknown) ≡ true) → (d : Node) → nodeFits m us d ≡ true →
+    ((a : ℕ) → a < length us → fits (getD us a 0) (getD vs a nowhere) ≡ true) → (d : Node) → nodeFits m us d ≡ true →
     fits (nodeWidth (m .scope .widths) us d) (nodeValue us f vs d) ≡ true
 unfolding nodeFits nodeWidth nodeValue variables
 value-fits m us f vs h k (aVariable v) e = h v (ltb-true v (length (m .scope .widths)) e)
 value-fits m us f vs h k (aConstant w n) e = fits-known w n (ltb-true n (2 ^ w) (and-right (width? m w) (ltb n (2 ^ w)) e))
 value-fits m us f vs h k (anUnknown w) e = fits-unknown w
-value-fits m us f vs h k (aUnary o a) e = unary-fits o (getD us a 0) (getD vs a Unknown)
+value-fits m us f vs h k (aUnary o a) e = unary-fits o (getD us a 0) (getD vs a nowhere) (k a (ltb-true a (length us) e))
 value-fits m us f vs h k (aBinary o a b) e =
     let p = arms-fit us vs k a b e in
-    binary-fits o (getD us a 0) (getD vs a Unknown) (getD vs b Unknown) (p .0) (p .1)
+    binary-fits o (getD us a 0) (getD vs a nowhere) (getD vs b nowhere) (p .0) (p .1)
 value-fits m us f vs h k (aConditional c a b) e =
     let p = arms-fit us vs k a b (and-right (ltb c (length us)) _ e) in
-    choice-fits (getD us a 0) (getD vs c Unknown) (getD vs a Unknown) (getD vs b Unknown) (p .0) (p .1)
+    choice-fits (getD us a 0) (getD vs c nowhere) (getD vs a nowhere) (getD vs b nowhere) (p .0) (p .1)
 value-fits m us f vs h k (aBranch c a b) e =
     let p = arms-fit us vs k a b (and-right (ltb c (length us)) _ e) in
-    pick-fits (getD us a 0) (holds (getD vs c Unknown)) (getD vs a Unknown) (getD vs b Unknown) (p .0) (p .1)
+    pick-fits (getD us a 0) (holds (getD vs c nowhere)) (getD vs a nowhere) (getD vs b nowhere) (p .0) (p .1)
 
 module _ (m : Module Expr) (g : ℕ → Node) (f : ℕ → Value) (h : Fitting (m .scope) f) where
   abbrev Fit : ℕ → ℕ → Type 0
-  Fit n a = fits (getD (widthsTo m g n) a 0) (getD (workedTo (m .scope .widths) f g n .values) a Unknown) ≡ true
+  Fit n a = fits (getD (widthsTo m g n) a 0) (getD (workedTo (m .scope .widths) f g n .values) a nowhere) ≡ true
 
   width-last : (n : ℕ) → getD (widthsTo m g (suc n)) n 0 ≡ nodeWidth (m .scope .widths) (widthsTo m g n) (g n)
   width-last n =

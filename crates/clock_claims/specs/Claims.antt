@@ -1,17 +1,18 @@
 -- What is claimed of cycles on tables that are filled: on the plan of a module, with tables filled from lent ones that fit, a cycle is
 -- document 01's cycle run, and many of them are cycle run after cycle run. proofs/Claims shows it.
 use mathlib.Core.Path.{_≡_}
-use mathlib.Core.Bool.{Bool, true, false}
+use mathlib.Core.Bool.{true, false}
 use mathlib.Core.List.{List, []}
-use Prim.Native.Nat.{ℕ, _+_, _-_, _*_, _/_, _^_, _≤_, _<_}
+use Prim.Native.Nat.{ℕ, _+_, _-_, _*_, _/_, _≤_, _<_}
 use lib.Dec.{ltb}
 use lib.ListN.{length, getD}
 use Rattle.values.specs.Values.{pick}
 use Rattle.values.specs.Planes.{valueAt}
+use Rattle.values.specs.Cells.{small}
 use Rattle.sheet.specs.Expression.{Expr}
 use Rattle.sheet.specs.Module.{Module}
 use Rattle.masks.specs.Masks.{bits}
-use Rattle.state.specs.Saved.{listOf}
+use Rattle.state.specs.Rows.{listOf}
 use Rattle.soundness.specs.Soundness.{Sound}
 use Rattle.events.specs.declared.Inputs.{Inputs}
 use Rattle.events.specs.Calls.{inputOf}
@@ -32,12 +33,12 @@ use Rattle.clock_run.specs.Traces.{traced, traceOn}
 use Rattle.clock_run.specs.Rounds.{endedAt, rowAt, cyclesOn, repeatFrom}
 use Rattle.clock_claims.specs.Traced.{repeatTrace}
 
--- Registers as every caller has them: 32 numbers of 32 bits with their flags, and eight places.
+-- Registers as every caller has them: 32 numbers of 32 bits with their marks, and eight places.
 pub record Whole (g : Registers) : Type 0 where
   pub numbers : length (g .value) ≡ 32
-  pub flags : length (g .unknown) ≡ 32
+  pub marks : length (g .unknown) ≡ 32
   pub eight : length (g .places) ≡ 8
-  pub small : (r : ℕ) → getD (g .value) r 0 < 2 ^ 32
+  pub words : (r : ℕ) → small (valueAt (g .value) (g .unknown) r) ≡ true
 
 -- Lent tables that passed number 24's test, with their nodes' widths and the registers that each thread writes; rule 20 held.
 pub record Ready (m : Module Expr) (ns us rs written : List ℕ) : Type 0 where
@@ -56,7 +57,7 @@ CycleIsTheRun =
 -- ---- many cycles
 
 -- The inputs of each row, as a single cycle run is given them.
-pub record RowInputs (m : Module Expr) (vs : List ℕ) (xs : List Bool) (inputs : ℕ → Inputs) : Type 0 where
+pub record RowInputs (m : Module Expr) (vs xs : List ℕ) (inputs : ℕ → Inputs) : Type 0 where
   pub count : (r : ℕ) → inputs r .count + 1 ≡ m .scope .inputs
   pub item : (r v : ℕ) → r < length vs / 16 → v < m .scope .inputs - 1 → inputOf (inputs r) v ≡ valueAt vs xs (rowAt r + v)
 
@@ -65,7 +66,7 @@ unfoldable pub CyclesAreTheRuns : Type 0
 CyclesAreTheRuns =
     (m : Module Expr) → Sound m → Ruled m → (q : plan.Plan) → Holds m q → (ns us rs written : List ℕ) → Ready m ns us rs written →
     (count : ℕ) → Counted rs count → (ws ls ts ms : List ℕ) → Room ws ls ts ms → (g : Registers) → Whole g →
-    (vs : List ℕ) (xs : List Bool) (inputs : ℕ → Inputs) → (wholeRows vs xs ≡ true → RowInputs m vs xs inputs) →
+    (vs xs : List ℕ) (inputs : ℕ → Inputs) → (wholeRows vs xs ≡ true → RowInputs m vs xs inputs) →
     cyclesOn q (plan.nodeAt (copyAll ns us count ws)) (fillRows ns (lowAll ns count ls) rs q written ts) (numberRows q ms) g vs xs
     ≡ pick (registersFit m g)
     (pick (wholeRows vs xs) (repeatFrom (clockedIn m (tablesIn ns rs)) inputs (length vs / 16) 0 (refused 0 g))
@@ -78,7 +79,7 @@ unfoldable pub TraceIsTheRuns : Type 0
 TraceIsTheRuns =
     (m : Module Expr) → Sound m → Ruled m → (q : plan.Plan) → Holds m q → (ns us rs written : List ℕ) → Ready m ns us rs written →
     (count : ℕ) → Counted rs count → (ws ls ts ms : List ℕ) → Room ws ls ts ms → (g : Registers) → Whole g →
-    (vs : List ℕ) (xs : List Bool) (inputs : ℕ → Inputs) → (wholeRows vs xs ≡ true → RowInputs m vs xs inputs) → (out : List ℕ) →
+    (vs xs : List ℕ) (inputs : ℕ → Inputs) → (wholeRows vs xs ≡ true → RowInputs m vs xs inputs) → (out : List ℕ) →
     traceOn q (plan.nodeAt (copyAll ns us count ws)) (fillRows ns (lowAll ns count ls) rs q written ts) (numberRows q ms) g vs xs out
     ≡ pick (ltb (length out / 88) (2 * (length vs / 16))) (traced (endedAt 0 23 (refused 23 g)) out)
     (pick (registersFit m g)

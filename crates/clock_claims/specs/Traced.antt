@@ -1,18 +1,16 @@
 -- The two rows of a cycle in a trace, told by the module and the cycle run: 88 words, the cells of 80 variables, then eight places.
-use mathlib.Core.Bool.{false}
 use mathlib.Core.List.{List}
 use Prim.Native.Nat.{ℕ, zero, suc, _+_, _-_, _*_}
 use lib.Dec.{ltb, eqb}
 use lib.ListN.{length, getD}
-use Rattle.values.specs.declared.Value.the-variants.{Known}
-use Rattle.values.specs.Values.{pick}
+use Rattle.values.specs.Values.{pick, known, nowhere}
+use Rattle.values.specs.Planes.{valueAt}
 use Rattle.sheet.specs.Expression.{Expr}
 use Rattle.sheet.specs.Module.{Module}
 use Rattle.events.specs.declared.Inputs.{Inputs}
 use Rattle.events.specs.Cycle.{wireVariable}
 use Rattle.events.specs.Calls.{inputOf}
-use Rattle.cells.specs.Cells.{cellOf}
-use Rattle.plan_state.specs.Planes.{marked}
+use Rattle.values.specs.Cells.{cellOf}
 use Rattle.nextstate.specs.declared.Registers.{Registers}
 use Rattle.nextstate.specs.declared.Clocked.{Clocked}
 use Rattle.nextstate.specs.Book.{Book, put, settled}
@@ -29,24 +27,23 @@ module _ (m : Module Expr) where
       (pick (ltb k (m .scope .inputs)) (cellOf (inputOf a (k - 1)))
       (pick (ltb k (m .scope .inputs + m .scope .registers)) (register (k - m .scope .inputs))
       (pick (ltb k (m .scope .inputs + m .scope .registers + length (m .wires))) (wire (k - (m .scope .inputs + m .scope .registers)))
-      4294967296)))
+      (cellOf nowhere))))
       (getD ps (k - 80) 0))
 
   -- "With the clock 0, it takes the inputs and settles."
   unfoldable pub lowBook : Registers → Inputs → Book
-  lowBook g a = settled m (record { values = put (handed m g a .values) 0 (Known 0); places = handed m g a .places })
+  lowBook g a = settled m (record { values = put (handed m g a .values) 0 (known 0); places = handed m g a .places })
 
   -- The clock 0, registers and places as before the cycle, the wires settled on these and the inputs.
   unfoldable pub lowRow : Registers → Inputs → ℕ → ℕ
   lowRow g a =
-      cycleWord 0 a (λ r. marked (getD (g .value) r 0) (getD (g .unknown) r false))
+      cycleWord 0 a (λ r. cellOf (valueAt (g .value) (g .unknown) r))
       (λ w. cellOf (lowBook g a .values (wireVariable m w))) (g .places)
 
   -- The clock 1, and registers, wires and places that the cycle run c gave.
   unfoldable pub highRow : Clocked → Inputs → ℕ → ℕ
   highRow c a =
-      cycleWord 1 a (λ r. marked (getD (c .value) r 0) (getD (c .unknown) r false))
-      (λ w. marked (getD (c .wire) w 0) (getD (c .unsure) w false)) (c .places)
+      cycleWord 1 a (λ r. cellOf (valueAt (c .value) (c .unknown) r)) (λ w. cellOf (valueAt (c .wire) (c .unsure) w)) (c .places)
 
   -- ---- cycle run after cycle run, with the rows of each: n of them from row r on, where the cycle before gave c
 

@@ -6,15 +6,15 @@ use Prim.Native.Nat.{ℕ, _-_, _%_, _≤_, _<_}
 use native.Mathlib.Nat.{mod-eq-of-lt}
 use native.Mathlib.Decide.{ℕ-discrete, decLt}
 use native.Mathlib.Omega.{arith}
-use borrow.Author.Tests.{lt-ltb, le-ltb, ne-eqb, le-leb, lt-leb, ltb-true}
-use lib.Dec.{ltb}
+use borrow.Author.Tests.{lt-ltb, le-ltb, ne-eqb, le-leb, lt-leb, ltb-true, leb-true}
+use lib.Dec.{ltb, leb}
 use lib.ListN.{length, getD}
 use Rattle.values.specs.declared.Value.{Value}
-use Rattle.values.specs.declared.Value.the-variants.{Unknown}
+use Rattle.values.specs.Values.{nowhere}
 use Rattle.sheet.specs.Expression.{Expr}
 use Rattle.sheet.specs.Module.{Module}
 use Rattle.events.specs.Cycle.{variables}
-use Rattle.events.proofs.Cycle.{absurd-bool}
+use Rattle.events.proofs.Cycle.{absurd-bool, and-right}
 use Rattle.plan.specs.Sections.{slotOf}
 use Rattle.plan.specs.Plan.{node}
 use Rattle.plan_nodes.specs.Nodes.{worthOf}
@@ -120,6 +120,10 @@ module _ (m : Module Expr) (us : List ℕ) (k a b c : ℕ) (fit : nodeFits m us 
   unfolding nodeFrom nodeFits
   fit-variable e = ltb-true a (variables m) (rw e at fit)
 
+  fit-blank : k ≡ 2 → a ≤ 32
+  unfolding nodeFrom nodeFits width?
+  fit-blank e = leb-true a 32 (and-right (leb 1 a) (leb a 32) (rw e at fit))
+
   fit-unary : 11 ≤ k → k < 13 → a < length us
   unfolding nodeFits
   fit-unary h l = ltb-true a (length us) (rw (from-unary k a b c h l) at fit)
@@ -193,20 +197,20 @@ second-operand : (ns : List ℕ) (k b c : ℕ) → (k ≡ 1 → ⊥) → secondO
 unfolding secondOf
 second-operand ns k b c h = rw (ne-eqb k 1 h)
 
-third-width : (ns us : List ℕ) (k a c : ℕ) → k < 20 → thirdOf ns us k a c ≡ getD us a 0
+third-width : (ns us : List ℕ) (k a c : ℕ) → 11 ≤ k → k < 20 → thirdOf ns us k a c ≡ getD us a 0
 unfolding thirdOf
-third-width ns us k a c h = rw (lt-ltb k 20 h)
+third-width ns us k a c l h = rw (ne-eqb k 2 (λ e. omega arith), lt-ltb k 20 h)
 
 third-operand : (ns us : List ℕ) (k a c : ℕ) → 20 ≤ k → thirdOf ns us k a c ≡ cellIn ns c
 unfolding thirdOf
-third-operand ns us k a c h = rw (le-ltb k 20 h)
+third-operand ns us k a c h = rw (ne-eqb k 2 (λ e. omega arith), le-ltb k 20 h)
 
 -- ---- its worth, where the operands' cells have the values vv, and of a variable the value f: the words are x, y, z
 
 module _ (ns uu : List ℕ) (f g : ℕ → Value) (vv : List Value) (k a b c x y z : ℕ) (px : x ≡ firstOf ns k a) (py : y ≡ secondOf ns k b c)
     (pz : z ≡ thirdOf ns uu k a c) where
   abbrev Right : ℕ → Type 0
-  Right i = g (slotOf (cellIn ns i)) ≡ getD vv i Unknown
+  Right i = g (slotOf (cellIn ns i)) ≡ getD vv i nowhere
 
   abbrev Copied : Type 0
   Copied = worthOf g (node k x y z) ≡ nodeValue uu f vv (nodeFrom k a b c)
@@ -220,10 +224,11 @@ module _ (ns uu : List ℕ) (f g : ℕ → Value) (vv : List Value) (k a b c x y
   unfolding nodeFrom nodeValue secondOf
   constant-worth e = worth-leaf g k x y z (omega arith) ∙ leaf-constant g k x y z e ∙ rw (py, e)
 
-  blank-worth : k ≡ 2 → Copied
-  unfolding nodeFrom nodeValue
-  blank-worth e =
-      worth-leaf g k x y z (omega arith) ∙ leaf-none g k x y z (λ q. omega arith) (λ q. omega arith) ∙ rw e
+  blank-worth : k ≡ 2 → a ≤ 32 → Copied
+  unfolding nodeFrom nodeValue thirdOf
+  blank-worth e h =
+      let u : a % 256 ≡ a = mod-eq-of-lt (omega arith) in
+      worth-leaf g k x y z (omega arith) ∙ leaf-none g k x y z (λ q. omega arith) (λ q. omega arith) ∙ rw (pz, e, u)
 
   number : k < 20 → (k - 10) % 256 ≡ k - 10
   number h = mod-eq-of-lt (omega arith)
@@ -237,7 +242,7 @@ module _ (ns uu : List ℕ) (f g : ℕ → Value) (vv : List Value) (k a b c x y
         px,
         first-operand ns k a (λ q. omega arith),
         pz,
-        third-width ns uu k a c (omega arith),
+        third-width ns uu k a c h (omega arith),
         u,
         number (omega arith),
         r,
@@ -255,7 +260,7 @@ module _ (ns uu : List ℕ) (f g : ℕ → Value) (vv : List Value) (k a b c x y
         py,
         second-operand ns k b c (λ q. omega arith),
         pz,
-        third-width ns uu k a c l,
+        third-width ns uu k a c (omega arith) l,
         u,
         number l,
         r,
@@ -305,7 +310,7 @@ module _ (ns uu : List ℕ) (f g : ℕ → Value) (vv : List Value) (k a b c x y
       by : Kind k → Copied
       by (variable e) = variable-worth e (v e)
       by (constant e) = constant-worth e
-      by (blank e) = blank-worth e
+      by (blank e) = blank-worth e (fit-blank m us k a b c fit e)
       by (unary-op h l) = unary-worth h l (w h) (r h)
       by (binary-op h l) = binary-worth h l (w (omega arith)) (r (omega arith)) (s h)
       by (conditional e) = conditional-worth e (r (omega arith)) (s (omega arith)) (t (omega arith))

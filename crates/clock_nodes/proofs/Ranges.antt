@@ -11,14 +11,13 @@ use borrow.Author.Tests.{lt-ltb, le-ltb, eq-eqb, ne-eqb}
 use lib.ListN.{length, getD, set, length-set}
 use lib.Seq.{getD-set-other}
 use Rattle.values.specs.declared.Value.{Value}
-use Rattle.values.specs.declared.Value.the-variants.{Unknown}
-use Rattle.values.specs.Values.{pick, fits}
+use Rattle.values.specs.Values.{pick, nowhere}
 use Rattle.sheet.specs.Expression.{Expr}
 use Rattle.sheet.specs.Module.{Module}
-use Rattle.state.specs.Saved.{listOf}
+use Rattle.state.specs.Rows.{listOf}
 use Rattle.events.specs.Cycle.{variables}
-use Rattle.cells.specs.Cells.{cellOf, cellAt}
-use Rattle.cells.proofs.Cells.{at-fits, at-set-same, at-set-other, at-same}
+use Rattle.values.specs.Cells.{small, cellOf, cellAt}
+use Rattle.values.proofs.Cells.{at-small, at-set-same, at-set-other, at-same}
 use Rattle.plan.specs.Sections.{slotOf}
 use Rattle.plan.specs.Plan as plan
 use Rattle.plan.proofs.Sections.{slot-same}
@@ -60,7 +59,7 @@ pub record Copies (m : Module Expr) (ns us ls : List ℕ) (P : ℕ → plan.Node
 
 module _ (m : Module Expr) (ns us ls : List ℕ) (P : ℕ → plan.Node) (count : ℕ) (t : Copies m ns us ls P count) (f : ℕ → Value) where
   abbrev value : ℕ → Value
-  value n = getD (table m ns (t .fit) f .values) n Unknown
+  value n = getD (table m ns (t .fit) f .values) n nowhere
 
   abbrev low : ℕ → ℕ
   low n = Low ns ls (t .lows) count (t .most) n
@@ -113,8 +112,8 @@ module _ (m : Module Expr) (ns us ls : List ℕ) (P : ℕ → plan.Node) (count 
     pub right : (n : ℕ) → n < hi → lo ≤ low n → cellAt ds (80 + n) ≡ value n
 
   module _ (cs : List ℕ) (size : length cs ≡ 4176) (vars : (v : ℕ) → v < variables m → cellAt cs v ≡ f v) (lo : ℕ) where
-    small : (v : ℕ) → v < variables m → fits 32 (f v) ≡ true
-    small v o = rw (vars v o) at (at-fits cs v)
+    each : (v : ℕ) → v < variables m → small (f v) ≡ true
+    each v o = rw (vars v o) at (at-small cs v)
 
     range-none : lo ≤ count → Range cs cs lo lo
     range-none h =
@@ -141,7 +140,7 @@ module _ (m : Module Expr) (ns us ls : List ℕ) (P : ℕ → plan.Node) (count 
             (λ v u. at-same ds cs v (r .kept v (omega (arith, t .few))) ∙ vars v u)
             (λ x u k. r .right x u k) in
             rw (e, p) (at-set-same ds (80 + hi) (value hi) (omega (arith, r .long, t .most))
-            (small-node m ns (t .fit) f small hi (omega (arith, t .most))))
+            (small-node m ns (t .fit) f each hi (omega (arith, t .most))))
         by n o g (no d) = at-set-other ds (80 + hi) (80 + n) _ (λ q. omega arith) ∙ r .right n (omega arith) g
 
     range-from : (j : ℕ) → lo + j ≤ count → Range cs (workFrom P (80 + lo) j cs) lo (lo + j)
@@ -218,7 +217,7 @@ module _ (m : Module Expr) (ns us ls : List ℕ) (P : ℕ → plan.Node) (count 
 -- ---- as the cycle book says it
 
 pub book-worth : (m : Module Expr) (ns rs : List ℕ) (t : Fit m ns) (f : ℕ → Value) (n : ℕ)
-    → getD (table m ns t f .values) n Unknown ≡ worth m (tablesIn ns rs) f n
+    → getD (table m ns t f .values) n nowhere ≡ worth m (tablesIn ns rs) f n
 unfolding worth tablesIn
 book-worth m ns rs t f n = refl
 

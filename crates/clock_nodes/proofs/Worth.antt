@@ -11,18 +11,17 @@ use lib.Dec.{ltb, leb, eqb}
 use lib.ListN.{length, getD, length-append, List·getD-append}
 use lib.Seq.{getD-at}
 use Rattle.values.specs.declared.Value.{Value}
-use Rattle.values.specs.declared.Value.the-variants.{Unknown}
-use Rattle.values.specs.Values.{pick, holds, fits}
+use Rattle.values.specs.Values.{pick, known, allUnknown, nowhere, holds}
 use Rattle.values.specs.Operators.{unaryWidth, binaryWidth}
-use Rattle.values.proofs.Values.{fits-known, fits-unknown, pick-fits, below-wider}
-use Rattle.values.proofs.Operators.{choice-fits}
+use Rattle.values.specs.Cells.{small}
+use Rattle.values.proofs.Values.{fits-known, fits-unknown}
+use Rattle.values.proofs.Operators.{fits-small, unary-small, binary-small, choice-small, pick-small}
 use Rattle.sheet.specs.Expression.{Expr}
 use Rattle.sheet.specs.Module.{Module}
-use Rattle.state.specs.Saved.{listOf}
+use Rattle.state.specs.Rows.{listOf}
 use Rattle.state.proofs.Rows.{length-listOf, getD-listOf}
 use Rattle.events.specs.Cycle.{variables}
 use Rattle.events.proofs.Cycle.{and-left, and-right, Below, at-end, before, below-suc}
-use Rattle.plan_nodes.proofs.Flat.{unary-small, binary-small}
 use Rattle.nextstate.specs.Nodes.{Node, aVariable, aConstant, anUnknown, aUnary, aBinary, aConditional, aBranch, nodeFrom, nodeAt}
 use Rattle.nextstate.specs.Nodes.{nodeWidth, nodeValue, Worked, workOut, worked}
 use Rattle.nextstate.specs.CycleRun.{width?, nodeFits, nodesFit, widthsFrom}
@@ -62,7 +61,7 @@ module _ (m : Module Expr) (us uu : List ℕ) (keep : (a : ℕ) → a < length u
   width-longer ws (aConditional c a b) h = rw (keep a (arm-left us a b (both us c a b h)))
   width-longer ws (aBranch c a b) h = rw (keep a (arm-left us a b (both us c a b h)))
 
-  module _ (f : ℕ → Value) (vs vv : List Value) (kept : (a : ℕ) → a < length us → getD vv a Unknown ≡ getD vs a Unknown) where
+  module _ (f : ℕ → Value) (vs vv : List Value) (kept : (a : ℕ) → a < length us → getD vv a nowhere ≡ getD vs a nowhere) where
     worth-longer : (d : Node) → nodeFits m us d ≡ true → nodeValue us f vs d ≡ nodeValue uu f vv d
     unfolding nodeFits nodeValue
     worth-longer (aVariable v) h = refl
@@ -96,11 +95,11 @@ module _ (ws : List ℕ) (f : ℕ → Value) where
       width-kept ns (more w n) a (simp length-append (omega arith)) ∙ List·getD-append (w .widths) _ 0 a h
 
   value-kept : (ns : List Node) (w : Worked) (a : ℕ) → a < length (w .values) →
-      getD (workOut ws f ns w .values) a Unknown ≡ getD (w .values) a Unknown
+      getD (workOut ws f ns w .values) a nowhere ≡ getD (w .values) a nowhere
   unfolding workOut
   value-kept [] w a h = refl
   value-kept (n ∷ ns) w a h =
-      value-kept ns (more w n) a (simp length-append (omega arith)) ∙ List·getD-append (w .values) _ Unknown a h
+      value-kept ns (more w n) a (simp length-append (omega arith)) ∙ List·getD-append (w .values) _ nowhere a h
 
 pub widths-worked : (m : Module Expr) (f : ℕ → Value) (ns : List Node) (w : Worked) →
     workOut (m .scope .widths) f ns w .widths ≡ widthsFrom m ns (w .widths)
@@ -119,7 +118,7 @@ pub record Ordered (m : Module Expr) (f : ℕ → Value) (uu : List ℕ) (vv : L
   pub long : length before ≡ n
   pub fit : nodeFits m before d ≡ true
   pub width : getD uu n 0 ≡ nodeWidth (m .scope .widths) uu d
-  pub worth : getD vv n Unknown ≡ nodeValue uu f vv d
+  pub worth : getD vv n nowhere ≡ nodeValue uu f vv d
 
 module _ (m : Module Expr) (f : ℕ → Value) where
   abbrev over : List Node → Worked → Worked
@@ -142,7 +141,7 @@ module _ (m : Module Expr) (f : ℕ → Value) where
             ∙ width-longer m (w .widths) (over (d ∷ ns) w .widths) (λ a o. width-kept ws f (d ∷ ns) w a o) ws d h;
         worth =
             value-kept ws f ns u (length (w .widths)) (simp length-append (omega arith))
-            ∙ getD-at (w .values) _ [] Unknown (length (w .widths)) l
+            ∙ getD-at (w .values) _ [] nowhere (length (w .widths)) l
             ∙ worth-longer m (w .widths) (over (d ∷ ns) w .widths) (λ a o. width-kept ws f (d ∷ ns) w a o) f (w .values)
             (over (d ∷ ns) w .values) (λ a o. value-kept ws f (d ∷ ns) w a (omega arith)) d h;
       }
@@ -190,27 +189,29 @@ module _ (m : Module Expr) (narrow : (v : ℕ) → v < variables m → getD (m .
   width-narrow r (aConditional c a b) h = r a (arm-left us a b (both us c a b h))
   width-narrow r (aBranch c a b) h = r a (arm-left us a b (both us c a b h))
 
-  module _ (f : ℕ → Value) (small : (v : ℕ) → v < variables m → fits 32 (f v) ≡ true) (vv : List Value) where
+  module _ (f : ℕ → Value) (each : (v : ℕ) → v < variables m → small (f v) ≡ true) (vv : List Value) where
     worth-small :
-        ((a : ℕ) → a < length us → getD uu a 0 ≤ 32) → ((a : ℕ) → a < length us → fits 32 (getD vv a Unknown) ≡ true) → (d : Node) →
-        nodeFits m us d ≡ true → fits 32 (nodeValue uu f vv d) ≡ true
+        ((a : ℕ) → a < length us → getD uu a 0 ≤ 32) → ((a : ℕ) → a < length us → small (getD vv a nowhere) ≡ true) → (d : Node) →
+        nodeFits m us d ≡ true → small (nodeValue uu f vv d) ≡ true
     unfolding nodeFits nodeValue width?
-    worth-small r s (aVariable v) h = small v (ltb-true v (variables m) h)
+    worth-small r s (aVariable v) h = each v (ltb-true v (variables m) h)
     worth-small r s (aConstant w n) h =
-        fits-known 32 n
-        (below-wider (ltb-true n (2 ^ w) (and-right (width? m w) (ltb n (2 ^ w)) h))
-        (leb-true w 32 (and-right (leb 1 w) (leb w 32) (and-left (width? m w) (ltb n (2 ^ w)) h))))
-    worth-small r s (anUnknown w) h = fits-unknown 32
-    worth-small r s (aUnary o a) h = unary-small o (getD uu a 0) (getD vv a Unknown) (r a (ltb-true a (length us) h))
+        fits-small w (known n) (leb-true w 32 (and-right (leb 1 w) (leb w 32) (and-left (width? m w) (ltb n (2 ^ w)) h)))
+        (fits-known w n (ltb-true n (2 ^ w) (and-right (width? m w) (ltb n (2 ^ w)) h)))
+    worth-small r s (anUnknown w) h =
+        fits-small w (allUnknown w) (leb-true w 32 (and-right (leb 1 w) (leb w 32) h)) (fits-unknown w)
+    worth-small r s (aUnary o a) h =
+        let l = ltb-true a (length us) h in
+        unary-small o (getD uu a 0) (getD vv a nowhere) (r a l) (s a l)
     worth-small r s (aBinary o a b) h =
         let l = arm-left us a b h in
-        binary-small o (getD uu a 0) (getD vv a Unknown) (getD vv b Unknown) (r a l) (s a l) (s b (arm-right us a b h))
+        binary-small o (getD uu a 0) (getD vv a nowhere) (getD vv b nowhere) (r a l) (s a l) (s b (arm-right us a b h))
     worth-small r s (aConditional c a b) h =
         let x = both us c a b h in
-        choice-fits 32 (getD vv c Unknown) (getD vv a Unknown) (getD vv b Unknown) (s a (arm-left us a b x)) (s b (arm-right us a b x))
+        choice-small (getD vv c nowhere) (getD vv a nowhere) (getD vv b nowhere) (s a (arm-left us a b x)) (s b (arm-right us a b x))
     worth-small r s (aBranch c a b) h =
         let x = both us c a b h in
-        pick-fits 32 (holds (getD vv c Unknown)) (getD vv a Unknown) (getD vv b Unknown) (s a (arm-left us a b x))
+        pick-small (holds (getD vv c nowhere)) (getD vv a nowhere) (getD vv b nowhere) (s a (arm-left us a b x))
         (s b (arm-right us a b x))
 
 -- ---- the 4,096 nodes of the lent words
@@ -261,24 +262,24 @@ module _ (m : Module Expr) (ns : List ℕ) (t : Fit m ns) (f : ℕ → Value) wh
   pub narrow-node : (n : ℕ) → n < 4096 → getD (table .widths) n 0 ≤ 32
   narrow-node n h = all-narrow 4096 (omega arith) n h
 
-  module _ (small : (v : ℕ) → v < variables m → fits 32 (f v) ≡ true) where
+  module _ (each : (v : ℕ) → v < variables m → small (f v) ≡ true) where
     abbrev Small : ℕ → Type 0
-    Small n = (a : ℕ) → a < n → fits 32 (getD (table .values) a Unknown) ≡ true
+    Small n = (a : ℕ) → a < n → small (getD (table .values) a nowhere) ≡ true
 
-    one-small : (n : ℕ) → n < 4096 → Small n → fits 32 (getD (table .values) n Unknown) ≡ true
+    one-small : (n : ℕ) → n < 4096 → Small n → small (getD (table .values) n nowhere) ≡ true
     one-small n h r =
         let o = ordered n h in
         rw (o .worth)
-        (worth-small m (t .narrow) (o .before) (table .widths) f small (table .values) (λ a l. narrow-node a (omega (arith, o .long)))
+        (worth-small m (t .narrow) (o .before) (table .widths) f each (table .values) (λ a l. narrow-node a (omega (arith, o .long)))
         (λ a l. r a (omega (arith, o .long))) (nodeAt ns n) (o .fit))
 
     all-small : (n : ℕ) → n ≤ 4096 → Small n
     all-small zero h a l = absurd (not-suc-le-zero l)
     all-small (suc n) h a l = by (all-small n (omega arith)) (below-suc n a l)
       where
-        by : Small n → Below n a → fits 32 (getD (table .values) a Unknown) ≡ true
+        by : Small n → Below n a → small (getD (table .values) a nowhere) ≡ true
         by r (at-end e) = rw e (one-small n (omega arith) r)
         by r (before o) = r a o
 
-    pub small-node : (n : ℕ) → n < 4096 → fits 32 (getD (table .values) n Unknown) ≡ true
+    pub small-node : (n : ℕ) → n < 4096 → small (getD (table .values) n nowhere) ≡ true
     small-node n h = all-small 4096 (omega arith) n h

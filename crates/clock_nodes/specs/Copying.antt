@@ -22,9 +22,9 @@ firstOf ns k a = k is 0 then a else cellIn ns a
 unfoldable pub secondOf : List ℕ → ℕ → ℕ → ℕ → ℕ
 secondOf ns k b c = k is 1 then b + 65536 * c else cellIn ns b
 
--- The third word is the width of an operator's operands, or the third operand of a ?: and of a branch.
+-- The third word is an unknown constant's width, that of an operator's operands, or the third operand of a ?: and of a branch.
 unfoldable pub thirdOf : List ℕ → List ℕ → ℕ → ℕ → ℕ → ℕ
-thirdOf ns us k a c = pick (ltb k 20) (getD us a 0) (cellIn ns c)
+thirdOf ns us k a c = k is 2 then a else pick (ltb k 20) (getD us a 0) (cellIn ns c)
 
 module _ (ns us : List ℕ) where
   unfoldable pub putWords : ℕ → ℕ → ℕ → ℕ → ℕ → List ℕ → List ℕ

@@ -111,6 +111,9 @@ fn second_of(nodes: &[u16], k: u16, b: u16, c: u16) -> u32
 fn third_of(nodes: &[u16], sizes: &[u8], k: u16, a: u16, c: u16) -> u32
     ensures { λ r. ⌜ r ≡ thirdOf (now (nodes .entry)) (now (sizes .entry)) k a c ⌝ }
 {
+    if k == 2 {
+        return long(a);
+    }
     if k < 20 {
         return size_at(sizes, a);
     }

@@ -8,20 +8,18 @@ use native.Mathlib.Omega.{arith}
 use borrow.Author.Tests.{eq-eqb, ne-eqb, lt-ltb, le-ltb}
 use lib.ListN.{length, getD, set, replicate, length-set}
 use Rattle.values.specs.declared.Value.{Value}
-use Rattle.values.specs.Planes.{valueAt, numberOf, isUnknown}
-use Rattle.cells.specs.Cells.{cellOf, valueOf, cellAt}
+use Rattle.values.specs.Planes.{valueAt, numberOf, marksOf}
+use Rattle.values.specs.Cells.{cellOf, valueOf, cellAt}
 use Rattle.events.specs.declared.Inputs.{Inputs}
 use Rattle.events.specs.Rows.{wholeRows}
 use Rattle.plan.specs.Plan.{Node, Plan}
-use Rattle.plan_state.specs.Planes.{marked, numberIn, unknownIn}
 use Rattle.nextstate.specs.declared.Registers.{Registers}
 use Rattle.nextstate.specs.declared.Clocked.{Clocked}
 use Rattle.nextstate.specs.CycleRun.{refused}
 use Rattle.clock_steps.specs.Settling.{putCell, settle}
 use Rattle.clock_steps.specs.Taking.{Stand, stand, atMost, rise}
-use Rattle.clock_run.specs.Running.{valuesFit, upperOf, registersFitOn, inputsFitOn, putRegisters, putItems, handOn, numbersTo}
-use Rattle.clock_run.specs.Running.{flagsTo}
-use Rattle.clock_run.specs.Running.{wireNumbersTo, wireFlagsTo, answerOn, turnOn, settledOn, clockedOn, cycleOn}
+use Rattle.clock_run.specs.Running.{valuesFit, upperOf, registersFitOn, inputsFitOn, blank, putValues, handOn, numbersTo}
+use Rattle.clock_run.specs.Running.{marksTo, answerOn, turnOn, settledOn, clockedOn, cycleOn}
 use Rattle.clock_run.specs.declared.Rounds.{Rounds}
 use Rattle.clock_run.specs.Traces.{wordOf, putWords, rowWord, putBoth, TurnTraced, turnTraced, highOn, traceTurn, traced}
 use Rattle.clock_run.specs.Traces.{takenOn, traceFrom, traceRows, traceOn}
@@ -37,71 +35,41 @@ pub upper-some : (q : Plan) {n r : ℕ} → n ≡ q .inputs → r ≡ atMost 15 
 unfolding upperOf
 upper-some q e h = rw (← e) h
 
--- ---- putRegisters, putItems
+-- ---- putValues
 
-module _ (ns : List ℕ) (xs : List Bool) where
-  pub registers-none : (first : ℕ) (cs : List ℕ) → cs ≡ putRegisters ns xs first 0 cs
-  unfolding putRegisters
-  registers-none first cs = refl
+module _ (ns us : List ℕ) (first at : ℕ) where
+  pub values-none : (cs : List ℕ) → cs ≡ putValues ns us first at 0 cs
+  unfolding putValues
+  values-none cs = refl
 
-  pub registers-more :
-      (first r : ℕ) (cs : List ℕ) {ds es : List ℕ} {a : ℕ} → ds ≡ putRegisters ns xs first r cs →
-      a ≡ marked (getD ns r 0) (getD xs r false) → es ≡ putCell (first + r) a ds → es ≡ putRegisters ns xs first (r + 1) cs
-  unfolding putRegisters
-  registers-more first r cs p e s = rw (add-one r, ← p, ← e) s
+  pub values-more :
+      (v : ℕ) (cs : List ℕ) {ds es : List ℕ} {b : Value} {a : ℕ} → ds ≡ putValues ns us first at v cs → b ≡ valueAt ns us (at + v) →
+      a ≡ cellOf b → es ≡ putCell (first + v) a ds → es ≡ putValues ns us first at (v + 1) cs
+  unfolding putValues
+  values-more v cs p b e s = rw (add-one v, ← p, ← b, ← e) s
 
-  pub items-none : (at : ℕ) (cs : List ℕ) → cs ≡ putItems ns xs at 0 cs
-  unfolding putItems
-  items-none at cs = refl
-
-  pub items-more :
-      (at v : ℕ) (cs : List ℕ) {ds es : List ℕ} {b : Value} {a : ℕ} → ds ≡ putItems ns xs at v cs → b ≡ valueAt ns xs (at + v) →
-      a ≡ cellOf b → es ≡ putCell (1 + v) a ds → es ≡ putItems ns xs at (v + 1) cs
-  unfolding putItems
-  items-more at v cs p b e s = rw (add-one v, ← p, ← b, ← e) s
-
--- ---- numbersTo, flagsTo, and those of the wires
+-- ---- numbersTo, marksTo
 
 module _ (cs : List ℕ) (first : ℕ) where
   pub numbers-none : (ns : List ℕ) → ns ≡ numbersTo cs first 0 ns
   unfolding numbersTo
   numbers-none ns = refl
 
-  pub numbers-more : (r : ℕ) (ns : List ℕ) {ms : List ℕ} {a : ℕ} → ms ≡ numbersTo cs first r ns → a ≡ numberIn (getD cs (first + r) 0) →
-      set ms r a ≡ numbersTo cs first (r + 1) ns
-  unfolding numbersTo
-  numbers-more r ns p e = rw (add-one r, ← p, ← e)
+  pub numbers-more :
+      (r : ℕ) (ns : List ℕ) {ms : List ℕ} {b : Value} {a : ℕ} → ms ≡ numbersTo cs first r ns → b ≡ valueOf (getD cs (first + r) 0) →
+      a ≡ numberOf b → set ms r a ≡ numbersTo cs first (r + 1) ns
+  unfolding numbersTo cellAt
+  numbers-more r ns p b e = rw (add-one r, ← p, ← b, ← e)
 
-  pub flags-none : (xs : List Bool) → xs ≡ flagsTo cs first 0 xs
-  unfolding flagsTo
-  flags-none xs = refl
+  pub marks-none : (us : List ℕ) → us ≡ marksTo cs first 0 us
+  unfolding marksTo
+  marks-none us = refl
 
-  pub flags-more : (r : ℕ) (xs : List Bool) {ys : List Bool} {a : Bool} → ys ≡ flagsTo cs first r xs → a
-      ≡ unknownIn (getD cs (first + r) 0) →
-      set ys r a ≡ flagsTo cs first (r + 1) xs
-  unfolding flagsTo
-  flags-more r xs p e = rw (add-one r, ← p, ← e)
-
-  pub wires-none : (ns : List ℕ) → ns ≡ wireNumbersTo cs first 0 ns
-  unfolding wireNumbersTo
-  wires-none ns = refl
-
-  pub wires-more :
-      (k : ℕ) (ns : List ℕ) {ms : List ℕ} {b : Value} {a : ℕ} → ms ≡ wireNumbersTo cs first k ns → b ≡ valueOf (getD cs (first + k) 0) →
-      a ≡ numberOf b → set ms k a ≡ wireNumbersTo cs first (k + 1) ns
-  unfolding wireNumbersTo cellAt
-  wires-more k ns p b e = rw (add-one k, ← p, ← b, ← e)
-
-  pub unsure-none : (xs : List Bool) → xs ≡ wireFlagsTo cs first 0 xs
-  unfolding wireFlagsTo
-  unsure-none xs = refl
-
-  pub unsure-more :
-      (k : ℕ) (xs : List Bool) {ys : List Bool} {b : Value} {a : Bool} → ys ≡ wireFlagsTo cs first k xs → b
-      ≡ valueOf (getD cs (first + k) 0) →
-      a ≡ isUnknown b → set ys k a ≡ wireFlagsTo cs first (k + 1) xs
-  unfolding wireFlagsTo cellAt
-  unsure-more k xs p b e = rw (add-one k, ← p, ← b, ← e)
+  pub marks-more :
+      (r : ℕ) (us : List ℕ) {ms : List ℕ} {b : Value} {a : ℕ} → ms ≡ marksTo cs first r us → b ≡ valueOf (getD cs (first + r) 0) →
+      a ≡ marksOf b → set ms r a ≡ marksTo cs first (r + 1) us
+  unfolding marksTo cellAt
+  marks-more r us p b e = rw (add-one r, ← p, ← b, ← e)
 
 -- ---- registersFitOn
 
@@ -130,12 +98,12 @@ module _ (q : Plan) (f : ℕ → Node) (ts numbers : List ℕ) where
 
   pub cycled :
       (g : Registers) (a : Inputs) {n : ℕ} {c1 c2 c3 c4 c5 p : List ℕ} {r : Clocked} → registersFitOn q g ≡ true → inputsFitOn q a ≡ true →
-      n ≡ upperOf q → c1 ≡ handOn q g (replicate 4176 4294967296) → c2 ≡ putItems (a .value) (a .unknown) 0 n c1 → c3 ≡ settle q c2 →
+      n ≡ upperOf q → c1 ≡ handOn q g (replicate 4176 blank) → c2 ≡ putValues (a .value) (a .unknown) 1 0 n c1 → c3 ≡ settle q c2 →
       stand c4 p ≡ rise q f ts numbers (stand c3 (g .places)) → c5 ≡ settle q c4 → r ≡ answerOn q g (stand c5 p) →
       r ≡ cycleOn q f ts numbers g a
   unfolding cycleOn clockedOn
   cycled g a {n} {c1} {c2} {c4 = c4} {p = p} t u e h1 h2 h3 h4 h5 h6 =
-      let x = h2 ∙ ap (λ (m : ℕ). putItems (a .value) (a .unknown) 0 m c1) e ∙ ap (putItems (a .value) (a .unknown) 0 (upperOf q)) h1 in
+      let x = h2 ∙ ap (λ (m : ℕ). putValues (a .value) (a .unknown) 1 0 m c1) e ∙ ap (putValues (a .value) (a .unknown) 1 0 (upperOf q)) h1 in
       let y = turn-is c2 (g .places) h3 h4 ∙ ap (λ (cs : List ℕ). turnOn q f ts numbers (stand cs (g .places))) x in
       rw (t, u) (h6 ∙ ap (answerOn q g) (settled-is c4 p h5 ∙ ap (settledOn q f ts numbers) y))
 
@@ -153,14 +121,14 @@ last-some q g r cs ps d e h = rw (ne-eqb r 0 d) (h ∙ ap (λ (x : List ℕ). an
 
 -- ---- roundsFrom: the rows that are left end where all of them do
 
-module _ (q : Plan) (f : ℕ → Node) (ts numbers : List ℕ) (g : Registers) (ns : List ℕ) (xs : List Bool) where
+module _ (q : Plan) (f : ℕ → Node) (ts numbers : List ℕ) (g : Registers) (ns xs : List ℕ) where
   abbrev pub first : Stand
-  first = stand (handOn q g (replicate 4176 4294967296)) (g .places)
+  first = stand (handOn q g (replicate 4176 blank)) (g .places)
 
   abbrev pub Rest : ℕ → ℕ → Stand → Type 0
   Rest n r b = roundsFrom q f ts numbers g ns xs (n - r) r b ≡ roundsFrom q f ts numbers g ns xs n 0 first
 
-  pub rest-first : (n : ℕ) {cs : List ℕ} → cs ≡ handOn q g (replicate 4176 4294967296) → Rest n 0 (stand cs (g .places))
+  pub rest-first : (n : ℕ) {cs : List ℕ} → cs ≡ handOn q g (replicate 4176 blank) → Rest n 0 (stand cs (g .places))
   rest-first n e =
       let k : n - 0 ≡ n = omega arith in
       rw (k, e)
@@ -183,14 +151,14 @@ module _ (q : Plan) (f : ℕ → Node) (ts numbers : List ℕ) (g : Registers) (
           ∙ (rw (s, rw up at t) at rest)
           ∙ ap (λ (j : ℕ). roundsFrom q f ts numbers g ns xs j 0 first) l
 
-      pub rest-on : {ds es os : List ℕ} → valuesFit q 1 ns xs (rowAt r) u ≡ true → ds ≡ putItems ns xs (rowAt r) u (b .cells) →
+      pub rest-on : {ds es os : List ℕ} → valuesFit q 1 ns xs (rowAt r) u ≡ true → ds ≡ putValues ns xs 1 (rowAt r) u (b .cells) →
           stand es os ≡ turnOn q f ts numbers (stand ds (b .places)) → Rest n (r + 1) (stand es os)
       unfolding roundsFrom rowFits rowOn
       rest-on t d v =
           let a =
           v
           ∙ ap (λ (x : List ℕ). turnOn q f ts numbers (stand x (b .places)))
-          (d ∙ ap (λ (j : ℕ). putItems ns xs (rowAt r) j (b .cells)) up) in
+          (d ∙ ap (λ (j : ℕ). putValues ns xs 1 (rowAt r) j (b .cells)) up) in
           ap (roundsFrom q f ts numbers g ns xs (n - (r + 1)) (r + 1)) a ∙ (rw (s, rw up at t) at rest)
 
 -- ---- putWords
@@ -212,43 +180,38 @@ module _ (word : ℕ → ℕ) (at : ℕ) where
 
 -- ---- wordOf, by the kinds of words
 
-module _ (first end clock : ℕ) (cs ps : List ℕ) (k : ℕ) where
-  pub word-clock : k ≡ 0 → clock ≡ wordOf first end clock cs ps k
+module _ (end clock : ℕ) (cs ps : List ℕ) (k : ℕ) where
+  pub word-clock : k ≡ 0 → clock ≡ wordOf end clock cs ps k
   unfolding wordOf
   word-clock e = rw (eq-eqb k 0 e)
 
   module _ (d : k ≡ 0 → ⊥) where
-    pub word-place : 80 ≤ k → {a : ℕ} → a ≡ getD ps (k - 80) 0 → a ≡ wordOf first end clock cs ps k
+    pub word-place : 80 ≤ k → {a : ℕ} → a ≡ getD ps (k - 80) 0 → a ≡ wordOf end clock cs ps k
     unfolding wordOf
     word-place l e = rw (ne-eqb k 0 d, le-ltb k 80 l) e
 
     module _ (l : k < 80) where
-      pub word-kept : k < first → getD cs k 0 ≡ wordOf first end clock cs ps k
+      pub word-cell : k < end → {a : Value} {b : ℕ} → a ≡ valueOf (getD cs k 0) → b ≡ cellOf a → b ≡ wordOf end clock cs ps k
+      unfolding wordOf cellAt
+      word-cell u e h = rw (ne-eqb k 0 d, lt-ltb k 80 l, lt-ltb k end u) (h ∙ ap cellOf e)
+
+      pub word-past : end ≤ k → blank ≡ wordOf end clock cs ps k
       unfolding wordOf
-      word-kept o = rw (ne-eqb k 0 d, lt-ltb k 80 l, lt-ltb k first o)
-
-      module _ (o : first ≤ k) where
-        pub word-wire : k < end → {a : Value} {b : ℕ} → a ≡ valueOf (getD cs k 0) → b ≡ cellOf a → b ≡ wordOf first end clock cs ps k
-        unfolding wordOf cellAt
-        word-wire u e h = rw (ne-eqb k 0 d, lt-ltb k 80 l, le-ltb k first o, lt-ltb k end u) (h ∙ ap cellOf e)
-
-        pub word-past : end ≤ k → 4294967296 ≡ wordOf first end clock cs ps k
-        unfolding wordOf
-        word-past u = rw (ne-eqb k 0 d, lt-ltb k 80 l, le-ltb k first o, le-ltb k end u)
+      word-past u = rw (ne-eqb k 0 d, lt-ltb k 80 l, le-ltb k end u)
 
 -- ---- traceTurn
 
 module _ (q : Plan) (f : ℕ → Node) (ts numbers : List ℕ) (at : ℕ) (cs ps ws : List ℕ) where
   pub turn-traced :
       {i r w : ℕ} {ds us es os hs vs : List ℕ} → i ≡ q .inputs → r ≡ q .registers → w ≡ q .wires → ds ≡ settle q cs →
-      us ≡ putWords (wordOf (i + r) (i + r + w) 0 ds ps) at 88 ws → stand es os ≡ rise q f ts numbers (stand ds ps) → hs ≡ settle q es →
-      vs ≡ putWords (wordOf (i + r) (i + r + w) 1 hs os) (at + 88) 88 us →
+      us ≡ putWords (wordOf (i + r + w) 0 ds ps) at 88 ws → stand es os ≡ rise q f ts numbers (stand ds ps) → hs ≡ settle q es →
+      vs ≡ putWords (wordOf (i + r + w) 1 hs os) (at + 88) 88 us →
       turnTraced (stand hs os) vs ≡ traceTurn q f ts numbers at (stand cs ps) ws
   unfolding traceTurn highOn settledOn putBoth rowWord
   turn-traced {i} {r} {w} {ds} {us} {es} {os} {hs} {vs} a b c d e u h v =
       let low : Stand = stand (settle q cs) ps in
-      let n = q .inputs + q .registers in
-      let word : ℕ → Stand → ℕ → ℕ = λ clock b. wordOf n (n + q .wires) clock (b .cells) (b .places) in
+      let n = q .inputs + q .registers + q .wires in
+      let word : ℕ → Stand → ℕ → ℕ = λ clock b. wordOf n clock (b .cells) (b .places) in
       let put : Stand → List ℕ = λ b. putWords (word 1 b) (at + 88) 88 (putWords (word 0 low) at 88 ws) in
       let high : stand hs os ≡ stand (settle q (rise q f ts numbers low .cells)) (rise q f ts numbers low .places) =
       ap (λ (l : List ℕ). stand l os) h
@@ -274,14 +237,14 @@ module _ (q : Plan) (g : Registers) (r : ℕ) (b : Stand) where
 
 -- ---- traceFrom: the rows that are left end where all of them do
 
-module _ (q : Plan) (f : ℕ → Node) (ts numbers : List ℕ) (g : Registers) (ns : List ℕ) (xs : List Bool) (ws : List ℕ) where
+module _ (q : Plan) (f : ℕ → Node) (ts numbers : List ℕ) (g : Registers) (ns xs ws : List ℕ) where
   abbrev start : Stand
-  start = stand (handOn q g (replicate 4176 4294967296)) (g .places)
+  start = stand (handOn q g (replicate 4176 blank)) (g .places)
 
   abbrev pub Left : ℕ → ℕ → Stand → List ℕ → Type 0
   Left n r b us = traceFrom q f ts numbers g ns xs (n - r) r b us ≡ traceFrom q f ts numbers g ns xs n 0 start ws
 
-  pub left-first : (n : ℕ) {cs : List ℕ} → cs ≡ handOn q g (replicate 4176 4294967296) → Left n 0 (stand cs (g .places)) ws
+  pub left-first : (n : ℕ) {cs : List ℕ} → cs ≡ handOn q g (replicate 4176 blank) → Left n 0 (stand cs (g .places)) ws
   left-first n e =
       let k : n - 0 ≡ n = omega arith in
       rw (k, e)
@@ -306,20 +269,20 @@ module _ (q : Plan) (f : ℕ → Node) (ts numbers : List ℕ) (g : Registers) (
           ∙ ap (λ (j : ℕ). traceFrom q f ts numbers g ns xs j 0 start ws) l
 
       pub left-on :
-          {ds vs : List ℕ} {o : Stand} → valuesFit q 1 ns xs (rowAt r) u ≡ true → ds ≡ putItems ns xs (rowAt r) u (b .cells) →
+          {ds vs : List ℕ} {o : Stand} → valuesFit q 1 ns xs (rowAt r) u ≡ true → ds ≡ putValues ns xs 1 (rowAt r) u (b .cells) →
           turnTraced o vs ≡ traceTurn q f ts numbers (176 * r) (stand ds (b .places)) us → Left n (r + 1) o vs
       unfolding traceFrom rowFits
       left-on t e v =
           let x =
           v
           ∙ ap (λ (l : List ℕ). traceTurn q f ts numbers (176 * r) (stand l (b .places)) us)
-          (e ∙ ap (λ (j : ℕ). putItems ns xs (rowAt r) j (b .cells)) up) in
+          (e ∙ ap (λ (j : ℕ). putValues ns xs 1 (rowAt r) j (b .cells)) up) in
           ap (λ (z : TurnTraced). traceFrom q f ts numbers g ns xs (n - (r + 1)) (r + 1) (z .stood) (z .words)) x
           ∙ (rw (s, rw up at t) at left)
 
 -- ---- traceOn
 
-module _ (q : Plan) (f : ℕ → Node) (ts numbers : List ℕ) (g : Registers) (ns : List ℕ) (xs : List Bool) (ws : List ℕ) where
+module _ (q : Plan) (f : ℕ → Node) (ts numbers : List ℕ) (g : Registers) (ns xs ws : List ℕ) where
   abbrev Trace : Rounds → List ℕ → Type 0
   Trace x us = traced x us ≡ traceOn q f ts numbers g ns xs ws
 

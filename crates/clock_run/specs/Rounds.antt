@@ -15,7 +15,7 @@ use Rattle.nextstate.specs.CycleRun.{refused}
 use Rattle.clock_steps.specs.Settling.{settle}
 use Rattle.clock_steps.specs.Taking.{Stand, stand}
 use Rattle.clock_run.specs.declared.Rounds.{Rounds}
-use Rattle.clock_run.specs.Running.{valuesFit, upperOf, registersFitOn, putItems, handOn, answerOn, turnOn}
+use Rattle.clock_run.specs.Running.{valuesFit, upperOf, registersFitOn, blank, putValues, handOn, answerOn, turnOn}
 
 -- After so many cycles, of which the last gave c, the next is refused by number n; or there is no next, and n is 0.
 unfoldable pub endedAt : ℕ → ℕ → Clocked → Rounds
@@ -29,13 +29,13 @@ lastOn q g r b = pick (eqb r 0) (refused 0 g) (answerOn q g (stand (settle q (b 
 abbrev pub rowAt : ℕ → ℕ
 rowAt r = 16 * r + 1
 
-module _ (q : Plan) (f : ℕ → Node) (ts numbers : List ℕ) (g : Registers) (ns : List ℕ) (xs : List Bool) where
+module _ (q : Plan) (f : ℕ → Node) (ts numbers : List ℕ) (g : Registers) (ns us : List ℕ) where
   -- 25
   unfoldable pub rowFits : ℕ → Bool
-  rowFits r = valuesFit q 1 ns xs (rowAt r) (upperOf q)
+  rowFits r = valuesFit q 1 ns us (rowAt r) (upperOf q)
 
   unfoldable pub rowOn : ℕ → Stand → Stand
-  rowOn r b = turnOn q f ts numbers (stand (putItems ns xs (rowAt r) (upperOf q) (b .cells)) (b .places))
+  rowOn r b = turnOn q f ts numbers (stand (putValues ns us 1 (rowAt r) (upperOf q) (b .cells)) (b .places))
 
   -- From row r on, n of them.
   unfoldable pub roundsFrom : ℕ → ℕ → Stand → Rounds
@@ -43,12 +43,12 @@ module _ (q : Plan) (f : ℕ → Node) (ts numbers : List ℕ) (g : Registers) (
   roundsFrom (suc n) r b = pick (rowFits r) (roundsFrom n (r + 1) (rowOn r b)) (endedAt r 25 (lastOn q g r b))
 
   unfoldable pub roundsOn : Rounds
-  roundsOn = roundsFrom (length ns / 16) 0 (stand (handOn q g (replicate 4176 4294967296)) (g .places))
+  roundsOn = roundsFrom (length ns / 16) 0 (stand (handOn q g (replicate 4176 blank)) (g .places))
 
   -- ".. 31, 25": rows that aren't whole are input values of wrong number, and no cycle is run.
   unfoldable pub cyclesOn : Rounds
   cyclesOn =
-      pick (registersFitOn q g) (pick (wholeRows ns xs) roundsOn (endedAt 0 25 (refused 25 g))) (endedAt 0 31 (refused 31 g))
+      pick (registersFitOn q g) (pick (wholeRows ns us) roundsOn (endedAt 0 25 (refused 25 g))) (endedAt 0 31 (refused 31 g))
 
 -- ---- cycle run after cycle run, each handed the registers and places that the last one gave back
 

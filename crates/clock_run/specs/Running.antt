@@ -1,18 +1,16 @@
 -- A clock cycle on a plan and on tables that are filled (document 01, "Extraction and the cycle run"): registers and inputs are
--- judged, laid
--- out in a plane of cells, and registers, places and wires taken out again. Defined for plans and tables of any contents.
-use mathlib.Core.Bool.{Bool, true, false, _&&_}
+-- judged, laid out in a plane of cells, and registers, places and wires taken out again. Defined for plans and tables of any contents.
+use mathlib.Core.Bool.{Bool, _&&_}
 use mathlib.Core.List.{List}
 use Prim.Native.Nat.{ℕ, zero, suc, _+_, _-_}
 use lib.Dec.{ltb, eqb}
 use lib.ListN.{getD, set, replicate}
-use Rattle.values.specs.Values.{pick, fits}
-use Rattle.values.specs.Planes.{valueAt, numberOf, isUnknown}
-use Rattle.state.specs.Saved.{allBelow}
+use Rattle.values.specs.Values.{pick, ones, fits}
+use Rattle.values.specs.Planes.{valueAt, numberOf, marksOf}
+use Rattle.state.specs.Rows.{allBelow}
 use Rattle.events.specs.declared.Inputs.{Inputs}
-use Rattle.cells.specs.Cells.{cellOf, cellAt}
+use Rattle.values.specs.Cells.{cellOf, cellAt}
 use Rattle.plan.specs.Plan.{Node, Plan}
-use Rattle.plan_state.specs.Planes.{marked, numberIn, unknownIn}
 use Rattle.nextstate.specs.declared.Registers.{Registers}
 use Rattle.nextstate.specs.declared.Clocked.{Clocked}
 use Rattle.nextstate.specs.CycleRun.{refused}
@@ -22,7 +20,7 @@ use Rattle.clock_steps.specs.Taking.{Stand, stand, atMost, rise}
 -- ---- 31 and 25
 
 -- The first n values from place `at` on fit the widths of the variables from `from` on.
-unfoldable pub valuesFit : Plan → ℕ → List ℕ → List Bool → ℕ → ℕ → Bool
+unfoldable pub valuesFit : Plan → ℕ → List ℕ → List ℕ → ℕ → ℕ → Bool
 valuesFit q from ns xs at n = allBelow n (λ v. fits (q .width (from + v)) (valueAt ns xs (at + v)))
 
 module _ (q : Plan) where
@@ -47,38 +45,28 @@ module _ (q : Plan) where
 
 -- ---- values into cells
 
--- The first n registers, from variable `first` on, with what lies under an x.
-unfoldable pub putRegisters : List ℕ → List Bool → ℕ → ℕ → List ℕ → List ℕ
-putRegisters ns xs first zero cs = cs
-putRegisters ns xs first (suc r) cs = putCell (first + r) (marked (getD ns r 0) (getD xs r false)) (putRegisters ns xs first r cs)
+-- A cell that nothing was put into: that of `nowhere`, 0 with 32 marks.
+abbrev pub blank : ℕ
+blank = 18446744069414584320
 
--- The first n inputs after the clock, from place `at` on.
-unfoldable pub putItems : List ℕ → List Bool → ℕ → ℕ → List ℕ → List ℕ
-putItems ns xs at zero cs = cs
-putItems ns xs at (suc v) cs = putCell (1 + v) (cellOf (valueAt ns xs (at + v))) (putItems ns xs at v cs)
+-- The first n values from place `at` on, into the cells of the variables from `first` on.
+unfoldable pub putValues : List ℕ → List ℕ → ℕ → ℕ → ℕ → List ℕ → List ℕ
+putValues ns us first at zero cs = cs
+putValues ns us first at (suc v) cs = putCell (first + v) (cellOf (valueAt ns us (at + v))) (putValues ns us first at v cs)
 
--- "The clock's node counts as 1".
+-- The registers. "The clock's node counts as 1".
 unfoldable pub handOn : Plan → Registers → List ℕ → List ℕ
-handOn q g cs = putCell 0 1 (putRegisters (g .value) (g .unknown) (q .inputs) (atMost 32 (q .registers)) cs)
+handOn q g cs = putCell 0 1 (putValues (g .value) (g .unknown) (q .inputs) 0 (atMost 32 (q .registers)) cs)
 
 -- ---- and out again: n of them from variable `first` on
 
 unfoldable pub numbersTo : List ℕ → ℕ → ℕ → List ℕ → List ℕ
 numbersTo cs first zero ns = ns
-numbersTo cs first (suc r) ns = set (numbersTo cs first r ns) r (numberIn (getD cs (first + r) 0))
+numbersTo cs first (suc r) ns = set (numbersTo cs first r ns) r (numberOf (cellAt cs (first + r)))
 
-unfoldable pub flagsTo : List ℕ → ℕ → ℕ → List Bool → List Bool
-flagsTo cs first zero xs = xs
-flagsTo cs first (suc r) xs = set (flagsTo cs first r xs) r (unknownIn (getD cs (first + r) 0))
-
--- Of a wire under an x lies 0.
-unfoldable pub wireNumbersTo : List ℕ → ℕ → ℕ → List ℕ → List ℕ
-wireNumbersTo cs first zero ns = ns
-wireNumbersTo cs first (suc k) ns = set (wireNumbersTo cs first k ns) k (numberOf (cellAt cs (first + k)))
-
-unfoldable pub wireFlagsTo : List ℕ → ℕ → ℕ → List Bool → List Bool
-wireFlagsTo cs first zero xs = xs
-wireFlagsTo cs first (suc k) xs = set (wireFlagsTo cs first k xs) k (isUnknown (cellAt cs (first + k)))
+unfoldable pub marksTo : List ℕ → ℕ → ℕ → List ℕ → List ℕ
+marksTo cs first zero us = us
+marksTo cs first (suc r) us = set (marksTo cs first r us) r (marksOf (cellAt cs (first + r)))
 
 -- ---- a cycle
 
@@ -88,10 +76,10 @@ answerOn q g b =
     record {
       number = 0;
       value = numbersTo (b .cells) (q .inputs) (atMost 32 (q .registers)) (g .value);
-      unknown = flagsTo (b .cells) (q .inputs) (atMost 32 (q .registers)) (g .unknown);
+      unknown = marksTo (b .cells) (q .inputs) (atMost 32 (q .registers)) (g .unknown);
       places = b .places;
-      wire = wireNumbersTo (b .cells) (q .inputs + q .registers) (atMost 32 (q .wires)) (replicate 32 0);
-      unsure = wireFlagsTo (b .cells) (q .inputs + q .registers) (atMost 32 (q .wires)) (replicate 32 true);
+      wire = numbersTo (b .cells) (q .inputs + q .registers) (atMost 32 (q .wires)) (replicate 32 0);
+      unsure = marksTo (b .cells) (q .inputs + q .registers) (atMost 32 (q .wires)) (replicate 32 (ones 32));
     }
 
 module _ (q : Plan) (f : ℕ → Node) (ts numbers : List ℕ) where
@@ -106,7 +94,7 @@ module _ (q : Plan) (f : ℕ → Node) (ts numbers : List ℕ) where
   unfoldable pub clockedOn : Registers → Inputs → Clocked
   clockedOn g a =
       answerOn q g
-      (settledOn (turnOn (stand (putItems (a .value) (a .unknown) 0 (upperOf q) (handOn q g (replicate 4176 4294967296))) (g .places))))
+      (settledOn (turnOn (stand (putValues (a .value) (a .unknown) 1 0 (upperOf q) (handOn q g (replicate 4176 blank))) (g .places))))
 
   unfoldable pub cycleOn : Registers → Inputs → Clocked
   cycleOn g a = pick (registersFitOn q g) (pick (inputsFitOn q a) (clockedOn g a) (refused 25 g)) (refused 31 g)

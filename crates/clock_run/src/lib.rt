@@ -15,14 +15,13 @@ use plan::PlanTable;
 use values::Value;
 ghost use mathlib.Core.Path.{_≡_};
 ghost use Prim.Native.Nat.{_+_, _*_, _/_, _≤_, _<_};
-ghost use lib.ListN.{length};
+ghost use lib.ListN.{length, getD};
 ghost use Rattle.values.specs.Planes.{valueAt};
 ghost use Rattle.plan.specs.Plan.{planOf};
 ghost use Rattle.nextstate.specs.CycleRun.{refused};
 ghost use Rattle.clock_steps.specs.Taking.{stand};
-ghost use Rattle.clock_run.specs.Running.{valuesFit, waitsAt, placesWait, upperOf, registersFitOn, inputsFitOn, putRegisters};
-ghost use Rattle.clock_run.specs.Running.{putItems, handOn, numbersTo, flagsTo, wireNumbersTo, wireFlagsTo, answerOn, cycleOn};
-ghost use Rattle.clock_run.specs.Running.{turnOn};
+ghost use Rattle.clock_run.specs.Running.{valuesFit, waitsAt, placesWait, upperOf, registersFitOn, inputsFitOn, putValues};
+ghost use Rattle.clock_run.specs.Running.{handOn, numbersTo, marksTo, answerOn, cycleOn, turnOn};
 ghost use Rattle.clock_run.specs.Rounds.{lastOn, endedAt, roundsOn, cyclesOn};
 ghost use Rattle.clock_run.specs.Traces.{wordOf, putWords, turnTraced, traceTurn, takenOn, traced, traceRows, traceOn};
 
@@ -35,20 +34,20 @@ fn wide(b: u8) -> usize
 
 // ---- 31 and 25
 
-// The value in slot `v` of two planes.
-fn item_at(value: &[u32], unknown: &[bool], v: usize) -> Value
+// The number at a place of a plane, 0 past its end.
+fn plane_at(plane: &[u32], v: usize) -> u32
+    ensures { λ r. ⌜ r ≡ getD (now (plane .entry)) v 0 ⌝ }
+{
+    if v < plane.len() { plane[v] } else { 0 }
+}
+
+// The value in slot `v` of two planes that are lent apart.
+fn item_at(value: &[u32], unknown: &[u32], v: usize) -> Value
     ensures { λ r. ⌜ r ≡ valueAt (now (value .entry)) (now (unknown .entry)) v ⌝ }
 {
-    if value.len() <= v {
-        return Value::Unknown;
-    }
-    if unknown.len() <= v {
-        return Value::Unknown;
-    }
-    if unknown[v] {
-        Value::Unknown
-    } else {
-        Value::Known(value[v])
+    Value {
+        number: plane_at(value, v),
+        unknown: plane_at(unknown, v),
     }
 }
 
@@ -58,7 +57,7 @@ fn values_fit(
     from: usize,
     n: usize,
     value: &[u32],
-    unknown: &[bool],
+    unknown: &[u32],
     at: usize,
 ) -> bool
     requires { ⌜ from + n ≤ 1024 ⌝ }
@@ -140,36 +139,20 @@ fn inputs_fit(plan: &PlanTable, given: Inputs) -> bool
 
 // ---- values into cells
 
-// The registers' cells, with what lies under an x.
-fn put_registers<'a>(
-    first: usize,
-    n: usize,
-    value: &'a [u32; 32],
-    unknown: &'a [bool; 32],
-    cells: &mut Cells,
-)
+// The cell of 0 with 32 marks: nothing was put into it.
+const BLANK: u64 = 18446744069414584320;
+
+// Puts `n` values from a place on into the cells of the variables from `first` on.
+fn put_values(first: usize, n: usize, value: &[u32], unknown: &[u32], at: usize, cells: &mut Cells)
     requires { ⌜ first ≤ 256 ⌝ }
     requires { ⌜ n ≤ 32 ⌝ }
-    ensures { λ _. ⌜ now (cells .exit) ≡ putRegisters (now (value .entry)) (now (unknown .entry)) first n (now (cells .entry)) ⌝ }
-{
-    let mut r: usize = 0;
-    while r < n {
-        let a = plan_state::marked(value[r], unknown[r]);
-        put_cell(cells, first + r, a);
-        r += 1;
-    }
-}
-
-// The inputs' cells, from input 1 on.
-fn put_items(n: usize, value: &[u32], unknown: &[bool], at: usize, cells: &mut Cells)
-    requires { ⌜ n ≤ 15 ⌝ }
     requires { ⌜ at + n ≤ 18446744073709551615 ⌝ }
-    ensures { λ _. ⌜ now (cells .exit) ≡ putItems (now (value .entry)) (now (unknown .entry)) at n (now (cells .entry)) ⌝ }
+    ensures { λ _. ⌜ now (cells .exit) ≡ putValues (now (value .entry)) (now (unknown .entry)) first at n (now (cells .entry)) ⌝ }
 {
     let mut v: usize = 0;
     while v < n {
-        let a = cells::store(item_at(value, unknown, at + v));
-        put_cell(cells, 1 + v, a);
+        let a = values::store(item_at(value, unknown, at + v));
+        put_cell(cells, first + v, a);
         v += 1;
     }
 }
@@ -180,51 +163,32 @@ fn hand(plan: &PlanTable, before: Registers, cells: &mut Cells)
 {
     let first = plan::inputs(plan);
     let n = at_most(32, plan::registers(plan));
-    put_registers(first, n, &before.value, &before.unknown, cells);
+    let value = before.value;
+    let unknown = before.unknown;
+    put_values(first, n, &value, &unknown, 0, cells);
     put_cell(cells, 0, 1);
 }
 
 // ---- and out again
 
-// The registers' numbers and flags, with what lies under an x.
-fn take_registers(
+// The numbers and marks of `n` variables from `first` on.
+fn take_values(
     first: usize,
     n: usize,
     cells: &Cells,
     value: &mut [u32; 32],
-    unknown: &mut [bool; 32],
-)
-    requires { ⌜ first ≤ 256 ⌝ }
-    requires { ⌜ n ≤ 32 ⌝ }
-    ensures { λ _. ⌜ now (value .exit) ≡ numbersTo (now (cells .entry)) first n (now (value .entry)) ⌝ }
-    ensures { λ _. ⌜ now (unknown .exit) ≡ flagsTo (now (cells .entry)) first n (now (unknown .entry)) ⌝ }
-{
-    let mut r: usize = 0;
-    while r < n {
-        value[r] = plan_state::number_in(cells[first + r]);
-        unknown[r] = plan_state::unknown_in(cells[first + r]);
-        r += 1;
-    }
-}
-
-// The wires' numbers and flags: under an x lies 0.
-fn take_wires(
-    first: usize,
-    n: usize,
-    cells: &Cells,
-    value: &mut [u32; 32],
-    unknown: &mut [bool; 32],
+    unknown: &mut [u32; 32],
 )
     requires { ⌜ first ≤ 512 ⌝ }
     requires { ⌜ n ≤ 32 ⌝ }
-    ensures { λ _. ⌜ now (value .exit) ≡ wireNumbersTo (now (cells .entry)) first n (now (value .entry)) ⌝ }
-    ensures { λ _. ⌜ now (unknown .exit) ≡ wireFlagsTo (now (cells .entry)) first n (now (unknown .entry)) ⌝ }
+    ensures { λ _. ⌜ now (value .exit) ≡ numbersTo (now (cells .entry)) first n (now (value .entry)) ⌝ }
+    ensures { λ _. ⌜ now (unknown .exit) ≡ marksTo (now (cells .entry)) first n (now (unknown .entry)) ⌝ }
 {
-    let mut k: usize = 0;
-    while k < n {
-        value[k] = values::number_of(cells::load(cells[first + k]));
-        unknown[k] = values::is_unknown(cells::load(cells[first + k]));
-        k += 1;
+    let mut r: usize = 0;
+    while r < n {
+        value[r] = values::number_of(values::load(cells[first + r]));
+        unknown[r] = values::marks_of(values::load(cells[first + r]));
+        r += 1;
     }
 }
 
@@ -237,10 +201,10 @@ fn answer(plan: &PlanTable, before: Registers, cells: &Cells, places: [u8; 8]) -
     let wires = at_most(32, plan::wires(plan));
     let mut value = before.value;
     let mut unknown = before.unknown;
-    take_registers(first, at_most(32, more), cells, &mut value, &mut unknown);
+    take_values(first, at_most(32, more), cells, &mut value, &mut unknown);
     let mut wire = [0u32; 32];
-    let mut unsure = [true; 32];
-    take_wires(first + more, wires, cells, &mut wire, &mut unsure);
+    let mut unsure = [4294967295u32; 32];
+    take_values(first + more, wires, cells, &mut wire, &mut unsure);
     Clocked {
         number: 0,
         value,
@@ -259,7 +223,7 @@ fn refused(number: u8, before: Registers) -> Clocked
     let unknown = before.unknown;
     let places = before.places;
     let wire = [0u32; 32];
-    let unsure = [true; 32];
+    let unsure = [4294967295u32; 32];
     Clocked {
         number,
         value,
@@ -293,12 +257,12 @@ pub fn cycle(
     if !inputs_fit(plan, given) {
         return refused(25, before);
     }
-    let mut cells = [4294967296u64; 4176];
+    let mut cells = [BLANK; 4176];
     let mut places = before.places;
     let value = given.value;
     let unknown = given.unknown;
     hand(plan, before, &mut cells);
-    put_items(upper(plan), &value, &unknown, 0, &mut cells);
+    put_values(1, upper(plan), &value, &unknown, 0, &mut cells);
     settle(plan, &mut cells);
     rise(plan, lent, table, numbers, &mut cells, &mut places);
     settle(plan, &mut cells);
@@ -369,7 +333,7 @@ fn run_rows(
     numbers: &RowNumbers,
     before: Registers,
     value: &[u32],
-    unknown: &[bool],
+    unknown: &[u32],
 ) -> Rounds
     ensures { λ r. ⌜
         r
@@ -379,7 +343,7 @@ fn run_rows(
 {
     let rows = value.len() / 16;
     let n = upper(plan);
-    let mut cells = [4294967296u64; 4176];
+    let mut cells = [BLANK; 4176];
     let mut places = before.places;
     hand(plan, before, &mut cells);
     let mut r: usize = 0;
@@ -389,7 +353,7 @@ fn run_rows(
             let last = last_of(plan, before, r, &mut cells, places);
             return ended(r, 25, last);
         }
-        put_items(n, value, unknown, at, &mut cells);
+        put_values(1, n, value, unknown, at, &mut cells);
         turn(plan, lent, table, numbers, &mut cells, &mut places);
         r += 1;
     }
@@ -397,9 +361,8 @@ fn run_rows(
     ended(r, 0, last)
 }
 
-// Many cycles by tables that are filled: whole rows of 16 inputs, each with its flag; a cycle for each row, from what the last one
-// left, up
-// to the first that is refused.
+// Many cycles by tables that are filled: whole rows of 16 inputs, each with its marks; a cycle for each row, from what the last one
+// left, up to the first that is refused.
 pub fn cycles(
     plan: &PlanTable,
     lent: &PlanTable,
@@ -407,7 +370,7 @@ pub fn cycles(
     numbers: &RowNumbers,
     before: Registers,
     value: &[u32],
-    unknown: &[bool],
+    unknown: &[u32],
 ) -> Rounds
     ensures { λ r. ⌜
         r
@@ -433,11 +396,10 @@ fn long(b: u8) -> u64
     b as u64
 }
 
-// Word `k` of a row: the clock as given, inputs and registers below `first` as their cells are, wires below `end` by their values, x past
-// them, then the places.
-fn word_of(first: usize, end: usize, clock: u64, cells: &Cells, places: &[u8; 8], k: usize) -> u64
+// Word `k` of a row: the clock as given, the variables below `end`, x past them, then the places.
+fn word_of(end: usize, clock: u64, cells: &Cells, places: &[u8; 8], k: usize) -> u64
     requires { ⌜ k < 88 ⌝ }
-    ensures { λ r. ⌜ r ≡ wordOf first end clock (now (cells .entry)) (now (places .entry)) k ⌝ }
+    ensures { λ r. ⌜ r ≡ wordOf end clock (now (cells .entry)) (now (places .entry)) k ⌝ }
 {
     if k == 0 {
         return clock;
@@ -445,34 +407,23 @@ fn word_of(first: usize, end: usize, clock: u64, cells: &Cells, places: &[u8; 8]
     if 80 <= k {
         return long(places[k - 80]);
     }
-    if k < first {
-        return cells[k];
-    }
     if k < end {
-        return cells::store(cells::load(cells[k]));
+        return values::store(values::load(cells[k]));
     }
-    4294967296
+    BLANK
 }
 
 // Puts the words of a row.
-fn put_row(
-    first: usize,
-    end: usize,
-    clock: u64,
-    cells: &Cells,
-    places: &[u8; 8],
-    at: usize,
-    out: &mut [u64],
-)
+fn put_row(end: usize, clock: u64, cells: &Cells, places: &[u8; 8], at: usize, out: &mut [u64])
     requires { ⌜ at + 88 ≤ length (now out) ⌝ }
     ensures { λ _. ⌜
         now (out .exit)
-        ≡ putWords (wordOf first end clock (now (cells .entry)) (now (places .entry))) at 88 (now (out .entry))
+        ≡ putWords (wordOf end clock (now (cells .entry)) (now (places .entry))) at 88 (now (out .entry))
         ⌝ }
 {
     let mut k: usize = 0;
     while k < 88 {
-        out[at + k] = word_of(first, end, clock, cells, places, k);
+        out[at + k] = word_of(end, clock, cells, places, k);
         k += 1;
     }
 }
@@ -495,13 +446,12 @@ fn trace_turn(
         (stand (now (cells .entry)) (now (places .entry))) (now (out .entry))
         ⌝ }
 {
-    let first = plan::inputs(plan) + plan::registers(plan);
-    let end = first + plan::wires(plan);
+    let end = plan::inputs(plan) + plan::registers(plan) + plan::wires(plan);
     settle(plan, cells);
-    put_row(first, end, 0, cells, places, at, out);
+    put_row(end, 0, cells, places, at, out);
     rise(plan, lent, table, numbers, cells, places);
     settle(plan, cells);
-    put_row(first, end, 1, cells, places, at + 88, out);
+    put_row(end, 1, cells, places, at + 88, out);
 }
 
 // What the last of `r` cycles gave, whose wires have settled; before the first the registers as handed, and wires x.
@@ -528,7 +478,7 @@ fn trace_rows(
     numbers: &RowNumbers,
     before: Registers,
     value: &[u32],
-    unknown: &[bool],
+    unknown: &[u32],
     out: &mut [u64],
 ) -> Rounds
     requires { ⌜ 176 * (length (now value) / 16) ≤ length (now out) ⌝ }
@@ -540,7 +490,7 @@ fn trace_rows(
 {
     let rows = value.len() / 16;
     let n = upper(plan);
-    let mut cells = [4294967296u64; 4176];
+    let mut cells = [BLANK; 4176];
     let mut places = before.places;
     hand(plan, before, &mut cells);
     let mut r: usize = 0;
@@ -550,7 +500,7 @@ fn trace_rows(
             let last = taken_of(plan, before, r, &cells, places);
             return ended(r, 25, last);
         }
-        put_items(n, value, unknown, at, &mut cells);
+        put_values(1, n, value, unknown, at, &mut cells);
         trace_turn(
             plan,
             lent,
@@ -576,7 +526,7 @@ pub fn trace(
     numbers: &RowNumbers,
     before: Registers,
     value: &[u32],
-    unknown: &[bool],
+    unknown: &[u32],
     out: &mut [u64],
 ) -> Rounds
     ensures { λ r. ⌜

@@ -10,7 +10,7 @@ use lib.ListN.{length, getD, length-append, List·getD-eq-default}
 use Rattle.sheet.specs.Expression.{Expr}
 use Rattle.sheet.specs.Module.{Module}
 use Rattle.masks.specs.Masks.{bits}
-use Rattle.state.specs.Saved.{listOf}
+use Rattle.state.specs.Rows.{listOf}
 use Rattle.state.proofs.Rows.{length-listOf}
 use Rattle.events.specs.Cycle.{codeOf, instrAt, isWait, allBelow}
 use Rattle.events.specs.Calls.{widthOf}

@@ -12,15 +12,15 @@ use borrow.Author.Tests.{lt-ltb}
 use lib.ListN.{length, getD, set, replicate, length-set, length-replicate}
 use lib.Seq.{getD-set-same, getD-set-other}
 use Rattle.values.specs.declared.Value.{Value}
-use Rattle.values.specs.Values.{pick, fits}
+use Rattle.values.specs.Values.{pick}
 use Rattle.values.specs.Planes.{numberOf}
 use Rattle.sheet.specs.Expression.{Expr}
 use Rattle.sheet.specs.Module.{Module}
 use Rattle.masks.specs.Masks.{bits}
 use Rattle.events.specs.Cycle.{variables, codeOf, instrAt, isWait, anyBelow}
 use Rattle.events.proofs.Cycle.{absurd-bool, Below, at-end, before, below-suc, below-none}
-use Rattle.cells.specs.Cells.{cellOf, valueOf, cellAt}
-use Rattle.cells.proofs.Cells.{value-cell, at-fits, at-same}
+use Rattle.values.specs.Cells.{small, cellOf, valueOf, cellAt}
+use Rattle.values.proofs.Cells.{value-cell, at-small, at-same}
 use Rattle.plan.specs.Plan.{Node, Plan}
 use Rattle.plan.specs.Sections.{slotOf}
 use Rattle.plan_nodes.specs.Nodes.{work}
@@ -202,12 +202,12 @@ module _ (m : Module Expr) (q : Plan) (w : Wired m q) (code : Coded m q) (ns us 
       value-more : (r : ℕ) → r < R → valueOf (getD xs r 0) ≡ taken m T b (suc i) (I + r)
       value-more r u = ap valueOf (news-at r u) ∙ rw (next-taken r) (by (writes m i (I + r)) refl)
         where
-          small : writes m i (I + r) ≡ true → fits 32 (W r) ≡ true
-          small e = rw (written-value r u e) at (at-fits ds (entryCell ts row r))
+          little : writes m i (I + r) ≡ true → small (W r) ≡ true
+          little e = rw (written-value r u e) at (at-small ds (entryCell ts row r))
 
           by : (t : Bool) → writes m i (I + r) ≡ t →
               valueOf (pick t (cellOf (W r)) (getD (y .news) r 0)) ≡ pick t (W r) (taken m T b i (I + r))
-          by true e = value-cell (W r) (small e)
+          by true e = value-cell (W r) (little e)
           by false e = z .value r u
 
       abbrev next : ℕ

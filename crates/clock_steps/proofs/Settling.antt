@@ -13,8 +13,8 @@ use Rattle.sheet.specs.Expression.{Expr}
 use Rattle.sheet.specs.Module.{Module}
 use Rattle.evaluation.specs.Evaluation.{eval}
 use Rattle.events.specs.Cycle.{variables, wireExpr, wireVariable}
-use Rattle.cells.specs.Cells.{valueOf, cellAt}
-use Rattle.cells.proofs.Cells.{at-same}
+use Rattle.values.specs.Cells.{valueOf, cellAt}
+use Rattle.values.proofs.Cells.{at-same}
 use Rattle.plan.specs.Plan.{Node, Plan}
 use Rattle.plan.proofs.Sections.{slot-same}
 use Rattle.plan_nodes.specs.Nodes.{workFrom, work}
@@ -30,7 +30,7 @@ use Rattle.clock_steps.specs.Settling.{putCell, rootOf, workWire, settle
 flat-count : {f : ℕ → Node} {base n r k : ℕ} {e : Expr} → base ≤ n → Flat f base n e r k → r + 1 - n ≡ k
 flat-count b (a-variable h) = omega arith
 flat-count b (a-constant h e) = omega arith
-flat-count b (an-unknown e) = omega arith
+flat-count b (an-unknown h e) = omega arith
 flat-count b (a-unary g h w x e) = omega arith
 flat-count b (a-binary g h w x y e) = omega arith
 flat-count b (a-conditional x y z e) = omega arith

@@ -11,7 +11,7 @@ use lib.Seq.{getD-set-same, getD-set-other}
 use Rattle.values.specs.Values.{pick}
 use Rattle.masks.specs.Masks.{bits}
 use Rattle.events.proofs.Cycle.{Below, at-end, before, below-suc}
-use Rattle.cells.specs.Cells.{cellOf, cellAt}
+use Rattle.values.specs.Cells.{cellOf, cellAt}
 use Rattle.plan.specs.Sections.{slotOf}
 use Rattle.plan.proofs.Sections.{slot-same}
 use Rattle.clock_nodes.specs.Rows.{rowPlace}

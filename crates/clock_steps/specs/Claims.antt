@@ -10,9 +10,9 @@ use Rattle.values.specs.Values.{pick}
 use Rattle.sheet.specs.Expression.{Expr}
 use Rattle.sheet.specs.Module.{Module}
 use Rattle.masks.specs.Masks.{bits}
-use Rattle.state.specs.Saved.{listOf}
+use Rattle.state.specs.Rows.{listOf}
 use Rattle.events.specs.Cycle.{variables, codeOf, instrAt, isWait, wireExpr, wireVariable}
-use Rattle.cells.specs.Cells.{cellOf, cellAt}
+use Rattle.values.specs.Cells.{cellOf, cellAt}
 use Rattle.plan.specs.Plan as plan
 use Rattle.plan_nodes.specs.Flat.{Flat}
 use Rattle.nextstate.specs.Rules.{writes, someThread, waitsBelow}

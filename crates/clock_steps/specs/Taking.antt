@@ -8,7 +8,7 @@ use lib.ListN.{getD, set, replicate}
 use Rattle.values.specs.Values.{pick}
 use Rattle.values.specs.Planes.{numberOf}
 use Rattle.masks.specs.Masks.{bits}
-use Rattle.cells.specs.Cells.{valueOf, cellOf, cellAt}
+use Rattle.values.specs.Cells.{valueOf, cellOf, cellAt}
 use Rattle.plan.specs.Sections.{slotOf}
 use Rattle.plan.specs.Plan.{Node, Plan}
 use Rattle.plan_nodes.specs.Nodes.{work}
@@ -29,7 +29,7 @@ entryCell ts row c = slotOf (getD ts (rowPlace row + c) 0)
 unfoldable pub workRow : (ℕ → Node) → List ℕ → ℕ → List ℕ → List ℕ
 workRow f ts row cs = work f (getD ts (rowPlace row + 33) 0) (getD ts (rowPlace row + 34) 0) cs
 
--- Register r, if the row's thread writes it, takes its entry's value: what lay under an x is not taken.
+-- Register r, if the row's thread writes it, takes its entry's value.
 unfoldable pub takeRegister : List ℕ → ℕ → List ℕ → ℕ → List ℕ → List ℕ
 takeRegister ts row cs r news =
     pick (getD (bits (getD ts (rowPlace row + 35) 0)) r false) (set news r (cellOf (cellAt cs (entryCell ts row r)))) news

@@ -7,7 +7,7 @@ use plan::PlanTable;
 ghost use mathlib.Core.Path.{_≡_};
 ghost use Prim.Native.Nat.{_+_, _-_, _%_, _<_, _≤_};
 ghost use Rattle.values.specs.Planes.{numberOf};
-ghost use Rattle.cells.specs.Cells.{valueOf};
+ghost use Rattle.values.specs.Cells.{valueOf};
 ghost use Rattle.plan.specs.Sections.{slotOf};
 ghost use Rattle.plan.specs.Plan.{planOf};
 ghost use Rattle.nextstate.specs.Rules.{one};
@@ -109,7 +109,7 @@ fn take_register(table: &RowTable, row: usize, r: usize, cells: &Cells, news: &m
     ensures { λ _. ⌜ now (news .exit) ≡ takeRegister (now (table .entry)) row (now (cells .entry)) r (now (news .entry)) ⌝ }
 {
     if masks::has(table[36 * row + 35], r) {
-        news[r] = cells::store(cells::load(cells[plan::slot(table[36 * row + r])]));
+        news[r] = values::store(values::load(cells[plan::slot(table[36 * row + r])]));
     }
 }
 
@@ -130,7 +130,7 @@ fn take_registers(table: &RowTable, row: usize, count: usize, cells: &Cells, new
 fn place_of(c: u64) -> u8
     ensures { λ r. ⌜ r ≡ numberOf (valueOf c) % 256 ⌝ }
 {
-    let p = values::number_of(cells::load(c)) % 256;
+    let p = values::number_of(values::load(c)) % 256;
     p as u8
 }
 

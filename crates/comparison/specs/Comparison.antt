@@ -5,7 +5,7 @@ use Prim.Native.Nat.{ℕ, _+_}
 use lib.Dec.{ltb, eqb}
 use Rattle.values.specs.Values.{pick, same}
 use Rattle.stimulus.specs.Counting.{firstFrom}
-use Rattle.cells.specs.Cells.{cellAt}
+use Rattle.values.specs.Cells.{cellAt}
 use Rattle.trace_row.specs.TraceRow.{placeIn}
 use Rattle.comparison.specs.declared.Counts.{Counts}
 use Rattle.comparison.specs.declared.Difference.{Difference}

@@ -2,6 +2,7 @@
 use crate::Difference;
 use crate::Verdict;
 use naming::put_name;
+use sheet::byte_at;
 use tabulate::put_shown;
 use values::Value;
 use writing::put_decimal;
@@ -23,6 +24,7 @@ fn put_order(order: usize, text: &mut [u8; 65536], pos: usize) -> usize
 
 // A difference in a register or a wire.
 fn put_variable(
+    widths: &[u8],
     names: &[u8; 2560],
     order: usize,
     v: usize,
@@ -32,14 +34,15 @@ fn put_variable(
     pos: usize,
 ) -> usize
     ensures { λ r. ⌜ filled (now (text .exit)) r ≡ puts (filled (now (text .entry)) pos)
-        (variableLine (now (names .entry)) order v here there) ⌝ }
+        (variableLine (now (widths .entry)) (now (names .entry)) order v here there) ⌝ }
 {
+    let width = byte_at(widths, v);
     let p = put_name(names, v, text, pos);
     let q = put_word(b" is ", text, p);
-    let r = put_shown(here, text, q);
+    let r = put_shown(10, width, here, text, q);
     let s = put_order(order, text, r);
     let t = put_word(b" and ", text, s);
-    let u = put_shown(there, text, t);
+    let u = put_shown(10, width, there, text, t);
     put_word(b" by the expressions\n", text, u)
 }
 
@@ -56,6 +59,7 @@ fn put_place(order: usize, thread: usize, text: &mut [u8; 65536], pos: usize) ->
 
 // A difference.
 fn put_difference(
+    widths: &[u8],
     names: &[u8; 2560],
     order: usize,
     d: Difference,
@@ -63,7 +67,7 @@ fn put_difference(
     pos: usize,
 ) -> usize
     ensures { λ r. ⌜ filled (now (text .exit)) r ≡ puts (filled (now (text .entry)) pos)
-        (differenceLine (now (names .entry)) order d) ⌝ }
+        (differenceLine (now (widths .entry)) (now (names .entry)) order d) ⌝ }
 {
     match d {
         Difference::Nowhere => pos,
@@ -71,7 +75,7 @@ fn put_difference(
             variable,
             here,
             there,
-        } => put_variable(names, order, variable, here, there, text, pos),
+        } => put_variable(widths, names, order, variable, here, there, text, pos),
         Difference::Place(thread) => put_place(order, thread, text, pos),
     }
 }
@@ -97,9 +101,16 @@ fn put_agreement(n: usize, text: &mut [u8; 65536], pos: usize) -> usize
     put_word(b" agree in every register, wire and place\n", text, r)
 }
 
-// The verdict.
-pub fn put_verdict(names: &[u8; 2560], v: Verdict, text: &mut [u8; 65536], pos: usize) -> usize
-    ensures { λ r. ⌜ filled (now (text .exit)) r ≡ puts (filled (now (text .entry)) pos) (verdictLine (now (names .entry)) v) ⌝ }
+// The verdict, on variables of these widths and names.
+pub fn put_verdict(
+    widths: &[u8],
+    names: &[u8; 2560],
+    v: Verdict,
+    text: &mut [u8; 65536],
+    pos: usize,
+) -> usize
+    ensures { λ r. ⌜ filled (now (text .exit)) r ≡ puts (filled (now (text .entry)) pos)
+        (verdictLine (now (widths .entry)) (now (names .entry)) v) ⌝ }
 {
     match v {
         Verdict::Agreed(n) => put_agreement(n, text, pos),
@@ -111,7 +122,7 @@ pub fn put_verdict(names: &[u8; 2560], v: Verdict, text: &mut [u8; 65536], pos: 
             let p = put_word(b"cycle ", text, pos);
             let q = put_decimal(cycle, text, p);
             let r = put_word(b": ", text, q);
-            put_difference(names, order, difference, text, r)
+            put_difference(widths, names, order, difference, text, r)
         }
     }
 }

@@ -2,7 +2,7 @@
 use mathlib.Core.Path.{_≡_, refl, sym, ap, _∙_}
 use mathlib.Core.Bool.{Bool, true, false}
 use mathlib.Core.List.{List, [], _∷_}
-use Prim.Native.Nat.{ℕ, _+_, _/_, _≤_, _<_}
+use Prim.Native.Nat.{ℕ, _+_, _/_, _^_, _≤_, _<_}
 use native.Mathlib.Decide.{decLt}
 use native.Mathlib.Omega.{arith}
 use borrow.Author.Needs.{needs}
@@ -11,13 +11,16 @@ use denote.Laws.{Is}
 use denote.Struct.Laws.{val}
 use lib.ListN.{length, getD, replicate, length-replicate, List·getD-eq-default}
 use Rattle.values.specs.Values.{pick}
+use Rattle.values.specs.Planes.{valueAt}
+use Rattle.values.specs.Cells.{small}
+use Rattle.values.proofs.Operators.{is-small}
 use Rattle.sheet.specs.Reading.{Res, ok, no, _>>=_}
 use Rattle.sheet.proofs.Reading.{no≢ok}
 use Rattle.sheet.specs.Expression.{Expr}
 use Rattle.sheet.specs.Module.{Module, read}
 use Rattle.masks.specs.Masks.{bits, mask}
 use Rattle.masks.proofs.Masks.{bits-mask}
-use Rattle.state.specs.Saved.{listOf}
+use Rattle.state.specs.Rows.{listOf}
 use Rattle.state.proofs.Rows.{length-listOf, getD-listOf}
 use Rattle.soundness.specs.Soundness.{Sound}
 use Rattle.soundness.proofs.Soundness.{sound}
@@ -171,10 +174,10 @@ module _ (s ns rs : List ℕ) (t : Filled) (long : Long t) (a : Accepted s ns rs
   abbrev Cycle : Filled → Registers → Inputs → Clocked
   Cycle u g b = cycleOn (plan.planOf (u .plan)) (plan.nodeAt (u .lent)) (u .table) (u .numbers) g b
 
-  abbrev Cycles : Filled → Registers → List ℕ → List Bool → Rounds
+  abbrev Cycles : Filled → Registers → List ℕ → List ℕ → Rounds
   Cycles u g vs xs = cyclesOn (plan.planOf (u .plan)) (plan.nodeAt (u .lent)) (u .table) (u .numbers) g vs xs
 
-  abbrev Trace : Filled → Registers → List ℕ → List Bool → List ℕ → Traced
+  abbrev Trace : Filled → Registers → List ℕ → List ℕ → List ℕ → Traced
   Trace u g vs xs out = traceOn (plan.planOf (u .plan)) (plan.nodeAt (u .lent)) (u .table) (u .numbers) g vs xs out
 
   module _ (g : Registers) (w : Whole g) where
@@ -186,14 +189,14 @@ module _ (s ns rs : List ℕ) (t : Filled) (long : Long t) (a : Accepted s ns rs
         (replicate 4096 0) (t .table) (t .numbers) room g w b
         ∙ single g b
 
-    abbrev many : (vs : List ℕ) (xs : List Bool) → Rounds
+    abbrev many : (vs xs : List ℕ) → Rounds
     many vs xs =
         pick (registersFit m g)
         (pick (wholeRows vs xs)
         (repeatFrom (clockedIn m T) (rowInputs (m .scope .inputs) vs xs) (length vs / 16) 0 (refused 0 g)) (endedAt 0 25 (refused 25 g)))
         (endedAt 0 31 (refused 31 g))
 
-    many-is : (vs : List ℕ) (xs : List Bool) → cycledOf (many vs xs) ≡ cyclesIn (clockedIn m T) g vs xs m T
+    many-is : (vs xs : List ℕ) → cycledOf (many vs xs) ≡ cyclesIn (clockedIn m T) g vs xs m T
     unfolding cyclesIn cyclesOf cycledOf endedAt
     many-is vs xs = rw (a .fit) (by (registersFit m g) (wholeRows vs xs))
       where
@@ -216,21 +219,21 @@ module _ (s ns rs : List ℕ) (t : Filled) (long : Long t) (a : Accepted s ns rs
         by true false = end 25 (refused 25 g)
         by false q = end 31 (refused 31 g)
 
-    pub cycles-same : (vs : List ℕ) (xs : List Bool) → cycledOf (Cycles (prepared s ns rs t) g vs xs) ≡ cyclesRun s ns rs g vs xs
+    pub cycles-same : (vs xs : List ℕ) → cycledOf (Cycles (prepared s ns rs t) g vs xs) ≡ cyclesRun s ns rs g vs xs
     unfolding CyclesAreTheRuns filledIn fillLent cyclesRun cyclesOr
     cycles-same vs xs =
         ap (λ (u : Filled). cycledOf (Cycles u g vs xs)) filled-is
         ∙ ap cycledOf
         (cycles-are-the-runs m z (ruled m z (a .unbroken)) (plan.planOf ws) holds ns us rs (writtenBy m) ready (reach rs)
         (reach-counted rs) (t .lent) (replicate 4096 0) (t .table) (t .numbers) room g w vs xs (rowInputs (m .scope .inputs) vs xs)
-        (λ e. row-inputs m z vs xs e))
+        (λ e. row-inputs m z vs xs))
         ∙ many-is vs xs
         ∙ rw (a .lengths, a .extracts)
         (ap (λ (call : Registers → Inputs → Clocked). cyclesIn call g vs xs m T) (λ i g b. single g b i))
 
     -- ---- with the rows
 
-    pub trace-same : (d : Module Expr) → extractable s ≡ ok d → (vs : List ℕ) (xs : List Bool) (out : List ℕ) →
+    pub trace-same : (d : Module Expr) → extractable s ≡ ok d → (vs xs out : List ℕ) →
         Trace (prepared s ns rs t) g vs xs out ≡ tracedRun d (cycleRun s ns rs) g vs xs out
     unfolding TraceIsTheRuns filledIn fillLent tracedRun
     trace-same d o vs xs out =
@@ -239,7 +242,7 @@ module _ (s ns rs : List ℕ) (t : Filled) (long : Long t) (a : Accepted s ns rs
         ap (λ (u : Filled). Trace u g vs xs out) filled-is
         ∙ trace-is-the-runs m z (ruled m z (a .unbroken)) (plan.planOf ws) holds ns us rs (writtenBy m) ready (reach rs)
         (reach-counted rs) (t .lent) (replicate 4096 0) (t .table) (t .numbers) room g w vs xs (rowInputs (m .scope .inputs) vs xs)
-        (λ e. row-inputs m z vs xs e) out
+        (λ e. row-inputs m z vs xs) out
         ∙ ap (λ (call : Registers → Inputs → Clocked). tracedRun m call g vs xs out) (λ i g b. single g b i)
         ∙ ap (λ (n : Module Expr). tracedRun n (cycleRun s ns rs) g vs xs out) own
 
@@ -275,7 +278,7 @@ module _ (s ns rs : List ℕ) (n : ℕ) (e : n ≡ preparedNumber s ns rs) (d : 
       by true k = sheet (extractable s) k
       by false k = rw k
 
-  pub cycles-off : (vs : List ℕ) (xs : List Bool) → ended 0 n (refused n g) ≡ cyclesRun s ns rs g vs xs
+  pub cycles-off : (vs xs : List ℕ) → ended 0 n (refused n g) ≡ cyclesRun s ns rs g vs xs
   unfolding preparedNumber tablesNumber cyclesRun cyclesOr cyclesIn
   cycles-off vs xs = by (rightLengths ns rs) e
     where
@@ -301,13 +304,17 @@ module _ (s ns rs : List ℕ) (n : ℕ) (e : n ≡ preparedNumber s ns rs) (d : 
 abbrev Good : Registers → Type 0
 Good g = Is the-row g (val the-type the-laws g ∷ [])
 
+words-small : (ns us : List ℕ) (r : ℕ) → getD ns r 0 < 2 ^ 32 → getD us r 0 < 2 ^ 32 → small (valueAt ns us r) ≡ true
+unfolding valueAt
+words-small ns us r n u = is-small _ n u
+
 pub whole : (g : Registers) → Good g → Whole g
 whole g h =
     record {
       numbers = search needs;
-      flags = search needs;
+      marks = search needs;
       eight = search needs;
-      small = λ r. below-32 (search needs);
+      words = λ r. words-small (g .value) (g .unknown) r (below-32 (search needs)) (below-32 (search needs));
     }
 
 abbrev blank : Filled
@@ -331,6 +338,6 @@ module _ (s ns rs : List ℕ) {ws ls ts ms : List ℕ} (e : filled ws ls ts ms �
     pub cycle-on : (b : Inputs) → cycleOn (plan.planOf ws) (plan.nodeAt ls) ts ms g b ≡ cycleRun s ns rs g b
     cycle-on b = same .cycle b
 
-    pub cycles-on : (vs : List ℕ) (xs : List Bool) →
+    pub cycles-on : (vs xs : List ℕ) →
         cycledOf (cyclesOn (plan.planOf ws) (plan.nodeAt ls) ts ms g vs xs) ≡ cyclesRun s ns rs g vs xs
     cycles-on vs xs = same .cycles vs xs

@@ -17,7 +17,7 @@ use Rattle.sheet.specs.declared.SheetRead.{SheetRead}
 use Rattle.sheet.proofs.Trees.{trees}
 use Rattle.masks.specs.Masks.{bits, mask}
 use Rattle.masks.proofs.Masks.{mask-bits, length-bits}
-use Rattle.state.specs.Saved.{listOf}
+use Rattle.state.specs.Rows.{listOf}
 use Rattle.state.proofs.Rows.{length-listOf, getD-listOf}
 use Rattle.soundness.proofs.Soundness.{sound}
 use Rattle.plan.specs.Plan.{Plan, planOf}

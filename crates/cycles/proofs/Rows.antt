@@ -1,90 +1,53 @@
 -- Rows of inputs as a single cycle run is given them, and cycle run after cycle run as `run` answers. Assumes nothing.
-use mathlib.Core.Path.{_≡_, refl, sym, ap, _∙_}
-use mathlib.Core.Bool.{Bool, true, false, _&&_}
+use mathlib.Core.Path.{_≡_, refl, _∙_}
+use mathlib.Core.Bool.{Bool, true, false}
 use mathlib.Core.List.{List, [], _∷_}
-use Prim.Native.Nat.{ℕ, zero, suc, _+_, _-_, _*_, _/_, _%_, _≤_, _<_}
+use Prim.Native.Nat.{ℕ, zero, suc, _+_, _<_}
 use native.Mathlib.Omega.{arith}
-use borrow.Author.Tests.{eqb-true}
-use lib.ListN.{length, getD, length-append, List·getD-append}
+use lib.ListN.{getD, List·getD-append}
 use lib.Dec.{eqb}
-use Rattle.values.specs.declared.Value.the-variants.{Known, Unknown}
 use Rattle.values.specs.Values.{pick}
 use Rattle.values.specs.Planes.{valueAt}
-use Rattle.values.proofs.Planes.{valueAt-unknown, valueAt-known}
 use Rattle.sheet.specs.Expression.{Expr}
 use Rattle.sheet.specs.Module.{Module}
-use Rattle.state.specs.Saved.{listOf}
+use Rattle.state.specs.Rows.{listOf}
 use Rattle.state.proofs.Rows.{length-listOf, getD-listOf}
 use Rattle.soundness.specs.Soundness.{Sound}
 use Rattle.events.specs.declared.Inputs.{Inputs}
 use Rattle.events.specs.Calls.{inputOf}
-use Rattle.events.specs.Rows.{wholeRows}
-use Rattle.events.proofs.Cycle.{and-left, and-right}
 use Rattle.nextstate.specs.declared.Registers.{Registers}
 use Rattle.nextstate.specs.declared.Clocked.{Clocked}
 use Rattle.clock_run.specs.declared.Rounds.{Rounds}
 use Rattle.clock_run.specs.Rounds as rounds
 use Rattle.clock_run.specs.Rounds.{endedAt, rowAt, repeatFrom}
 use Rattle.clock_claims.specs.Claims.{RowInputs}
+use Rattle.clock_claims.proofs.Lists.{planes-same}
 use Rattle.cycles.specs.declared.Cycled.{Cycled}
 use Rattle.cycles.specs.Many.{itemsFrom, inputsFrom, rowInputs, registersOf, ended, cyclesFrom}
 use Rattle.cycles.specs.Claims.{cycledOf}
 
 -- ---- the items of a row
 
-module _ {A : Type 0} (xs : List A) (other : A) (i : ℕ) where
-  items-long : length (itemsFrom xs other i) ≡ 16
-  unfolding itemsFrom
-  items-long =
-      length-append (listOf 15 (λ v. getD xs (i + v) other)) (other ∷ []) ∙ rw (length-listOf (λ v. getD xs (i + v) other) 15)
+items-at : (ns : List ℕ) (i v : ℕ) → v < 15 → getD (itemsFrom ns i) v 0 ≡ getD ns (i + v) 0
+unfolding itemsFrom
+items-at ns i v l =
+    List·getD-append (listOf 15 (λ v. getD ns (i + v) 0)) (0 ∷ []) 0 v (omega (arith, length-listOf (λ v. getD ns (i + v) 0) 15))
+    ∙ getD-listOf (λ v. getD ns (i + v) 0) 15 v 0 l
 
-  items-at : (v : ℕ) → v < 15 → getD (itemsFrom xs other i) v other ≡ getD xs (i + v) other
-  unfolding itemsFrom
-  items-at v l =
-      List·getD-append (listOf 15 (λ v. getD xs (i + v) other)) (other ∷ []) other v
-      (omega (arith, length-listOf (λ v. getD xs (i + v) other) 15))
-      ∙ getD-listOf (λ v. getD xs (i + v) other) 15 v other l
-
--- Item v of a row that the planes have.
-item-value :
-    (inputs : ℕ) (ns : List ℕ) (xs : List Bool) (r v : ℕ) → v < 15 → rowAt r + v < length ns → length xs ≡ length ns →
-    inputOf (rowInputs inputs ns xs r) v ≡ valueAt ns xs (rowAt r + v)
+-- Item v of a row.
+item-value : (inputs : ℕ) (ns us : List ℕ) (r v : ℕ) → v < 15 → inputOf (rowInputs inputs ns us r) v ≡ valueAt ns us (rowAt r + v)
 unfolding inputOf rowInputs inputsFrom
-item-value inputs ns xs r v l o e = by (getD xs (i + v) false) refl
-  where
-    i : ℕ
-    i = rowAt r
+item-value inputs ns us r v l =
+    planes-same (itemsFrom ns (rowAt r)) (itemsFrom us (rowAt r)) ns us v (rowAt r + v) (items-at ns (rowAt r) v l)
+    (items-at us (rowAt r) v l)
 
-    numbers : List ℕ
-    numbers = itemsFrom ns 0 i
-
-    flags : List Bool
-    flags = itemsFrom xs false i
-
-    by : (t : Bool) → getD xs (i + v) false ≡ t → valueAt numbers flags v ≡ valueAt ns xs (i + v)
-    by true h =
-        valueAt-unknown numbers flags v (omega (arith, items-long xs false i)) (items-at xs false i v l ∙ h)
-        ∙ sym (valueAt-unknown ns xs (i + v) (omega arith) h)
-    by false h =
-        valueAt-known numbers flags v (omega (arith, items-long ns 0 i)) (omega (arith, items-long xs false i)) (items-at xs false i v l ∙ h)
-        ∙ ap Known (items-at ns 0 i v l)
-        ∙ sym (valueAt-known ns xs (i + v) o (omega arith) h)
-
-pub row-inputs : (m : Module Expr) → Sound m → (vs : List ℕ) (xs : List Bool) → wholeRows vs xs ≡ true →
-    RowInputs m vs xs (rowInputs (m .scope .inputs) vs xs)
-unfolding wholeRows rowInputs inputsFrom
-row-inputs m z vs xs w =
-    let n = eqb-true (length xs) (length vs) (and-right (eqb (length vs % 16) 0) (eqb (length xs) (length vs)) w) in
+pub row-inputs : (m : Module Expr) → Sound m → (vs xs : List ℕ) → RowInputs m vs xs (rowInputs (m .scope .inputs) vs xs)
+unfolding rowInputs inputsFrom
+row-inputs m z vs xs =
     record {
-      count = count;
-      item = λ r v o u. item-value (m .scope .inputs) vs xs r v (omega (arith, z .inputs-most)) (inside r v o (omega (arith, z .inputs-most))) n;
+      count = λ r. omega (arith, z .inputs-some);
+      item = λ r v o u. item-value (m .scope .inputs) vs xs r v (omega (arith, z .inputs-most));
     }
-  where
-    count : (r : ℕ) → rowInputs (m .scope .inputs) vs xs r .count + 1 ≡ m .scope .inputs
-    count r = omega (arith, z .inputs-some)
-
-    inside : (r v : ℕ) → r < length vs / 16 → v < 15 → rowAt r + v < length vs
-    inside r v o u = omega arith
 
 -- ---- cycle after cycle
 

@@ -1,7 +1,6 @@
 -- What is claimed of `prepare`: where it answers 0, whatever the tables held before, `clock_run`'s calls on what it filled are document
 -- 01's cycle run on the sheet and the lent tables. proofs/Claims shows it.
 use mathlib.Core.Path.{_≡_}
-use mathlib.Core.Bool.{Bool}
 use mathlib.Core.List.{List}
 use Prim.Native.Nat.{ℕ, _*_, _/_}
 use lib.Dec.{ltb}
@@ -37,7 +36,7 @@ unfoldable pub cycledOf : Rounds → Cycled
 cycledOf x = ended (x .cycles) (x .number) (x .last)
 
 -- Cycle run after cycle run, with two rows of 88 words for each cycle: 23 where not so many are lent, 31, 25.
-unfoldable pub tracedRun : Module Expr → (Registers → Inputs → Clocked) → Registers → List ℕ → List Bool → List ℕ → Traced
+unfoldable pub tracedRun : Module Expr → (Registers → Inputs → Clocked) → Registers → List ℕ → List ℕ → List ℕ → Traced
 tracedRun m call g vs xs out =
     pick (ltb (length out / 88) (2 * (length vs / 16))) (traced (endedAt 0 23 (refused 23 g)) out)
     (pick (registersFit m g)
@@ -48,9 +47,9 @@ tracedRun m call g vs xs out =
 -- The calls on filled tables, from registers as every caller has them, are those on the sheet.
 pub record Same (s ns rs : List ℕ) (t : Filled) (g : Registers) : Type 0 where
   pub cycle : (a : Inputs) → cycleOn (planOf (t .plan)) (nodeAt (t .lent)) (t .table) (t .numbers) g a ≡ cycleRun s ns rs g a
-  pub cycles : (vs : List ℕ) (xs : List Bool) →
+  pub cycles : (vs xs : List ℕ) →
       cycledOf (cyclesOn (planOf (t .plan)) (nodeAt (t .lent)) (t .table) (t .numbers) g vs xs) ≡ cyclesRun s ns rs g vs xs
-  pub trace : (m : Module Expr) → extractable s ≡ ok m → (vs : List ℕ) (xs : List Bool) (out : List ℕ) →
+  pub trace : (m : Module Expr) → extractable s ≡ ok m → (vs xs out : List ℕ) →
       traceOn (planOf (t .plan)) (nodeAt (t .lent)) (t .table) (t .numbers) g vs xs out ≡ tracedRun m (cycleRun s ns rs) g vs xs out
 
 unfoldable pub OnTheSheet : Type 0

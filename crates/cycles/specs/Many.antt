@@ -1,6 +1,5 @@
 -- Many clock cycles in one call: rows of inputs, a cycle run for each row. It is defined by the single cycle runs, each handed the
 -- registers and places that the last one gave back, up to the first that is refused.
-use mathlib.Core.Bool.{Bool, false}
 use mathlib.Core.List.{List, [], _∷_, _++_}
 use Prim.Native.Nat.{ℕ, zero, suc, _+_, _-_, _*_, _/_}
 use lib.ListN.{length, getD}
@@ -9,7 +8,7 @@ use Rattle.values.specs.Values.{pick}
 use Rattle.sheet.specs.Reading.{Res, ok, no}
 use Rattle.sheet.specs.Expression.{Expr}
 use Rattle.sheet.specs.Module.{Module}
-use Rattle.state.specs.Saved.{listOf}
+use Rattle.state.specs.Rows.{listOf}
 use Rattle.events.specs.declared.Inputs.{Inputs}
 use Rattle.events.specs.Rows.{wholeRows}
 use Rattle.nextstate.specs.declared.Registers.{Registers}
@@ -21,16 +20,15 @@ use Rattle.cycles.specs.declared.Cycled.{Cycled}
 -- ---- rows of 16: item 0, the clock's, isn't looked at, item v + 1 is input item v of the cycle run
 
 -- 15 items from a place on, and one more, which no sheet has an input for.
-unfoldable pub itemsFrom : {A : Type 0} → List A → A → ℕ → List A
-itemsFrom xs other i = listOf 15 (λ v. getD xs (i + v) other) ++ (other ∷ [])
+unfoldable pub itemsFrom : List ℕ → ℕ → List ℕ
+itemsFrom ns i = listOf 15 (λ v. getD ns (i + v) 0) ++ (0 ∷ [])
 
-unfoldable pub inputsFrom : ℕ → List ℕ → List Bool → ℕ → Inputs
-inputsFrom inputs ns xs i =
-    record { count = inputs - 1; value = itemsFrom ns 0 i; unknown = itemsFrom xs false i }
+unfoldable pub inputsFrom : ℕ → List ℕ → List ℕ → ℕ → Inputs
+inputsFrom inputs ns us i = record { count = inputs - 1; value = itemsFrom ns i; unknown = itemsFrom us i }
 
 -- The inputs of row r, for a sheet of so many.
-unfoldable pub rowInputs : ℕ → List ℕ → List Bool → ℕ → Inputs
-rowInputs inputs ns xs r = inputsFrom inputs ns xs (16 * r + 1)
+unfoldable pub rowInputs : ℕ → List ℕ → List ℕ → ℕ → Inputs
+rowInputs inputs ns us r = inputsFrom inputs ns us (16 * r + 1)
 
 -- ---- the cycle runs
 
@@ -64,7 +62,7 @@ module _ (call : Registers → Inputs → Clocked) (inputs : ℕ → Inputs) whe
 abbrev pub atOnce : ℕ → Registers → Cycled
 atOnce n g = ended 0 n (refused n g)
 
-module _ (call : Registers → Inputs → Clocked) (g : Registers) (value : List ℕ) (unknown : List Bool) where
+module _ (call : Registers → Inputs → Clocked) (g : Registers) (value unknown : List ℕ) where
   -- Before the first cycle the registers and places are as handed, and the wires x.
   unfoldable pub cyclesOf : ℕ → Cycled
   cyclesOf inputs = cyclesFrom call (rowInputs inputs value unknown) (length value / 16) 0 (refused 0 g)
@@ -82,6 +80,6 @@ module _ (call : Registers → Inputs → Clocked) (g : Registers) (value : List
   cyclesOr (ok m) T = cyclesIn m T
   cyclesOr (no n p) T = atOnce n g
 
-unfoldable pub cyclesRun : List ℕ → List ℕ → List ℕ → Registers → List ℕ → List Bool → Cycled
+unfoldable pub cyclesRun : List ℕ → List ℕ → List ℕ → Registers → List ℕ → List ℕ → Cycled
 cyclesRun s ns rs g value unknown =
     pick (rightLengths ns rs) (cyclesOr (cycleRun s ns rs) g value unknown (extractable s) (tablesIn ns rs)) (atOnce 23 g)

@@ -9,7 +9,7 @@ use Rattle.sheet.specs.Expression.{Expr, located}
 use Rattle.sheet.specs.Module.{Module, readSheet}
 use Rattle.sheet.specs.Answers.{sheetAnswer}
 use Rattle.masks.specs.Masks.{mask}
-use Rattle.state.specs.Saved.{listOf}
+use Rattle.state.specs.Rows.{listOf}
 use Rattle.plan.specs.Plan.{planOf}
 use Rattle.plan_fill.specs.Filling.{filledPlan}
 use Rattle.nextstate.specs.Rules.{writes}

@@ -25,10 +25,10 @@ pub struct Cycled {
     pub cycles: usize,
     pub number: u8,
     pub value: [u32; 32],
-    pub unknown: [bool; 32],
+    pub unknown: [u32; 32],
     pub places: [u8; 8],
     pub wire: [u32; 32],
-    pub unsure: [bool; 32],
+    pub unsure: [u32; 32],
 }
 
 // ---- preparing
@@ -146,7 +146,7 @@ fn refused(number: u8, before: Registers) -> Clocked
     let unknown = before.unknown;
     let places = before.places;
     let wire = [0u32; 32];
-    let unsure = [true; 32];
+    let unsure = [4294967295u32; 32];
     Clocked {
         number,
         value,
@@ -214,7 +214,7 @@ fn cycled_of(r: Rounds) -> Cycled
     ended(r.cycles, r.number, last)
 }
 
-// Many cycles: whole rows of 16 inputs, the clock's in front, each with its flag; a cycle for each row, from what the last one left,
+// Many cycles: whole rows of 16 inputs, the clock's in front, each with its marks; a cycle for each row, from what the last one left,
 // up to the first that is refused.
 pub fn run(
     sheet: &[u8],
@@ -222,7 +222,7 @@ pub fn run(
     rows: &[u16],
     before: Registers,
     value: &[u32],
-    unknown: &[bool],
+    unknown: &[u32],
 ) -> Cycled
     ensures { λ r. ⌜
         r ≡ cyclesRun (now (sheet .entry)) (now (nodes .entry)) (now (rows .entry)) before (now (value .entry)) (now (unknown .entry))

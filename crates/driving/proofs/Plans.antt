@@ -1,22 +1,22 @@
 -- Laws by which the code goes on a plan, and those of a state's parts. Assumes nothing.
 use mathlib.Core.Path.{_≡_, refl, sym, ap, _∙_}
 use mathlib.Core.Bool.{Bool, true, false}
-use mathlib.Core.List.{List, [], _∷_, _++_}
-use Prim.Native.Nat.{ℕ, zero, suc, _+_, _<_, _≤_}
-use native.Mathlib.Nat.{not-suc-le-zero, le-of-suc-le-suc}
+use mathlib.Core.List.{List, _++_}
+use Prim.Native.Nat.{ℕ, _+_, _<_, _≤_}
 use native.Mathlib.Omega.{arith}
 use borrow.Author.Tests.{lt-ltb, le-ltb, eq-eqb, ne-eqb}
 use lib.ListN.{length, getD, length-append, List·getD-eq-default}
 use lib.Seq.{sets}
+use Rattle.values.specs.Planes.{valueAt}
+use Rattle.values.specs.Cells.{cellOf}
 use Rattle.state.specs.declared.State.{State}
-use Rattle.state.specs.State.{countOf, allowanceOf}
-use Rattle.state.specs.Saved.{listOf}
+use Rattle.state.specs.State.{countOf, allowanceOf, valueOf}
+use Rattle.state.specs.Rows.{listOf}
 use Rattle.state.proofs.Rows.{sets-append, sets-whole, length-listOf}
 use Rattle.events.specs.Calls.{spend}
 use Rattle.nextstate.specs.declared.Registers.{Registers}
 use Rattle.options.specs.declared.Way.{Way}
 use Rattle.plan.specs.Plan.{Plan}
-use Rattle.plan_state.specs.Planes.{marked}
 use Rattle.prepared.specs.Prepared.{roomIn, startAt}
 use Rattle.prepared_cycles.specs.declared.Driven.{Driven}
 use Rattle.prepared_cycles.specs.Traces.{placesIn, rowOf}
@@ -57,7 +57,7 @@ pub begun-is :
 unfolding begunAt
 begun-is q allowances u way st seed t d r a b c e f = f ∙ ap (restOf u way) (e ∙ (λ i. settledAt q (c i) (b i) (a i) u))
 
-module _ (q : Plan) (r : Rest) (u : ℕ) (ns : List ℕ) (xs : List Bool) (w : List ℕ) where
+module _ (q : Plan) (r : Rest) (u : ℕ) (ns xs w : List ℕ) where
   abbrev Answers : Traced → List ℕ → Type 0
   Answers t v = (t ≡ tracedAt q r u ns xs w) × (v ≡ rowsAt q r u ns xs w)
 
@@ -78,11 +78,11 @@ module _ (q : Plan) (r : Rest) (u : ℕ) (ns : List ℕ) (xs : List Bool) (w : L
 
 pub row-whole : (st : State) (zs us vs : List ℕ) → length zs ≡ 88 → us ≡ sets zs 0 (wordsOf (st .value) (st .unknown))
     → vs ≡ sets us 80 (placesIn (st .places)) → vs ≡ rowOf st
-unfolding rowOf
+unfolding rowOf valueOf
 row-whole st zs us vs l e f =
     let ws = wordsOf (st .value) (st .unknown) in
     let ps = placesIn (st .places) in
-    let n : length ws ≡ 80 = length-listOf (λ v. marked (getD (st .value) v 0) (getD (st .unknown) v false)) 80 in
+    let n : length ws ≡ 80 = length-listOf (λ v. cellOf (valueAt (st .value) (st .unknown) v)) 80 in
     let at-end : 80 ≡ 0 + length ws = omega arith in
     let k : length ps ≡ 8 = length-listOf (λ i. getD (st .places) i 0) 8 in
     f
@@ -93,18 +93,12 @@ row-whole st zs us vs l e f =
 
 -- ---- registers
 
-module _ {A : Type 0} where
-  pub getD-past : (l : List A) (d : A) (v : ℕ) → length l ≤ v → d ≡ getD l v d
-  getD-past l d v h = sym (List·getD-eq-default l d {n = v} h)
-
-  pub getD-any : (l : List A) (d e : A) (v : ℕ) → v < length l → getD l v d ≡ getD l v e
-  getD-any [] d e v h = absurd (not-suc-le-zero h)
-  getD-any (x ∷ l) d e zero h = refl
-  getD-any (x ∷ l) d e (suc v) h = getD-any l d e v (le-of-suc-le-suc h)
+pub getD-past : {A : Type 0} (l : List A) (d : A) (v : ℕ) → length l ≤ v → d ≡ getD l v d
+getD-past l d v h = sym (List·getD-eq-default l d {n = v} h)
 
 pub registers-is :
-    (inputs : ℕ) (st : State) (a : List ℕ) (x : List Bool) → a ≡ listOf 32 (λ r. getD (st .value) (inputs + r) 0) →
-    x ≡ listOf 32 (λ r. getD (st .unknown) (inputs + r) true) →
+    (inputs : ℕ) (st : State) (a x : List ℕ) → a ≡ listOf 32 (λ r. getD (st .value) (inputs + r) 0) →
+    x ≡ listOf 32 (λ r. getD (st .unknown) (inputs + r) 0) →
     _≡_ {A = Registers} (record { value = a; unknown = x; places = st .places }) (registersIn inputs st)
 unfolding registersIn
 registers-is inputs st a x e h = rw (e, h)

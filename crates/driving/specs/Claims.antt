@@ -21,9 +21,9 @@ pub record Same (s : List ℕ) (q : Plan) : Type 0 where
   pub begin : (allowances : List ℕ) → length allowances ≡ 4 → ((v : ℕ) → getD allowances v 0 < 2 ^ 32) → (u : ℕ) (way : Way)
       → begunAt q allowances u way ≡ begunOn s allowances u way
   -- Every state that code has is of such lengths and numbers.
-  pub trace : (r : Rest) → Shaped (r .state) → Bounded (r .state) → (u : ℕ) (ns : List ℕ) (xs : List Bool) (w : List ℕ)
+  pub trace : (r : Rest) → Shaped (r .state) → Bounded (r .state) → (u : ℕ) (ns xs w : List ℕ)
       → tracedAt q r u ns xs w ≡ tracedOn s r u ns xs w
-  pub rows : (r : Rest) → Shaped (r .state) → Bounded (r .state) → (u : ℕ) (ns : List ℕ) (xs : List Bool) (w : List ℕ)
+  pub rows : (r : Rest) → Shaped (r .state) → Bounded (r .state) → (u : ℕ) (ns xs w : List ℕ)
       → rowsAt q r u ns xs w ≡ rowsOn s r u ns xs w
 
 unfoldable pub OnTheSheet : Type 0

@@ -7,14 +7,15 @@ use Prim.Native.Nat.{ℕ, _+_}
 use lib.ListN.{length, getD}
 use lib.Dec.{ltb}
 use Rattle.values.specs.Values.{pick, _is_then_else_}
+use Rattle.values.specs.Planes.{valueAt}
+use Rattle.values.specs.Cells.{cellOf}
 use Rattle.state.specs.declared.State.{State}
-use Rattle.state.specs.Saved.{listOf}
+use Rattle.state.specs.Rows.{listOf}
 use Rattle.events.specs.Calls.{spend, start}
 use Rattle.nextstate.specs.declared.Registers.{Registers}
 use Rattle.options.specs.declared.Way.{Way}
 use Rattle.options.specs.declared.Way.the-variants.{Plain, Drawn, Expressed}
 use Rattle.plan.specs.Plan.{Plan}
-use Rattle.plan_state.specs.Planes.{marked}
 use Rattle.prepared.specs.Prepared.{startAt}
 use Rattle.prepared_cycles.specs.declared.Driven.{Driven}
 use Rattle.prepared_cycles.specs.Drives.{settled, driveCycles, drivenCycles, settledAt, driveAt, drivenAt}
@@ -54,7 +55,7 @@ traced p r = record { phases = p; rest = r }
 unfoldable pub begunAt : Plan → List ℕ → ℕ → Way → Rest
 begunAt q allowances u way = restOf u way (settledAt q (isDrawn way) (seedOf way) (startAt q allowances) u)
 
-module _ (q : Plan) (r : Rest) (u : ℕ) (ns : List ℕ) (xs : List Bool) (w : List ℕ) where
+module _ (q : Plan) (r : Rest) (u : ℕ) (ns xs w : List ℕ) where
   -- Where there is no row nothing is altered.
   unfoldable pub tracedAt : Traced
   tracedAt =
@@ -70,7 +71,7 @@ module _ (q : Plan) (r : Rest) (u : ℕ) (ns : List ℕ) (xs : List Bool) (w : L
 unfoldable pub begunOn : List ℕ → List ℕ → ℕ → Way → Rest
 begunOn s allowances u way = restOf u way (settled s (isDrawn way) (seedOf way) (start s allowances .state) u)
 
-module _ (s : List ℕ) (r : Rest) (u : ℕ) (ns : List ℕ) (xs : List Bool) (w : List ℕ) where
+module _ (s : List ℕ) (r : Rest) (u : ℕ) (ns xs w : List ℕ) where
   unfoldable pub tracedOn : Traced
   tracedOn =
       let d = driveCycles s (isDrawn (r .way)) (r .seed) (r .state) u ns xs w in
@@ -81,14 +82,14 @@ module _ (s : List ℕ) (r : Rest) (u : ℕ) (ns : List ℕ) (xs : List Bool) (w
 
 -- ---- a state's parts
 
-abbrev pub wordsOf : List ℕ → List Bool → List ℕ
-wordsOf ns xs = listOf 80 (λ v. marked (getD ns v 0) (getD xs v false))
+abbrev pub wordsOf : List ℕ → List ℕ → List ℕ
+wordsOf ns us = listOf 80 (λ v. cellOf (valueAt ns us v))
 
 -- A state's registers and places, as a cycle run is handed them.
 unfoldable pub registersIn : ℕ → State → Registers
 registersIn inputs st =
     record {
       value = listOf 32 (λ r. getD (st .value) (inputs + r) 0);
-      unknown = listOf 32 (λ r. getD (st .unknown) (inputs + r) true);
+      unknown = listOf 32 (λ r. getD (st .unknown) (inputs + r) 0);
       places = st .places;
     }

@@ -139,7 +139,7 @@ pub fn trace(
     r: Rest,
     user: u8,
     value: &[u32],
-    unknown: &[bool],
+    unknown: &[u32],
     out: &mut [u64],
 ) -> Traced
     ensures { λ t. ⌜ t ≡ tracedAt (planOf (now (plan .entry))) r user (now (value .entry)) (now (unknown .entry)) (now (out .entry)) ⌝ }

@@ -2,11 +2,10 @@
 use nextstate::Registers;
 use state::State;
 ghost use mathlib.Core.Path.{_≡_};
-ghost use mathlib.Core.Bool.{true};
 ghost use Prim.Native.Nat.{_+_};
 ghost use lib.ListN.{getD};
 ghost use lib.Seq.{sets};
-ghost use Rattle.state.specs.Saved.{listOf};
+ghost use Rattle.state.specs.Rows.{listOf};
 ghost use Rattle.prepared_cycles.specs.Traces.{placesIn, rowOf};
 ghost use Rattle.driving.specs.Plans.{wordsOf, registersIn};
 
@@ -20,12 +19,12 @@ fn wide(place: u8) -> u64
 }
 
 // The variables' words.
-fn put_words<'a>(value: &'a [u32; 80], unknown: &'a [bool; 80], row: &mut [u64; 88])
+fn put_words<'a>(value: &'a [u32; 80], unknown: &'a [u32; 80], row: &mut [u64; 88])
     ensures { λ _. ⌜ now (row .exit) ≡ sets (now (row .entry)) 0 (wordsOf (now (value .entry)) (now (unknown .entry))) ⌝ }
 {
     let mut v: usize = 0;
     while v < 80 {
-        row[v] = plan_state::marked(value[v], unknown[v]);
+        row[v] = values::store(values::value_at(value, unknown, v));
         v += 1;
     }
 }
@@ -70,17 +69,7 @@ fn number_at(numbers: &[u32], v: usize) -> u32
     numbers[v]
 }
 
-// The flag in a slot; past the end up.
-fn flag_at(flags: &[bool], v: usize) -> bool
-    ensures { λ r. ⌜ r ≡ getD (now (flags .entry)) v true ⌝ }
-{
-    if flags.len() <= v {
-        return true;
-    }
-    flags[v]
-}
-
-// 32 numbers from a slot on.
+// 32 numbers, or their marks, from a slot on.
 fn numbers_from(numbers: &[u32], from: u8) -> [u32; 32]
     ensures { λ r. ⌜ r ≡ listOf 32 (λ k. getD (now (numbers .entry)) (from + k) 0) ⌝ }
 {
@@ -94,26 +83,12 @@ fn numbers_from(numbers: &[u32], from: u8) -> [u32; 32]
     out
 }
 
-// 32 flags from a slot on.
-fn flags_from(flags: &[bool], from: u8) -> [bool; 32]
-    ensures { λ r. ⌜ r ≡ listOf 32 (λ k. getD (now (flags .entry)) (from + k) true) ⌝ }
-{
-    let first = place(from);
-    let mut out = [false; 32];
-    let mut k: usize = 0;
-    while k < 32 {
-        out[k] = flag_at(flags, first + k);
-        k += 1;
-    }
-    out
-}
-
 // A state's registers and places.
 pub fn registers_of(inputs: u8, st: State) -> Registers
     ensures { λ r. ⌜ r ≡ registersIn inputs st ⌝ }
 {
     let value = numbers_from(&st.value, inputs);
-    let unknown = flags_from(&st.unknown, inputs);
+    let unknown = numbers_from(&st.unknown, inputs);
     let places = st.places;
     Registers {
         value,

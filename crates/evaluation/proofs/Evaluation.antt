@@ -44,7 +44,7 @@ unfolding eval
 eval-fits env f (a-variable {v = v} m h e l) = f v l
 eval-fits env f (a-constant {w = w} {v = v} m b h e l) = fits-known w v l
 eval-fits env f (an-unknown {w = w} m b) = fits-unknown w
-eval-fits env f (a-unary {o = o} {a = a} m w x) = unary-fits o (a .width) (eval env (a .item))
+eval-fits env f (a-unary {o = o} {a = a} m w x) = unary-fits o (a .width) (eval env (a .item)) (eval-fits env f x)
 eval-fits env f (a-binary {o = o} {a = a} {b = b} m w x y e) =
     binary-fits o (a .width) (eval env (a .item)) (eval env (b .item)) (eval-fits env f x) (rw e (eval-fits env f y))
 eval-fits env f (a-conditional {c = c} {a = a} {b = b} m w z x y e) =

@@ -3,8 +3,8 @@ use mathlib.Core.Path.{_≡_, refl}
 use mathlib.Core.List.{List, [], _∷_}
 use Prim.Native.Nat.{ℕ, zero, suc}
 use Rattle.values.specs.declared.Value.{Value}
-use Rattle.values.specs.declared.Value.the-variants.{Known, Unknown}
-use Rattle.values.specs.Operators.{binaryWidth, sum, difference, flag, binaryKnown, binary, choice}
+use Rattle.values.specs.Values.{known, ones, allUnknown, holds}
+use Rattle.values.specs.Operators.{binaryWidth, sum, difference, flag, possible, marked, between, certain, both, binary, agreed, choice}
 use Rattle.sheet.specs.Reading.{word, wordOf}
 use Rattle.evaluation.specs.Bytes.{nothing, variableNode, binaryNode, conditionalNode, innerNode, nodeAt, evalAt}
 
@@ -14,38 +14,39 @@ widths = 1 ∷ 4 ∷ 4 ∷ 8 ∷ []
 
 -- The clock is x, variable 1 is 15, variable 2 is 5, variable 3 is x.
 abbrev env : ℕ → Value
-env zero = Unknown
-env (suc zero) = Known 15
-env (suc (suc zero)) = Known 5
-env (suc (suc (suc v))) = Unknown
+env zero = allUnknown 1
+env (suc zero) = known 15
+env (suc (suc zero)) = known 5
+env (suc (suc (suc v))) = allUnknown 8
 
 -- "Width 4: 15 + 1 = 0": v1 + 1.
 abbrev sum-bytes : List ℕ
 sum-bytes = 0x31 ∷ 6 ∷ 0x02 ∷ 1 ∷ 0x0C ∷ 4 ∷ 1 ∷ 0 ∷ 0 ∷ 0 ∷ []
 
-pub sample-sum : evalAt 16 sum-bytes widths env 0 ≡ record { value = Known 0; width = 4; next = 10 }
-unfolding evalAt nodeAt innerNode variableNode binaryNode wordOf word binary binaryKnown sum binaryWidth
+pub sample-sum : evalAt 16 sum-bytes widths env 0 ≡ record { value = known 0; width = 4; next = 10 }
+unfolding evalAt nodeAt innerNode variableNode binaryNode wordOf word binary certain marked known sum binaryWidth
 sample-sum = refl
 
--- "8-bit x & 0 is x": v3 & 0.
-pub sample-x : evalAt 16 (0x31 ∷ 3 ∷ 0x02 ∷ 3 ∷ 0x0C ∷ 8 ∷ 0 ∷ 0 ∷ 0 ∷ 0 ∷ []) widths env 0 ≡ record { value = Unknown; width = 8; next = 10 }
-unfolding evalAt nodeAt innerNode variableNode binaryNode wordOf word binary binaryKnown binaryWidth
+-- "0 & x is 0": v3 & 0.
+pub sample-x : evalAt 16 (0x31 ∷ 3 ∷ 0x02 ∷ 3 ∷ 0x0C ∷ 8 ∷ 0 ∷ 0 ∷ 0 ∷ 0 ∷ []) widths env 0 ≡ record { value = known 0; width = 8; next = 10 }
+unfolding evalAt nodeAt innerNode variableNode binaryNode wordOf word binary both between possible known allUnknown ones binaryWidth
 sample-x = refl
 
--- "?: gives x on an x condition": v0 ? v1 : v1, though both arms are 15.
-pub sample-choice-x : evalAt 16 (0x71 ∷ 10 ∷ 0x02 ∷ 0 ∷ 0x02 ∷ 1 ∷ 0x02 ∷ 1 ∷ []) widths env 0 ≡ record { value = Unknown; width = 4; next = 8 }
-unfolding evalAt nodeAt innerNode variableNode conditionalNode choice
+-- "`?:` on an unknown condition keeps bits in which both arms agree": v0 ? v1 : v2 of 15 and 5 is 4'bx1x1.
+pub sample-choice-x : evalAt 16 (0x71 ∷ 10 ∷ 0x02 ∷ 0 ∷ 0x02 ∷ 1 ∷ 0x02 ∷ 2 ∷ []) widths env 0
+    ≡ record { value = record { number = 5; unknown = 10 }; width = 4; next = 8 }
+unfolding evalAt nodeAt innerNode variableNode conditionalNode choice holds agreed marked known allUnknown ones
 sample-choice-x = refl
 
 -- Nested: v1 < v2 ? v1 : v2 - v1, which is 5 - 15 at width 4.
 pub sample-nested : evalAt 16 (0x71 ∷ 10 ∷ 0x31 ∷ 9 ∷ 0x02 ∷ 1 ∷ 0x02 ∷ 2 ∷ 0x02 ∷ 1 ∷ 0x31 ∷ 7 ∷ 0x02 ∷ 2 ∷ 0x02 ∷ 1 ∷ []) widths env 0
-    ≡ record { value = Known 6; width = 4; next = 16 }
-unfolding evalAt nodeAt innerNode variableNode binaryNode conditionalNode binary binaryKnown difference flag binaryWidth choice
+    ≡ record { value = known 6; width = 4; next = 16 }
+unfolding evalAt nodeAt innerNode variableNode binaryNode conditionalNode binary certain marked known difference flag binaryWidth choice holds
 sample-nested = refl
 
 -- No level left, and no bytes.
-pub sample-deep : evalAt 1 sum-bytes widths env 0 ≡ record { value = Unknown; width = 0; next = 0 }
-unfolding evalAt nodeAt innerNode nothing binaryNode binary binaryWidth
+pub sample-deep : evalAt 1 sum-bytes widths env 0 ≡ record { value = allUnknown 0; width = 0; next = 0 }
+unfolding evalAt nodeAt innerNode nothing binaryNode binary certain marked known sum allUnknown ones binaryWidth
 sample-deep = refl
 
 pub sample-empty : evalAt 16 [] widths env 0 ≡ nothing

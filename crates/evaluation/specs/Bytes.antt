@@ -4,7 +4,7 @@ use Prim.Native.Nat.{ℕ, zero, suc, _+_}
 use mathlib.Core.List.{List}
 use lib.ListN.{getD}
 use Rattle.values.specs.declared.Value.{Value}
-use Rattle.values.specs.declared.Value.the-variants.{Known, Unknown}
+use Rattle.values.specs.Values.{known, allUnknown}
 use Rattle.values.specs.Values.{_is_then_else_}
 use Rattle.values.specs.Operators.{unaryWidth, binaryWidth, unary, binary, choice}
 use Rattle.sheet.specs.Reading.{wordOf}
@@ -13,7 +13,7 @@ use Rattle.evaluation.specs.declared.Evaluated.{Evaluated}
 -- ---- nothing: where no expression stands
 
 unfoldable pub nothing : Evaluated
-nothing = record { value = Unknown; width = 0; next = 0 }
+nothing = record { value = allUnknown 0; width = 0; next = 0 }
 
 -- ---- one node, by the byte after its map; what follows that byte stands at p, and `operand` evaluates an operand
 
@@ -42,7 +42,7 @@ conditionalNode operand p =
 -- 71h with 10 ?:."
 unfoldable pub innerNode : (ℕ → Evaluated) → ℕ → ℕ → ℕ → Evaluated
 innerNode operand m o p =
-    m is 0x04 then record { value = Unknown; width = o; next = p } else
+    m is 0x04 then record { value = allUnknown o; width = o; next = p } else
     m is 0x11 then unaryNode operand o p else
     m is 0x31 then binaryNode operand o p else
     m is 0x71 then conditionalNode operand p else
@@ -54,7 +54,7 @@ innerNode operand m o p =
 unfoldable pub nodeAt : (ℕ → Evaluated) → List ℕ → List ℕ → (ℕ → Value) → ℕ → ℕ → Evaluated
 nodeAt operand s ws env m p =
     m is 0x02 then variableNode ws env (getD s (p + 1) 0) (p + 2) else
-    m is 0x0C then record { value = Known (wordOf s (p + 2)); width = getD s (p + 1) 0; next = p + 6 } else
+    m is 0x0C then record { value = known (wordOf s (p + 2)); width = getD s (p + 1) 0; next = p + 6 } else
     innerNode operand m (getD s (p + 1) 0) (p + 2)
 
 unfoldable pub evalAt : ℕ → List ℕ → List ℕ → (ℕ → Value) → ℕ → Evaluated

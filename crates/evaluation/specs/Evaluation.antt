@@ -3,7 +3,7 @@ use Prim.Native.Nat.{ℕ}
 use mathlib.Core.Bool.{Bool, false, _||_}
 use lib.Dec.{eqb}
 use Rattle.values.specs.declared.Value.{Value}
-use Rattle.values.specs.declared.Value.the-variants.{Known, Unknown}
+use Rattle.values.specs.Values.{known, allUnknown}
 use Rattle.values.specs.Operators as operators
 use Rattle.sheet.specs.Expression.{Expr, variable, constant, unknown, unary, binary, conditional}
 
@@ -13,8 +13,8 @@ use Rattle.sheet.specs.Expression.{Expr, variable, constant, unknown, unary, bi
 -- x condition and else the chosen arm": that is in the operators.
 unfoldable pub eval : (ℕ → Value) → Expr → Value
 eval env (variable v) = env v
-eval env (constant w n) = Known n
-eval env (unknown w) = Unknown
+eval env (constant w n) = known n
+eval env (unknown w) = allUnknown w
 eval env (unary o w a) = operators.unary o w (eval env a)
 eval env (binary o w a b) = operators.binary o w (eval env a) (eval env b)
 eval env (conditional c a b) = operators.choice (eval env c) (eval env a) (eval env b)

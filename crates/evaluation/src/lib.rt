@@ -20,7 +20,7 @@ fn nothing() -> Evaluated
     ensures { λ r. ⌜ r ≡ nothing ⌝ }
 {
     Evaluated {
-        value: Value::Unknown,
+        value: values::all_unknown(0),
         width: 0,
         next: 0,
     }
@@ -30,7 +30,7 @@ fn nothing() -> Evaluated
 fn eval_variable<'a>(
     widths: &[u8],
     value: &'a [u32; 80],
-    unknown: &'a [bool; 80],
+    unknown: &'a [u32; 80],
     v: u8,
     next: usize,
 ) -> Evaluated
@@ -49,7 +49,7 @@ fn eval_operand<'a>(
     sheet: &[u8],
     widths: &[u8],
     value: &'a [u32; 80],
-    unknown: &'a [bool; 80],
+    unknown: &'a [u32; 80],
     at: usize,
     depth: u8,
 ) -> Evaluated
@@ -73,7 +73,7 @@ fn eval_unary<'a>(
     sheet: &[u8],
     widths: &[u8],
     value: &'a [u32; 80],
-    unknown: &'a [bool; 80],
+    unknown: &'a [u32; 80],
     op: u8,
     at: usize,
     depth: u8,
@@ -95,7 +95,7 @@ fn eval_binary<'a>(
     sheet: &[u8],
     widths: &[u8],
     value: &'a [u32; 80],
-    unknown: &'a [bool; 80],
+    unknown: &'a [u32; 80],
     op: u8,
     at: usize,
     depth: u8,
@@ -119,7 +119,7 @@ fn eval_conditional<'a>(
     sheet: &[u8],
     widths: &[u8],
     value: &'a [u32; 80],
-    unknown: &'a [bool; 80],
+    unknown: &'a [u32; 80],
     at: usize,
     depth: u8,
 ) -> Evaluated
@@ -143,7 +143,7 @@ fn eval_inner<'a>(
     sheet: &[u8],
     widths: &[u8],
     value: &'a [u32; 80],
-    unknown: &'a [bool; 80],
+    unknown: &'a [u32; 80],
     map: u8,
     field: u8,
     at: usize,
@@ -153,7 +153,7 @@ fn eval_inner<'a>(
 {
     match map {
         0x04 => Evaluated {
-            value: Value::Unknown,
+            value: values::all_unknown(field),
             width: field,
             next: at,
         },
@@ -170,7 +170,7 @@ pub fn eval_expr<'a>(
     sheet: &[u8],
     widths: &[u8],
     value: &'a [u32; 80],
-    unknown: &'a [bool; 80],
+    unknown: &'a [u32; 80],
     at: usize,
     depth: u8,
 ) -> Evaluated
@@ -188,7 +188,7 @@ pub fn eval_expr<'a>(
     match map {
         0x02 => eval_variable(widths, value, unknown, field, rest),
         0x0C => Evaluated {
-            value: Value::Known(word_at(sheet, rest)),
+            value: values::known(word_at(sheet, rest)),
             width: field,
             next: at + 6,
         },

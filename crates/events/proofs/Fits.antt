@@ -1,7 +1,7 @@
 -- A state that fits the sheet (the condition of number 31), as facts: `Fits`. It is `stateFits` both ways (fits-state,
 -- state-fits), the state at the start has it (fits-started), and every step and instant keeps it (fits-step, fits-instant,
 -- fits-chooseIn, fits-instantIn). Assumes nothing.
-use mathlib.Core.Path.{_≡_, refl, sym, _∙_}
+use mathlib.Core.Path.{_≡_, refl, sym, ap, _∙_}
 use mathlib.Core.Logic.{_≢_}
 use mathlib.Core.Bool.{Bool, true, false, not, _&&_}
 use mathlib.Core.List.{List}
@@ -10,14 +10,13 @@ use Prim.Native.Nat.{ℕ, zero, suc, _+_, _-_, _≤_, _<_}
 use native.Mathlib.Decide.{ℕ-discrete, decLt}
 use native.Mathlib.Omega.{arith}
 use lib.ListN.{length, getD, replicate, List·getD-eq-default, set, length-set}
-use lib.Seq.{getD-set-same, getD-set-other}
+use lib.Seq.{set-getD, getD-set-same, getD-set-other}
 use lib.Dec.{ltb, leb, eqb}
 use borrow.Author.Tests.{not-true, ltb-true, lt-ltb, le-ltb, leb-true, le-leb}
 use Rattle.values.specs.declared.Value.{Value}
-use Rattle.values.specs.declared.Value.the-variants.{Unknown}
-use Rattle.values.specs.Values.{fits}
+use Rattle.values.specs.Values.{ones, allUnknown, fits}
 use Rattle.values.specs.Planes.{valueAt}
-use Rattle.values.proofs.Values.{pick-same, fits-unknown}
+use Rattle.values.proofs.Values.{fits-unknown}
 use Rattle.sheet.specs.Expression.{Expr}
 use Rattle.sheet.specs.Statement.{Scope}
 use Rattle.sheet.specs.Module.{Module}
@@ -25,10 +24,11 @@ use Rattle.evaluation.specs.Evaluation.{eval, reads}
 use Rattle.pseudocode.specs.Translation.{Instr, set!, later!, go, ifnot}
 use Rattle.state.specs.declared.State.{State}
 use Rattle.state.specs.State.{Shaped, users, countOf, allowanceOf, valueOf, pendingOf, placeOf, isDue}
+use Rattle.state.proofs.Rows.{length-listOf, getD-listOf}
 use Rattle.soundness.specs.Soundness.{Fitting, Sound, SoundTarget, SoundInstr, sound-wait, sound-set, sound-later, sound-go, sound-ifnot}
 use Rattle.events.specs.declared.Inputs.{Inputs}
 use Rattle.events.specs.Cycle.{codeOf, wireExpr, wireVariable, allBelow, isSome, quiet, waitFires, feed}
-use Rattle.events.specs.Calls.{dueBelow, started, widthOf, pendingFits, stateFits, refusal, performed, chooseIn, inputOf, inputsFit, timed, instantRefusal, instantIn}
+use Rattle.events.specs.Calls.{unset, dueBelow, started, widthOf, pendingFits, stateFits, refusal, performed, chooseIn, inputOf, inputsFit, timed, instantRefusal, instantIn}
 use Rattle.events.specs.Steps.{latest, Calm, Fired, goes-on, stays, Marked, was-due, reads-changed, not-due, Acts, assigns, defers, jumps, goes-in, passes-by, settles, commits, Step, Instant}
 use Rattle.events.proofs.Cycle.{absurd-bool, and-left, and-right, all-below, below-all, wireExpr-past, Variable, a-register, no-register, register?}
 use Rattle.events.proofs.Choices.{isSome-none, none-isSome, sound-current, Ready, ready-refusal, user-refusal, room-refusal, chooseIn-accepted, chooseIn-refused, accepted-instant, instantIn-accepted, instantIn-refused}
@@ -375,6 +375,10 @@ module _ (m : Module Expr) (w : Sound m) (st : State) (s : Shaped st) (f : Fits 
 
 -- ---- the start
 
+-- within a list the default counts for nothing
+getD-within : {A : Type 0} (l : List A) (n : ℕ) (d e : A) → n < length l → getD l n d ≡ getD l n e
+getD-within l n d e h = ap (λ s. getD s n d) (sym (set-getD l n e)) ∙ getD-set-same l n (getD l n e) d h
+
 getD-all : {A : Type 0} (n i : ℕ) (a : A) → getD (replicate n a) i a ≡ a
 getD-all zero i a = refl
 getD-all (suc n) zero a = refl
@@ -398,14 +402,14 @@ getD-dueBelow (suc n) k h = by (ℕ-discrete k n) (decLt k n) (getD-dueBelow n k
     by (no d) (no b) q l =
         getD-set-other (dueBelow n) n k true false d ∙ q ∙ le-ltb k n (omega arith) ∙ sym (le-ltb k (suc n) (omega arith))
 
--- The start with n wires and these four allowances.
-module _ (n : ℕ) (allowances : List ℕ) where
-  pub shaped-started : length allowances ≡ users → Shaped (started n allowances)
+-- The start with these widths, n wires and these four allowances.
+module _ (ws : List ℕ) (n : ℕ) (allowances : List ℕ) where
+  pub shaped-started : length allowances ≡ users → Shaped (started ws n allowances)
   unfolding started
   shaped-started h =
       record {
         value = refl;
-        unknown = refl;
+        unknown = length-listOf (λ v. ones (getD ws v 32)) 80;
         pending = refl;
         unsure = refl;
         held = refl;
@@ -415,44 +419,56 @@ module _ (n : ℕ) (allowances : List ℕ) where
         allowances = h;
       }
 
-  pub value-started : (v : ℕ) → valueOf (started n allowances) v ≡ Unknown
-  unfolding started valueOf valueAt
-  value-started v = rw (getD-all 80 v true) (pick-same (ltb v 80) Unknown)
+  pub value-started : (v : ℕ) → v < 80 → valueOf (started ws n allowances) v ≡ unset ws v
+  unfolding started valueOf valueAt unset allUnknown
+  value-started v h =
+      let none = getD-all {A = ℕ} 80 v 0 in
+      let marks = getD-listOf (λ u. ones (getD ws u 32)) 80 v 0 h in
+      λ i. record { number = none i; unknown = marks i }
 
-  pub pending-started : (r : ℕ) → pendingOf (started n allowances) r ≡ none
+  pub pending-started : (r : ℕ) → pendingOf (started ws n allowances) r ≡ none
   unfolding started pendingOf
   pending-started r = rw (getD-all 32 r false)
 
-  pub place-started : (i : ℕ) → placeOf (started n allowances) i ≡ 0
+  pub place-started : (i : ℕ) → placeOf (started ws n allowances) i ≡ 0
   unfolding started placeOf
   place-started i = getD-all 8 i 0
 
-  pub due-started : (k : ℕ) → n ≤ 32 → isDue (started n allowances) k ≡ ltb k n
+  pub due-started : (k : ℕ) → n ≤ 32 → isDue (started ws n allowances) k ≡ ltb k n
   unfolding started isDue
   due-started k h = getD-dueBelow n k h
 
-  pub time-started : started n allowances .counters .time ≡ 0
+  pub time-started : started ws n allowances .counters .time ≡ 0
   unfolding started
   time-started = refl
 
-  pub count-started : (u : ℕ) → countOf (started n allowances) u ≡ 0
+  pub count-started : (u : ℕ) → countOf (started ws n allowances) u ≡ 0
   unfolding started countOf
   count-started u = getD-all 4 u 0
 
-  pub allowance-started : (u : ℕ) → allowanceOf (started n allowances) u ≡ getD allowances u 0
+  pub allowance-started : (u : ℕ) → allowanceOf (started ws n allowances) u ≡ getD allowances u 0
   unfolding started allowanceOf
   allowance-started u = refl
 
+-- A variable that nothing was stored in fits its width.
+pub unset-fits : (m : Module Expr) (v : ℕ) → v < length (m .scope .widths) → fits (widthOf m v) (unset (m .scope .widths) v) ≡ true
+unfolding unset widthOf
+unset-fits m v h =
+    rw (getD-within (m .scope .widths) v 32 0 h) (fits-unknown (getD (m .scope .widths) v 0))
+
 -- "At the start all is x, places and counters 0, every wire due."
-pub fits-started : (m : Module Expr) → Sound m → (allowances : List ℕ) → Fits m (started (length (m .wires)) allowances)
+pub fits-started : (m : Module Expr) → Sound m → (allowances : List ℕ) → Fits m (started (m .scope .widths) (length (m .wires)) allowances)
 unfolding pendingFits codeOf
 fits-started m w allowances =
     let n = length (m .wires) in
+    let ws = m .scope .widths in
     record {
-      values = λ v l. rw (value-started n allowances v) (fits-unknown (widthOf m v));
-      pending = λ r l. rw (pending-started n allowances r) refl;
-      places = λ i l. rw (place-started n allowances i) (w .code i l .some);
-      marks-past = λ k l. due-started n allowances k (w .wires-most) ∙ le-ltb k n l;
-      pending-past = λ r l. pending-started n allowances r;
-      counts = λ u l. rw (count-started n allowances u) (omega arith);
+      values = λ v l.
+          rw (value-started ws n allowances v (omega (arith, w .variables, w .inputs-most, w .registers-most, w .wires-most)))
+          (unset-fits m v l);
+      pending = λ r l. rw (pending-started ws n allowances r) refl;
+      places = λ i l. rw (place-started ws n allowances i) (w .code i l .some);
+      marks-past = λ k l. due-started ws n allowances k (w .wires-most) ∙ le-ltb k n l;
+      pending-past = λ r l. pending-started ws n allowances r;
+      counts = λ u l. rw (count-started ws n allowances u) (omega arith);
     }

@@ -2,7 +2,7 @@
 use mathlib.Core.Path.{_≡_, refl, ap, sym, _∙_}
 use mathlib.Core.Logic.{_≢_}
 use mathlib.Core.Bool.{Bool, true, false}
-use mathlib.Core.List.{List}
+use mathlib.Core.List.{List, []}
 use Prim.Native.Nat.{ℕ, zero, suc, _+_, _<_}
 use native.Mathlib.Omega.{arith}
 use lib.Dec.{eqb, ltb}
@@ -29,11 +29,11 @@ use Rattle.events.proofs.Accepted.{numbered, Judged, refuses, called, j
 
 -- ---- start
 
-refused-start : (s allowances : List ℕ) → start s allowances .number ≢ 0 → start s allowances .state ≡ started 0 allowances
+refused-start : (s allowances : List ℕ) → start s allowances .number ≢ 0 → start s allowances .state ≡ started [] 0 allowances
 unfolding start startOf
 refused-start s allowances h = by (read s) h
   where
-    by : (x : Res (Module Expr)) → startOf x allowances .number ≢ 0 → startOf x allowances .state ≡ started 0 allowances
+    by : (x : Res (Module Expr)) → startOf x allowances .number ≢ 0 → startOf x allowances .state ≡ started [] 0 allowances
     by (ok m) z = absurd (z refl)
     by (no n p) z = refl
 

@@ -7,17 +7,17 @@ use Prim.Native.Nat.{ℕ, zero, suc}
 use lib.ListN.{replicate}
 use lib.Dec.{eqb}
 use Rattle.values.specs.declared.Value.{Value}
-use Rattle.values.specs.declared.Value.the-variants.{Known, Unknown}
 use Rattle.values.specs.declared.Edge.the-variants.{Change, Posedge}
-use Rattle.values.specs.Values.{fits, same}
+use Rattle.values.specs.Values.{known, ones, allUnknown, fits, same}
 use Rattle.values.specs.Edges.{level, moves, fires}
-use Rattle.values.specs.Planes.{valueAt, numberOf, isUnknown}
+use Rattle.values.specs.Planes.{valueAt, numberOf, marksOf}
 use Rattle.sheet.specs.Expression.{Expr, variable, constant, unary}
 use Rattle.sheet.specs.Statement.{Stmt, assign, later, sequence, wait, size}
 use Rattle.sheet.specs.Module.{Module}
 use Rattle.evaluation.specs.Evaluation.{eval, reads}
 use Rattle.pseudocode.specs.Translation.{translate, threadCode}
 use Rattle.state.specs.declared.State.{State}
+use Rattle.state.specs.Rows.{listOf}
 use Rattle.state.specs.State.{countOf, allowanceOf, withPlanes, withSlots, withPlaces, withMarks, withCounters, valueOf, withValue, pendingOf, withPending, withoutPending, placeOf, withPlace, isDue, withDue}
 use Rattle.events.specs.declared.Inputs.{Inputs}
 use Rattle.events.specs.Cycle.{variables, codeOf, instrAt, current, wireExpr, wireVariable, anyBelow, allBelow, isWait, threadEnabled, items, enabled, anyEnabled, isSome, anyPending, quiet, changed, termsFire, waitFires, fireBelow, touched, markBelow, react, runInstr, runThread, runWire, storeOne, storePending, commit, storeInputs, feed}
@@ -37,12 +37,12 @@ abbrev pub posedge-clock : Stmt Expr
 posedge-clock = wait (record { edge = Posedge; variable = 0 } ∷ [])
 
 -- The clock alone, as an instant's inputs.
-abbrev pub clock : ℕ → Bool → Inputs
-clock n x = record { count = 1; value = n ∷ replicate 15 0; unknown = x ∷ replicate 15 true }
+abbrev pub clock : ℕ → ℕ → Inputs
+clock n u = record { count = 1; value = n ∷ replicate 15 0; unknown = u ∷ replicate 15 0 }
 
--- At the start with n wires: one user with nine choices.
+-- At the start with n wires, a clock and variables of 8 bits: one user with nine choices.
 abbrev pub begun : ℕ → State
-begun n = started n (9 ∷ 0 ∷ 0 ∷ 0 ∷ [])
+begun n = started (1 ∷ 8 ∷ 8 ∷ []) n (9 ∷ 0 ∷ 0 ∷ 0 ∷ [])
 
 -- ---- "Register 5 assigned 5 wakes no thread."
 
@@ -57,10 +57,10 @@ pub five-again :
     (placeOf (runIn fives 0 (2 ∷ 0 ∷ []) (begun 1) .state) 1 ≡ 1)
     × (isDue (runIn fives 0 (2 ∷ 0 ∷ []) (begun 1) .state) 0 ≡ true)
     × (runIn fives 0 (2 ∷ 0 ∷ 0 ∷ 1 ∷ 2 ∷ 0 ∷ []) (begun 1) .accepted ≡ 6)
-    × (valueOf (runIn fives 0 (2 ∷ 0 ∷ 0 ∷ 1 ∷ 2 ∷ 0 ∷ []) (begun 1) .state) 1 ≡ Known 5)
+    × (valueOf (runIn fives 0 (2 ∷ 0 ∷ 0 ∷ 1 ∷ 2 ∷ 0 ∷ []) (begun 1) .state) 1 ≡ known 5)
     × (placeOf (runIn fives 0 (2 ∷ 0 ∷ 0 ∷ 1 ∷ 2 ∷ 0 ∷ []) (begun 1) .state) 1 ≡ 0)
     × (isDue (runIn fives 0 (2 ∷ 0 ∷ 0 ∷ 1 ∷ 2 ∷ 0 ∷ []) (begun 1) .state) 0 ≡ false)
-unfolding same level moves fires valueAt numberOf isUnknown size eval reads translate threadCode withPlanes withSlots withPlaces withMarks withCounters valueOf withValue pendingOf withPending withoutPending placeOf withPlace isDue withDue variables codeOf instrAt current wireExpr wireVariable anyBelow isWait threadEnabled items enabled anyEnabled isSome anyPending changed termsFire waitFires fireBelow touched markBelow react runInstr runThread runWire storeOne storePending commit dueBelow started countOf allowanceOf answer spendTime spend byUser countedBy counted refusal performed chooseIn onward runIn
+unfolding same level moves fires valueAt numberOf marksOf known ones allUnknown size eval reads translate threadCode withPlanes withSlots withPlaces withMarks withCounters valueOf withValue pendingOf withPending withoutPending placeOf withPlace isDue withDue variables codeOf instrAt current wireExpr wireVariable anyBelow isWait threadEnabled items enabled anyEnabled isSome anyPending changed termsFire waitFires fireBelow touched markBelow react runInstr runThread runWire storeOne storePending commit dueBelow listOf started countOf allowanceOf answer spendTime spend byUser countedBy counted refusal performed chooseIn onward runIn
 five-again = (refl, refl, refl, refl, refl, refl)
 
 -- ---- "Two threads `a <= b`, `b <= a`: swapped in any order."
@@ -83,14 +83,14 @@ swapping =
 
 -- a is x and b is y, and the clock rises.
 abbrev pub risen : ℕ → ℕ → State
-risen x y = instantIn swapping (withValue (withValue (begun 0) 1 (Known x)) 2 (Known y)) (clock 1 false) .state
+risen x y = instantIn swapping (withValue (withValue (begun 0) 1 (known x)) 2 (known y)) (clock 1 0) .state
 
 -- Each thread has two instructions to run, in six orders, and then the commit is the only choice. After it nothing is.
 pub swapped-in-any-order :
     (x y : ℕ) →
-    (map {B = Value × Value} (λ s. (valueOf s 1, valueOf s 2)) (reached swapping 5 (risen x y)) ≡ replicate 6 (Known y, Known x))
+    (map {B = Value × Value} (λ s. (valueOf s 1, valueOf s 2)) (reached swapping 5 (risen x y)) ≡ replicate 6 (known y, known x))
     × (reached swapping 6 (risen x y) ≡ [])
-unfolding branches reached fits same level moves fires valueAt numberOf isUnknown size eval reads translate threadCode withPlanes withSlots withPlaces withMarks withCounters valueOf withValue pendingOf withPending withoutPending placeOf withPlace isDue withDue variables codeOf instrAt current wireExpr wireVariable anyBelow allBelow isWait threadEnabled items enabled anyEnabled isSome anyPending quiet changed termsFire waitFires fireBelow touched markBelow react runInstr runThread runWire storeOne storePending commit storeInputs feed dueBelow started widthOf countOf allowanceOf answer spendTime spend byUser countedBy counted timed refusal performed chooseIn onward runIn inputOf inputsFit instantRefusal instantIn
+unfolding branches reached fits same level moves fires valueAt numberOf marksOf known ones allUnknown size eval reads translate threadCode withPlanes withSlots withPlaces withMarks withCounters valueOf withValue pendingOf withPending withoutPending placeOf withPlace isDue withDue variables codeOf instrAt current wireExpr wireVariable anyBelow allBelow isWait threadEnabled items enabled anyEnabled isSome anyPending quiet changed termsFire waitFires fireBelow touched markBelow react runInstr runThread runWire storeOne storePending commit storeInputs feed dueBelow listOf started widthOf countOf allowanceOf answer spendTime spend byUser countedBy counted timed refusal performed chooseIn onward runIn inputOf inputsFit instantRefusal instantIn
 swapped-in-any-order x y = (refl, refl)
 
 -- ---- "Two pending values for one register: the second stands."
@@ -100,12 +100,12 @@ abbrev pub twice : Module Expr
 twice = module-of 1 (8 ∷ []) [] (sequence (later 1 (constant 8 3)) (sequence (later 1 (constant 8 5)) posedge-clock) ∷ [])
 
 pub second-stands :
-    (pendingOf (runIn twice 0 (0 ∷ []) (begun 0) .state) 0 ≡ some (Known 3))
-    × (pendingOf (runIn twice 0 (0 ∷ 0 ∷ []) (begun 0) .state) 0 ≡ some (Known 5))
+    (pendingOf (runIn twice 0 (0 ∷ []) (begun 0) .state) 0 ≡ some (known 3))
+    × (pendingOf (runIn twice 0 (0 ∷ 0 ∷ []) (begun 0) .state) 0 ≡ some (known 5))
     × (runIn twice 0 (0 ∷ 0 ∷ 255 ∷ []) (begun 0) .accepted ≡ 3)
-    × (valueOf (runIn twice 0 (0 ∷ 0 ∷ 255 ∷ []) (begun 0) .state) 1 ≡ Known 5)
+    × (valueOf (runIn twice 0 (0 ∷ 0 ∷ 255 ∷ []) (begun 0) .state) 1 ≡ known 5)
     × (pendingOf (runIn twice 0 (0 ∷ 0 ∷ 255 ∷ []) (begun 0) .state) 0 ≡ none)
-unfolding same level moves fires valueAt numberOf isUnknown size eval reads translate threadCode withPlanes withSlots withPlaces withMarks withCounters valueOf withValue pendingOf withPending withoutPending placeOf withPlace isDue withDue variables codeOf instrAt current wireExpr wireVariable anyBelow isWait threadEnabled items enabled anyEnabled isSome anyPending changed termsFire waitFires fireBelow touched markBelow react runInstr runThread runWire storeOne storePending commit dueBelow started countOf allowanceOf answer spendTime spend byUser countedBy counted refusal performed chooseIn onward runIn
+unfolding same level moves fires valueAt numberOf marksOf known ones allUnknown size eval reads translate threadCode withPlanes withSlots withPlaces withMarks withCounters valueOf withValue pendingOf withPending withoutPending placeOf withPlace isDue withDue variables codeOf instrAt current wireExpr wireVariable anyBelow isWait threadEnabled items enabled anyEnabled isSome anyPending changed termsFire waitFires fireBelow touched markBelow react runInstr runThread runWire storeOne storePending commit dueBelow listOf started countOf allowanceOf answer spendTime spend byUser countedBy counted refusal performed chooseIn onward runIn
 second-stands = (refl, refl, refl, refl, refl)
 
 -- ---- "x to 1 fires posedge; 1 to 1 doesn't; 0 to x doesn't." The last is document 02's, request [2]: it does.
@@ -114,56 +114,56 @@ second-stands = (refl, refl, refl, refl, refl)
 abbrev rising : Module Expr
 rising = module-of 1 (8 ∷ []) [] (posedge-clock ∷ [])
 
--- The thread's place after an instant with the clock at n (or x), where the clock was at c (or x) and the thread at its wait.
-abbrev woken : Value → ℕ → Bool → ℕ
-woken c n x = placeOf (instantIn rising (withValue (begun 0) 0 c) (clock n x) .state) 0
+-- The thread's place after an instant with the clock at n with the mark u, where the clock was at c and the thread at its wait.
+abbrev woken : Value → ℕ → ℕ → ℕ
+woken c n u = placeOf (instantIn rising (withValue (begun 0) 0 c) (clock n u) .state) 0
 
 pub posedge-fires :
-    (woken Unknown 1 false ≡ 1)
-    × (woken (Known 1) 1 false ≡ 0)
-    × (woken (Known 0) 0 true ≡ 1)
-    × (woken (Known 0) 1 false ≡ 1)
-    × (instantIn rising (withValue (begun 0) 0 (Known 1)) (clock 1 false) .number ≡ 0)
-    × (instantIn rising (withValue (begun 0) 0 (Known 0)) (clock 0 true) .number ≡ 0)
-unfolding fits same level moves fires valueAt numberOf isUnknown size eval reads translate threadCode withPlanes withSlots withPlaces withMarks withCounters valueOf withValue pendingOf withPending withoutPending placeOf withPlace isDue withDue variables codeOf instrAt current wireExpr wireVariable anyBelow allBelow isWait threadEnabled items enabled anyEnabled isSome anyPending quiet changed termsFire waitFires fireBelow touched markBelow react runInstr runThread runWire storeOne storePending commit storeInputs feed dueBelow started widthOf countOf allowanceOf answer spendTime spend byUser countedBy counted timed refusal performed chooseIn onward runIn inputOf inputsFit instantRefusal instantIn
+    (woken (allUnknown 1) 1 0 ≡ 1)
+    × (woken (known 1) 1 0 ≡ 0)
+    × (woken (known 0) 0 1 ≡ 1)
+    × (woken (known 0) 1 0 ≡ 1)
+    × (instantIn rising (withValue (begun 0) 0 (known 1)) (clock 1 0) .number ≡ 0)
+    × (instantIn rising (withValue (begun 0) 0 (known 0)) (clock 0 1) .number ≡ 0)
+unfolding fits same level moves fires valueAt numberOf marksOf known ones allUnknown size eval reads translate threadCode withPlanes withSlots withPlaces withMarks withCounters valueOf withValue pendingOf withPending withoutPending placeOf withPlace isDue withDue variables codeOf instrAt current wireExpr wireVariable anyBelow allBelow isWait threadEnabled items enabled anyEnabled isSome anyPending quiet changed termsFire waitFires fireBelow touched markBelow react runInstr runThread runWire storeOne storePending commit storeInputs feed dueBelow listOf started widthOf countOf allowanceOf answer spendTime spend byUser countedBy counted timed refusal performed chooseIn onward runIn inputOf inputsFit instantRefusal instantIn
 posedge-fires = (refl, refl, refl, refl, refl, refl)
 
 -- ---- the numbers of a choice in their order: 22, 46, 33 to 35, 47. User 1's allowance is 0; thread 1 of `fives` is at its wait.
 
 pub no-item-first : refusal fives (begun 1) 4 200 ≡ 22
-unfolding same level moves fires valueAt numberOf isUnknown size eval reads translate threadCode valueOf pendingOf placeOf isDue variables codeOf instrAt current wireExpr wireVariable anyBelow isWait threadEnabled items enabled anyEnabled isSome anyPending dueBelow started countOf allowanceOf spend byUser refusal
+unfolding same level moves fires valueAt numberOf marksOf known ones allUnknown size eval reads translate threadCode valueOf pendingOf placeOf isDue variables codeOf instrAt current wireExpr wireVariable anyBelow isWait threadEnabled items enabled anyEnabled isSome anyPending dueBelow listOf started countOf allowanceOf spend byUser refusal
 no-item-first = refl
 
 pub no-user-next :
     (refusal fives (begun 1) 4 0 ≡ 46) × (refusal fives (begun 1) 4 1 ≡ 46) × (refusal fives (begun 1) 4 255 ≡ 46)
-unfolding same level moves fires valueAt numberOf isUnknown size eval reads translate threadCode valueOf pendingOf placeOf isDue variables codeOf instrAt current wireExpr wireVariable anyBelow isWait threadEnabled items enabled anyEnabled isSome anyPending dueBelow started countOf allowanceOf spend byUser refusal
+unfolding same level moves fires valueAt numberOf marksOf known ones allUnknown size eval reads translate threadCode valueOf pendingOf placeOf isDue variables codeOf instrAt current wireExpr wireVariable anyBelow isWait threadEnabled items enabled anyEnabled isSome anyPending dueBelow listOf started countOf allowanceOf spend byUser refusal
 no-user-next = (refl, refl, refl)
 
 pub not-enabled-next : (refusal fives (begun 1) 1 1 ≡ 33) × (refusal fives (begun 1) 1 255 ≡ 34)
-unfolding same level moves fires valueAt numberOf isUnknown size eval reads translate threadCode valueOf pendingOf placeOf isDue variables codeOf instrAt current wireExpr wireVariable anyBelow isWait threadEnabled items enabled anyEnabled isSome anyPending dueBelow started countOf allowanceOf spend byUser refusal
+unfolding same level moves fires valueAt numberOf marksOf known ones allUnknown size eval reads translate threadCode valueOf pendingOf placeOf isDue variables codeOf instrAt current wireExpr wireVariable anyBelow isWait threadEnabled items enabled anyEnabled isSome anyPending dueBelow listOf started countOf allowanceOf spend byUser refusal
 not-enabled-next = (refl, refl)
 
 pub used-up-last :
     (refusal fives (begun 1) 1 0 ≡ 47) × (refusal fives (begun 1) 1 2 ≡ 47) × (refusal fives (begun 1) 0 0 ≡ 0)
-unfolding same level moves fires valueAt numberOf isUnknown size eval reads translate threadCode valueOf pendingOf placeOf isDue variables codeOf instrAt current wireExpr wireVariable anyBelow isWait threadEnabled items enabled anyEnabled isSome anyPending dueBelow started countOf allowanceOf spend byUser refusal
+unfolding same level moves fires valueAt numberOf marksOf known ones allUnknown size eval reads translate threadCode valueOf pendingOf placeOf isDue variables codeOf instrAt current wireExpr wireVariable anyBelow isWait threadEnabled items enabled anyEnabled isSome anyPending dueBelow listOf started countOf allowanceOf spend byUser refusal
 used-up-last = (refl, refl, refl)
 
 -- "is counted for that user alone"
 pub counted-alone :
     (countOf (counted 2 (begun 0)) 2 ≡ 1) × (countOf (counted 2 (begun 0)) 0 ≡ 0) × (allowanceOf (counted 2 (begun 0)) 0 ≡ 9)
-unfolding dueBelow started withCounters countOf allowanceOf countedBy counted
+unfolding dueBelow listOf started withCounters countOf allowanceOf countedBy counted
 counted-alone = (refl, refl, refl)
 
--- ---- 25: rows that aren't filled, flags that are too few or too many
+-- ---- 25: rows that aren't filled, marks that are too few or too many
 
 pub whole-rows :
-    (wholeRows [] [] ≡ true) × (wholeRows (replicate 16 0) (replicate 16 false) ≡ true)
-    × (wholeRows (replicate 32 7) (replicate 32 true) ≡ true)
+    (wholeRows [] [] ≡ true) × (wholeRows (replicate 16 0) (replicate 16 0) ≡ true)
+    × (wholeRows (replicate 32 7) (replicate 32 1) ≡ true)
 unfolding wholeRows
 whole-rows = (refl, refl, refl)
 
 pub ragged-rows :
-    (wholeRows (replicate 15 0) (replicate 15 false) ≡ false) × (wholeRows (replicate 17 0) (replicate 17 false) ≡ false)
-    × (wholeRows (replicate 32 0) (replicate 16 false) ≡ false) × (wholeRows (replicate 16 0) (replicate 17 false) ≡ false)
+    (wholeRows (replicate 15 0) (replicate 15 0) ≡ false) × (wholeRows (replicate 17 0) (replicate 17 0) ≡ false)
+    × (wholeRows (replicate 32 0) (replicate 16 0) ≡ false) × (wholeRows (replicate 16 0) (replicate 17 0) ≡ false)
 unfolding wholeRows
 ragged-rows = (refl, refl, refl, refl)

@@ -6,12 +6,13 @@ use mathlib.Core.Option.{Option, none, some}
 use lib.ListN.{length, getD, set, replicate}
 use lib.Dec.{ltb, leb, eqb}
 use Rattle.values.specs.declared.Value.{Value}
-use Rattle.values.specs.Values.{pick, fits}
+use Rattle.values.specs.Values.{pick, ones, allUnknown, fits}
 use Rattle.values.specs.Planes.{valueAt}
 use Rattle.sheet.specs.Reading.{Res, ok, no}
 use Rattle.sheet.specs.Expression.{Expr}
 use Rattle.sheet.specs.Module.{Module, read}
 use Rattle.state.specs.declared.State.{State}
+use Rattle.state.specs.Rows.{listOf}
 use Rattle.state.specs.State.{full, countersOf, users, countOf, allowanceOf, withCounters, valueOf, pendingOf, placeOf, isDue}
 use Rattle.events.specs.declared.Inputs.{Inputs}
 use Rattle.events.specs.declared.Chosen.{Chosen}
@@ -22,29 +23,33 @@ use Rattle.events.specs.Cycle.{codeOf, items, allBelow, enabled, anyEnab
 
 -- ---- start: "At the start all is x, places and counters 0, every wire due."
 
+-- A variable that nothing was stored in: x in all bits of its width. Past the variables of the widths ws no width is at hand: 32 bits.
+unfoldable pub unset : List ℕ → ℕ → Value
+unset ws v = allUnknown (getD ws v 32)
+
 -- The marks of the wires below n, and of no others.
 unfoldable pub dueBelow : ℕ → List Bool
 dueBelow zero = replicate 32 false
 dueBelow (suc n) = set (dueBelow n) n true
 
 -- IEEE 1364 decides over 003: wires are due at the start. "Each has an allowance of choices fixed at the start".
-unfoldable pub started : ℕ → List ℕ → State
-started wires allowances =
+unfoldable pub started : List ℕ → ℕ → List ℕ → State
+started ws wires allowances =
     record {
       value = replicate 80 0;
-      unknown = replicate 80 true;
+      unknown = listOf 80 (λ v. ones (getD ws v 32));
       pending = replicate 32 0;
-      unsure = replicate 32 false;
+      unsure = replicate 32 0;
       held = replicate 32 false;
       places = replicate 8 0;
       due = dueBelow wires;
       counters = countersOf 0 (replicate 4 0) allowances;
     }
 
--- A refused start hands back the state of no wires: all values x, everything else 0.
+-- A refused start hands back the state of no variables and no wires: all values x, everything else 0.
 unfoldable pub startOf : Res (Module Expr) → List ℕ → Chosen
-startOf (ok m) allowances = record { number = 0; state = started (length (m .wires)) allowances }
-startOf (no n p) allowances = record { number = n; state = started 0 allowances }
+startOf (ok m) allowances = record { number = 0; state = started (m .scope .widths) (length (m .wires)) allowances }
+startOf (no n p) allowances = record { number = n; state = started [] 0 allowances }
 
 unfoldable pub start : List ℕ → List ℕ → Chosen
 start s allowances = startOf (read s) allowances

@@ -16,7 +16,7 @@ use Rattle.sheet.specs.declared.EdgeTerm.{EdgeTerm}
 use Rattle.evaluation.specs.Evaluation.{eval, reads}
 use Rattle.pseudocode.specs.Translation.{Instr, wait!, set!, later!, go, ifnot, threadCode}
 use Rattle.state.specs.declared.State.{State}
-unfoldable pub use Rattle.state.specs.Saved.{allBelow}
+unfoldable pub use Rattle.state.specs.Rows.{allBelow}
 use Rattle.state.specs.State.{valueOf, withValue, pendingOf, withPending, withoutPending, placeOf, withPlace, isDue, withDue}
 
 -- ---- the module's parts, by number

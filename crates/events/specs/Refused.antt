@@ -3,7 +3,7 @@
 use Prim.Native.Nat.{ℕ, _≤_}
 use mathlib.Core.Path.{_≡_}
 use mathlib.Core.Logic.{_≢_}
-use mathlib.Core.List.{List}
+use mathlib.Core.List.{List, []}
 use Rattle.state.specs.declared.State.{State}
 use Rattle.events.specs.declared.Inputs.{Inputs}
 use Rattle.events.specs.declared.Verdict.the-variants.{Refused}
@@ -17,8 +17,8 @@ pub data RunRefused : ℕ → Type 0 where
   the-user : RunRefused 46
 
 pub record Unaltered : Type 0 where
-  -- A start gets no state: a refused one gives that of a sheet without wires.
-  pub refused-start : (s allowances : List ℕ) → start s allowances .number ≢ 0 → start s allowances .state ≡ started 0 allowances
+  -- A start gets no state: a refused one gives that of a sheet without variables and wires.
+  pub refused-start : (s allowances : List ℕ) → start s allowances .number ≢ 0 → start s allowances .state ≡ started [] 0 allowances
   pub refused-choice : (s : List ℕ) (st : State) (u c : ℕ) → choose s st u c .number ≢ 0 → choose s st u c .state ≡ st
   pub refused-instant : (s : List ℕ) (st : State) (a : Inputs) → instant s st a .number ≢ 0 → instant s st a .state ≡ st
   pub refused-run : (s : List ℕ) (st : State) (u : ℕ) (cs : List ℕ) → RunRefused (runList s st u cs .number) →

@@ -2,11 +2,11 @@
 // in `simulator`, what they answer is defined in specs/.
 use state::State;
 
-// The input values of an instant, the clock's first.
+// The input values of an instant, the clock's first: numbers, and the marks of their unknown bits.
 pub struct Inputs {
     pub count: u8,
     pub value: [u32; 16],
-    pub unknown: [bool; 16],
+    pub unknown: [u32; 16],
 }
 
 // What a choice or an instant gives: 0 and the state that it leaves, or a refusal's number and the state that it got.

@@ -15,8 +15,9 @@ use Rattle.sheet.specs.Module.{Module, read}
 use Rattle.listings.specs.Listing.{listed, laidIn}
 use Rattle.state.specs.declared.State.{State}
 use Rattle.state.specs.State.{users}
-use Rattle.state.specs.Saved.{saved, loaded, broughtOver}
-use Rattle.state.proofs.Saved.{saved-loaded}
+use Rattle.saved.specs.Saved.{saved, loaded}
+use Rattle.saved.specs.Older.{broughtOver}
+use Rattle.saved.proofs.Saved.{saved-loaded}
 use Rattle.events.specs.declared.Inputs.{Inputs}
 use Rattle.events.specs.declared.Chosen.{Chosen}
 use Rattle.events.specs.declared.Ran.{Ran}
@@ -62,7 +63,7 @@ list-keeps s text h = by (read s) h
 
 pub bring-keeps : BringKeeps
 unfolding broughtInto
-bring-keeps old b allowances h = rw (ne-eqb (broughtOver old allowances .number) 0 h)
+bring-keeps s old b allowances h = rw (ne-eqb (broughtOver s old allowances .number) 0 h)
 
 -- ---- start, choice, instant
 
@@ -207,7 +208,7 @@ pub cycle-keeps : CycleKeeps
 unfolding afterCycle
 cycle-keeps s ns rs g a lent h = rw (ne-eqb (cycleRun s ns rs g a .number) 0 h)
 
-module _ (s ns rs : List ℕ) (g : Registers) (value : List ℕ) (unknown : List Bool) where
+module _ (s ns rs : List ℕ) (g : Registers) (value unknown : List ℕ) where
   abbrev run : ℕ → many.Cycled
   run inputs = cyclesOf (cycleRun s ns rs) g value unknown inputs
 

@@ -1,13 +1,11 @@
 -- A call on a saved state: what `load` found. Assumes nothing.
 use mathlib.Core.Path.{_≡_, refl, sym, ap, _∙_}
-use mathlib.Core.Bool.{Bool, true, false, true≢false, false≢true}
-use mathlib.Core.List.{List}
+use mathlib.Core.Bool.{true, false, true≢false, false≢true}
 use mathlib.Core.Option.{Option, none, some}
-use Prim.Native.Nat.{ℕ}
-use Rattle.values.specs.Values.{pick}
 use Rattle.state.specs.declared.State.{State}
-use Rattle.state.specs.declared.Loaded.{Loaded}
-use Rattle.state.specs.Saved.{isForm, countersIn, stateIn, loaded, loadedAnswer}
+use Rattle.saved.specs.declared.Loaded.{Loaded}
+use Rattle.saved.specs.Saved.{loadedAnswer}
+use Rattle.exports.specs.Saved.{toldOn}
 
 pub found-none : (o : Option State) (l : Loaded) → l ≡ loadedAnswer o → l .found ≡ false → o ≡ none
 unfolding loadedAnswer
@@ -20,10 +18,7 @@ found-some none l e h = absurd (false≢true (sym (ap (λ (x : Loaded). x .found
 found-some (some st) l e h = ap some (sym (ap (λ (x : Loaded). x .state) e))
 
 -- Something is found exactly where the bytes are a saved state.
-pub found-saved : (b : List ℕ) (l : Loaded) → l ≡ loadedAnswer (loaded b) → l .found ≡ isForm 3 689 b
-unfolding loaded loadedAnswer
-found-saved b l e = by (isForm 3 689 b) (ap (λ (x : Loaded). x .found) e)
-  where
-    by : (t : Bool) → l .found ≡ loadedAnswer (pick t (some (stateIn b (countersIn b))) none) .found → l .found ≡ t
-    by true h = h
-    by false h = h
+pub found-saved : (o : Option State) (l : Loaded) → l ≡ loadedAnswer o → l .found ≡ toldOn false o (λ st. true)
+unfolding loadedAnswer toldOn
+found-saved none l e = ap (λ (x : Loaded). x .found) e
+found-saved (some st) l e = ap (λ (x : Loaded). x .found) e

@@ -1,7 +1,6 @@
 -- The cycle run for C and Rust: registers, places, inputs and wires lie in lent arrays, which become what the call gives back. A
 -- refused call alters none of them.
 use Prim.Native.Nat.{ℕ}
-use mathlib.Core.Bool.{Bool}
 use mathlib.Core.List.{List}
 use lib.Dec.{eqb}
 use Rattle.values.specs.Values.{pick}
@@ -12,22 +11,22 @@ use Rattle.cycles.specs.declared.Cycled.{Cycled}
 
 -- ---- what is handed
 
-unfoldable pub registersIn : List ℕ → List Bool → List ℕ → Registers
+unfoldable pub registersIn : List ℕ → List ℕ → List ℕ → Registers
 registersIn value unknown places = record { value = value; unknown = unknown; places = places }
 
-unfoldable pub inputsIn : ℕ → List ℕ → List Bool → Inputs
+unfoldable pub inputsIn : ℕ → List ℕ → List ℕ → Inputs
 inputsIn count value unknown = record { count = count; value = value; unknown = unknown }
 
--- ---- the lent arrays: registers, their flags, places, wires, their flags
+-- ---- the lent arrays: registers, the marks of their unknown bits, places, wires, their marks
 
 pub record Arrays : Type 0 where
   pub value : List ℕ
-  pub unknown : List Bool
+  pub unknown : List ℕ
   pub places : List ℕ
   pub wire : List ℕ
-  pub unsure : List Bool
+  pub unsure : List ℕ
 
-abbrev pub arrays : List ℕ → List Bool → List ℕ → List ℕ → List Bool → Arrays
+abbrev pub arrays : List ℕ → List ℕ → List ℕ → List ℕ → List ℕ → Arrays
 arrays value unknown places wire unsure =
     record { value = value; unknown = unknown; places = places; wire = wire; unsure = unsure }
 

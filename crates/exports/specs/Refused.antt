@@ -2,7 +2,7 @@
 -- beside its number (a place, a length, how many were accepted, a word) is its answer, told in any case. proofs/Refused has the proofs.
 use mathlib.Core.Path.{_≡_}
 use mathlib.Core.Logic.{_≢_}
-use mathlib.Core.Bool.{Bool, false}
+use mathlib.Core.Bool.{false}
 use mathlib.Core.List.{List}
 use mathlib.Core.Option.{Option, none, some}
 use Prim.Native.Nat.{ℕ}
@@ -13,7 +13,8 @@ use Rattle.sheet.specs.Expression.{Expr}
 use Rattle.sheet.specs.Module.{Module, read}
 use Rattle.listings.specs.Listing.{listed, laidIn}
 use Rattle.state.specs.declared.State.{State}
-use Rattle.state.specs.Saved.{Bytes, loaded, broughtOver}
+use Rattle.saved.specs.Saved.{Bytes, loaded}
+use Rattle.saved.specs.Older.{broughtOver}
 use Rattle.events.specs.declared.Inputs.{Inputs}
 use Rattle.events.specs.declared.Chosen.{Chosen}
 use Rattle.events.specs.declared.Verdict.the-variants.{Refused}
@@ -45,7 +46,8 @@ ListKeeps = (s text : List ℕ) → listed (read s) .number ≢ 0 → laidIn tex
 -- ---- a saved state brought over
 
 abbrev pub BringKeeps : Type 0
-BringKeeps = (old b allowances : List ℕ) → broughtOver old allowances .number ≢ 0 → broughtInto b (broughtOver old allowances) ≡ b
+BringKeeps =
+    (s old b allowances : List ℕ) → broughtOver s old allowances .number ≢ 0 → broughtInto b (broughtOver s old allowances) ≡ b
 
 -- ---- start, choice, instant: the saved state
 
@@ -87,13 +89,13 @@ PlainRunKeeps =
     × (bytesOn b (loaded b) (λ st. rested (runPlain s st u limit)) ≡ b)
 
 -- Rows of inputs that aren't whole are refused after the user.
-unfoldable pub cyclesRefused : List ℕ → Option State → ℕ → List ℕ → List Bool → ℕ
+unfoldable pub cyclesRefused : List ℕ → Option State → ℕ → List ℕ → List ℕ → ℕ
 cyclesRefused s none u ns xs = unfit (read s)
 cyclesRefused s (some st) u ns xs = judged (read s) st (λ n. n) (λ m. byUser u (pick (wholeRows ns xs) 0 25))
 
 abbrev pub RunCyclesKeeps : Type 0
 RunCyclesKeeps =
-    (s b : List ℕ) (u : ℕ) (ns : List ℕ) (xs : List Bool) → Bytes b → cyclesRefused s (loaded b) u ns xs ≢ 0 →
+    (s b : List ℕ) (u : ℕ) (ns xs : List ℕ) → Bytes b → cyclesRefused s (loaded b) u ns xs ≢ 0 →
     (numberOn s (loaded b) (λ st. cycledAs (runCycles s st u ns xs)) ≡ cyclesRefused s (loaded b) u ns xs)
     × (toldOn 0 (loaded b) (λ st. runCycles s st u ns xs .phases) ≡ 0)
     × (toldOn false (loaded b) (λ st. runCycles s st u ns xs .running) ≡ false)
@@ -113,7 +115,7 @@ CycleKeeps =
     afterCycle lent (cycleRun s ns rs g a) ≡ lent
 
 -- The number that refuses many cycles as a call, 0 where none does: "23, 1 to 21, 24, 31, 25".
-module _ (ns rs : List ℕ) (g : Registers) (value : List ℕ) (unknown : List Bool) where
+module _ (ns rs : List ℕ) (g : Registers) (value unknown : List ℕ) where
   unfoldable pub refusedIn : Res (Module Expr) → ℕ
   refusedIn (no n p) = n
   refusedIn (ok m) =
@@ -124,7 +126,7 @@ module _ (ns rs : List ℕ) (g : Registers) (value : List ℕ) (unknown : List B
 
 abbrev pub CyclesKeep : Type 0
 CyclesKeep =
-    (s ns rs : List ℕ) (g : Registers) (value : List ℕ) (unknown : List Bool) (lent : Arrays) →
+    (s ns rs : List ℕ) (g : Registers) (value unknown : List ℕ) (lent : Arrays) →
     manyRefused ns rs g value unknown s ≢ 0 →
     (cyclesRun s ns rs g value unknown .number ≡ manyRefused ns rs g value unknown s)
     × (cyclesRun s ns rs g value unknown .cycles ≡ 0)

@@ -1,6 +1,7 @@
 -- The calls on a saved state, for C and Rust: the state lies in a lent buffer of bytes, and becomes the one that the call gives
 -- back. Bytes that are no saved state are no state that fits: 31, after the sheet's own 1 to 11, and they stay.
 use Prim.Native.Nat.{ℕ}
+use mathlib.Core.Bool.{Bool, true, false}
 use mathlib.Core.List.{List}
 use mathlib.Core.Option.{Option, none, some}
 use lib.Dec.{eqb}
@@ -9,8 +10,8 @@ use Rattle.sheet.specs.Reading.{Res, ok, no}
 use Rattle.sheet.specs.Expression.{Expr}
 use Rattle.sheet.specs.Module.{Module, read}
 use Rattle.state.specs.declared.State.{State}
-use Rattle.state.specs.declared.Brought.{Brought}
-use Rattle.state.specs.Saved.{saved}
+use Rattle.saved.specs.declared.Brought.{Brought}
+use Rattle.saved.specs.Saved.{saved, loaded}
 use Rattle.events.specs.declared.Chosen.{Chosen}
 use Rattle.events.specs.declared.Ran.{Ran}
 use Rattle.events.specs.declared.Verdict.{Verdict}
@@ -48,6 +49,10 @@ bytesOn b (some st) call = saved (call st .state)
 unfoldable pub toldOn : {A : Type 0} → A → Option State → (State → A) → A
 toldOn nothing none tell = nothing
 toldOn nothing (some st) tell = tell st
+
+-- Are the bytes a saved state, in the form that the calls take?
+unfoldable pub isState : List ℕ → Bool
+isState b = toldOn false (loaded b) (λ st. true)
 
 -- ---- runs as calls
 

@@ -10,7 +10,8 @@ ghost use mathlib.Core.Path.{_≡_};
 ghost use mathlib.Core.Bool.{false};
 ghost use Rattle.sheet.specs.Module.{read};
 ghost use Rattle.listings.specs.Listing.{listed, laidIn};
-ghost use Rattle.state.specs.Saved.{isForm, loaded, broughtOver};
+ghost use Rattle.saved.specs.Saved.{loaded};
+ghost use Rattle.saved.specs.Older.{broughtOver};
 ghost use Rattle.events.specs.Calls.{start, choose, runList, runPlain, instant};
 ghost use Rattle.events.specs.Verdict.{numberOfVerdict, wordOfVerdict};
 ghost use Rattle.batch.specs.Cycles.{runCycles};
@@ -19,7 +20,8 @@ ghost use Rattle.nextstate.specs.CycleRun.{cycleRun};
 ghost use Rattle.cycles.specs.Many.{cyclesRun};
 ghost use Rattle.exports.specs.Exports.{numberOf, placeOf};
 ghost use Rattle.exports.specs.Clocked.{registersIn, inputsIn, arrays, afterCycle, afterCycles};
-ghost use Rattle.exports.specs.Saved.{broughtInto, startedIn, unfit, numberOn, bytesOn, toldOn, ran, rested, verdictOn, cycledAs};
+ghost use Rattle.exports.specs.Saved.{isState, broughtInto, startedIn, unfit};
+ghost use Rattle.exports.specs.Saved.{numberOn, bytesOn, toldOn, ran, rested, verdictOn, cycledAs};
 
 // The number of the sheet's refusal, 0 where it is read; `place` takes the byte at which it was met, 0 where it is read.
 #[no_mangle]
@@ -49,38 +51,39 @@ pub extern "C" fn walbryts_list(sheet: &[u8], text: &mut [u8; 65536], length: &m
 // Are the bytes a saved state in the form that the calls take?
 #[no_mangle]
 pub extern "C" fn walbryts_is_state(bytes: &[u8]) -> bool
-    ensures { λ r. ⌜ r ≡ isForm 3 689 (now (bytes .entry)) ⌝ }
+    ensures { λ r. ⌜ r ≡ isState (now (bytes .entry)) ⌝ }
 {
-    let l = state::load(bytes);
+    let l = saved::load(bytes);
     l.found
 }
 
 // A saved state of any form, in the form that the calls take: one with one count is brought over with that count as user 0's and
-// these allowances.
+// these allowances, and the x of an older form becomes marks on all bits of the sheet's variable.
 #[no_mangle]
 pub extern "C" fn walbryts_bring_over(
+    sheet: &[u8],
     old: &[u8],
     allowances: &[u32; 4],
-    state: &mut [u8; 689],
+    state: &mut [u8; 1025],
 ) -> u8
-    ensures { λ r. ⌜ r ≡ broughtOver (now (old .entry)) (now (allowances .entry)) .number ⌝ }
+    ensures { λ r. ⌜ r ≡ broughtOver (now (sheet .entry)) (now (old .entry)) (now (allowances .entry)) .number ⌝ }
     ensures { λ r. ⌜
         now (state .exit)
-        ≡ broughtInto (now (state .entry)) (broughtOver (now (old .entry)) (now (allowances .entry)))
+        ≡ broughtInto (now (state .entry)) (broughtOver (now (sheet .entry)) (now (old .entry)) (now (allowances .entry)))
         ⌝ }
 {
-    let brought = state::bring_over(old, *allowances);
+    let brought = saved::bring_over(sheet, old, *allowances);
     if brought.number != 0 {
         return brought.number;
     }
     let st = brought.state;
-    state::save(st, state);
+    saved::save(st, state);
     brought.number
 }
 
 // The state becomes the start state, with these allowances.
 #[no_mangle]
-pub extern "C" fn walbryts_start(sheet: &[u8], allowances: &[u32; 4], state: &mut [u8; 689]) -> u8
+pub extern "C" fn walbryts_start(sheet: &[u8], allowances: &[u32; 4], state: &mut [u8; 1025]) -> u8
     ensures { λ r. ⌜ r ≡ start (now (sheet .entry)) (now (allowances .entry)) .number ⌝ }
     ensures { λ r. ⌜
         now (state .exit)
@@ -92,7 +95,7 @@ pub extern "C" fn walbryts_start(sheet: &[u8], allowances: &[u32; 4], state: &mu
         return first.number;
     }
     let left = first.state;
-    state::save(left, state);
+    saved::save(left, state);
     first.number
 }
 
@@ -109,7 +112,7 @@ fn unfit(sheet: &[u8]) -> u8
 
 // A choice of a user.
 #[no_mangle]
-pub extern "C" fn walbryts_choose(sheet: &[u8], state: &mut [u8; 689], user: u8, choice: u8) -> u8
+pub extern "C" fn walbryts_choose(sheet: &[u8], state: &mut [u8; 1025], user: u8, choice: u8) -> u8
     ensures { λ r. ⌜
         r ≡ numberOn (now (sheet .entry)) (loaded (now (state .entry))) (λ st. choose (now (sheet .entry)) st user choice)
         ⌝ }
@@ -118,14 +121,14 @@ pub extern "C" fn walbryts_choose(sheet: &[u8], state: &mut [u8; 689], user: u8,
         ≡ bytesOn (now (state .entry)) (loaded (now (state .entry))) (λ st. choose (now (sheet .entry)) st user choice)
         ⌝ }
 {
-    let l = state::load(state);
+    let l = saved::load(state);
     if !l.found {
         return unfit(sheet);
     }
     let st = l.state;
     let chosen = simulator::choose(sheet, st, user, choice);
     let left = chosen.state;
-    state::save(left, state);
+    saved::save(left, state);
     chosen.number
 }
 
@@ -133,7 +136,7 @@ pub extern "C" fn walbryts_choose(sheet: &[u8], state: &mut [u8; 689], user: u8,
 #[no_mangle]
 pub extern "C" fn walbryts_run(
     sheet: &[u8],
-    state: &mut [u8; 689],
+    state: &mut [u8; 1025],
     user: u8,
     choices: &[u8],
     accepted: &mut usize,
@@ -153,7 +156,7 @@ pub extern "C" fn walbryts_run(
         ≡ toldOn 0 (loaded (now (state .entry))) (λ st. runList (now (sheet .entry)) st user (now (choices .entry)) .accepted)
         ⌝ }
 {
-    let l = state::load(state);
+    let l = saved::load(state);
     if !l.found {
         *accepted = 0;
         return unfit(sheet);
@@ -161,7 +164,7 @@ pub extern "C" fn walbryts_run(
     let st = l.state;
     let reached = simulator::run(sheet, st, user, choices);
     let left = reached.state;
-    state::save(left, state);
+    saved::save(left, state);
     *accepted = reached.accepted;
     reached.number
 }
@@ -194,7 +197,7 @@ fn word_of_verdict(v: Verdict) -> u8
 #[no_mangle]
 pub extern "C" fn walbryts_run_plain(
     sheet: &[u8],
-    state: &mut [u8; 689],
+    state: &mut [u8; 1025],
     user: u8,
     limit: u16,
     accepted: &mut u16,
@@ -219,7 +222,7 @@ pub extern "C" fn walbryts_run_plain(
         (verdictOn (now (sheet .entry)) (loaded (now (state .entry))) (λ st. runPlain (now (sheet .entry)) st user limit))
         ⌝ }
 {
-    let l = state::load(state);
+    let l = saved::load(state);
     if !l.found {
         *accepted = 0;
         *word = 3;
@@ -228,21 +231,21 @@ pub extern "C" fn walbryts_run_plain(
     let st = l.state;
     let rest = simulator::run_plain(sheet, st, user, limit);
     let left = rest.state;
-    state::save(left, state);
+    saved::save(left, state);
     *accepted = rest.accepted;
     let v = rest.verdict;
     *word = word_of_verdict(v);
     number_of_verdict(v)
 }
 
-// An instant, its inputs counted with the clock's.
+// An instant, its inputs counted with the clock's: numbers, and the marks of their unknown bits.
 #[no_mangle]
 pub extern "C" fn walbryts_instant(
     sheet: &[u8],
-    state: &mut [u8; 689],
+    state: &mut [u8; 1025],
     count: u8,
     value: &[u32; 16],
-    unknown: &[bool; 16],
+    unknown: &[u32; 16],
 ) -> u8
     ensures { λ r. ⌜
         r
@@ -255,7 +258,7 @@ pub extern "C" fn walbryts_instant(
         (λ st. instant (now (sheet .entry)) st (inputsIn count (now (value .entry)) (now (unknown .entry))))
         ⌝ }
 {
-    let l = state::load(state);
+    let l = saved::load(state);
     if !l.found {
         return unfit(sheet);
     }
@@ -267,19 +270,19 @@ pub extern "C" fn walbryts_instant(
     };
     let entered = simulator::instant(sheet, st, a);
     let left = entered.state;
-    state::save(left, state);
+    saved::save(left, state);
     entered.number
 }
 
-// Many clock cycles, whose choices are a user's: rows of 16 inputs, the clock's not looked at; `phases` takes how many instants were
-// done, `running` whether it was the run after an instant that stopped it.
+// Many clock cycles, whose choices are a user's: rows of 16 inputs and of their marks, the clock's not looked at; `phases` takes how
+// many instants were done, `running` whether it was the run after an instant that stopped it.
 #[no_mangle]
 pub extern "C" fn walbryts_run_cycles(
     sheet: &[u8],
-    state: &mut [u8; 689],
+    state: &mut [u8; 1025],
     user: u8,
     value: &[u32],
-    unknown: &[bool],
+    unknown: &[u32],
     phases: &mut usize,
     running: &mut bool,
 ) -> u8
@@ -304,7 +307,7 @@ pub extern "C" fn walbryts_run_cycles(
         (λ st. runCycles (now (sheet .entry)) st user (now (value .entry)) (now (unknown .entry)) .running)
         ⌝ }
 {
-    let l = state::load(state);
+    let l = saved::load(state);
     if !l.found {
         *phases = 0;
         *running = false;
@@ -313,7 +316,7 @@ pub extern "C" fn walbryts_run_cycles(
     let st = l.state;
     let done = batch::run_cycles(sheet, st, user, value, unknown);
     let left = done.state;
-    state::save(left, state);
+    saved::save(left, state);
     *phases = done.phases;
     *running = done.running;
     done.number
@@ -331,21 +334,21 @@ pub extern "C" fn walbryts_extract(sheet: &[u8], nodes: &mut [u16], rows: &mut [
     extraction::extract(sheet, nodes, rows)
 }
 
-// A clock cycle by lent tables. `value`, `unknown` and `places` hold the registers and places before it and become those after
-// it; `inputs` are the inputs from 1 up; `wire` and `unsure` take the wires.
+// A clock cycle by lent tables. `value`, `unknown` and `places` hold the registers, the marks of their unknown bits and the places
+// before it and become those after it; `inputs` are the inputs from 1 up; `wire` and `unsure` take the wires and their marks.
 #[no_mangle]
 pub extern "C" fn walbryts_cycle(
     sheet: &[u8],
     nodes: &[u16],
     rows: &[u16],
     value: &mut [u32; 32],
-    unknown: &mut [bool; 32],
+    unknown: &mut [u32; 32],
     places: &mut [u8; 8],
     count: u8,
     inputs: &[u32; 16],
-    inputs_unknown: &[bool; 16],
+    inputs_unknown: &[u32; 16],
     wire: &mut [u32; 32],
-    unsure: &mut [bool; 32],
+    unsure: &mut [u32; 32],
 ) -> u8
     ensures { λ r. ⌜
         r
@@ -379,8 +382,8 @@ pub extern "C" fn walbryts_cycle(
     }
     let registers = c.value;
     *value = registers;
-    let flags = c.unknown;
-    *unknown = flags;
+    let marks = c.unknown;
+    *unknown = marks;
     let waits = c.places;
     *places = waits;
     let wires = c.wire;
@@ -398,13 +401,13 @@ pub extern "C" fn walbryts_cycles(
     nodes: &[u16],
     rows: &[u16],
     value: &mut [u32; 32],
-    unknown: &mut [bool; 32],
+    unknown: &mut [u32; 32],
     places: &mut [u8; 8],
     inputs: &[u32],
-    inputs_unknown: &[bool],
+    inputs_unknown: &[u32],
     cycles: &mut usize,
     wire: &mut [u32; 32],
-    unsure: &mut [bool; 32],
+    unsure: &mut [u32; 32],
 ) -> u8
     ensures { λ r. ⌜
         r
@@ -441,8 +444,8 @@ pub extern "C" fn walbryts_cycles(
     }
     let registers = r.value;
     *value = registers;
-    let flags = r.unknown;
-    *unknown = flags;
+    let marks = r.unknown;
+    *unknown = marks;
     let waits = r.places;
     *places = waits;
     let wires = r.wire;

@@ -23,7 +23,7 @@ use Rattle.pseudocode.specs.declared.Instruction.{Instruction}
 use Rattle.pseudocode.specs.Filling.{after}
 use Rattle.pseudocode.specs.Fetching.{fetchAt}
 use Rattle.pseudocode.proofs.Filling.{after-in}
-use Rattle.state.specs.Saved.{listOf}
+use Rattle.state.specs.Rows.{listOf}
 use Rattle.state.proofs.Rows.{length-listOf}
 use Rattle.events.specs.Cycle as cycle
 use Rattle.events.specs.Cycle.{codeOf, instrAt, isWait}

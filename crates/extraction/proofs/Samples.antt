@@ -15,7 +15,7 @@ use Rattle.pseudocode.specs.Instruction.{noTerm}
 use Rattle.pseudocode.specs.Filling.{after}
 use Rattle.pseudocode.specs.Fetching.{termFrom, termsFrom, termsAt, decode, fetchAt}
 use Rattle.masks.specs.Masks.{bits, digits, odd}
-use Rattle.state.specs.Saved.{listOf}
+use Rattle.state.specs.Rows.{listOf}
 use Rattle.events.specs.Cycle.{variables, codeOf, instrAt, isWait}
 use Rattle.nextstate.specs.Rules.{setsAt, defersAt, anyInstr, plainWrites, defers, writes}
 use Rattle.nextstate.specs.Nodes.{aVariable, aConstant, aUnary, aBranch}

@@ -13,7 +13,7 @@ hexWords error = error is 1 then ascii "no hexadecimal digit\n" else ascii "a di
 
 unfoldable pub inputWords : ℕ → List ℕ
 inputWords error =
-    error is 2 then ascii "no number: decimal, 0x and hexadecimal, or x is allowed\n" else
+    error is 2 then ascii "no value: decimal, 0x and hexadecimal, bits as b1x0 or 4'b1x0, or x is allowed\n" else
     error is 3 then ascii "too wide for its input\n" else
     error is 4 then ascii "too few values: one for each input but the clock is allowed\n" else
     ascii "too many values: one for each input but the clock is allowed, - where there is none\n"

@@ -25,7 +25,7 @@ pub fn put_input_error(error: u8, text: &mut [u8; 65536], pos: usize) -> usize
 {
     if error == 2 {
         return put_word(
-            b"no number: decimal, 0x and hexadecimal, or x is allowed\n",
+            b"no value: decimal, 0x and hexadecimal, bits as b1x0 or 4'b1x0, or x is allowed\n",
             text,
             pos,
         );

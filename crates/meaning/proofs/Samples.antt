@@ -6,7 +6,7 @@ use mathlib.Core.List.{List, [], _∷_}
 use Prim.Native.Nat.{ℕ, _<_}
 use lib.ListN.{length, getD}
 use Rattle.values.specs.declared.Value.{Value}
-use Rattle.values.specs.declared.Value.the-variants.{Known, Unknown}
+use Rattle.values.specs.Values.{known, allUnknown}
 use Rattle.values.specs.declared.Edge.the-variants.{Change, Negedge}
 use Rattle.sheet.specs.declared.EdgeTerm.{EdgeTerm}
 use Rattle.sheet.specs.Reading.{ok}
@@ -74,45 +74,48 @@ feeder-wait-to-wait = of-a-sheet feeder-sheet feeder feeder-read feeder-waits
 
 -- ---- courses of its first thread
 
+abbrev x-4 : Value
+x-4 = allUnknown 4
+
 -- How much, and the sum on the wire.
 abbrev values : Value → Value → ℕ → Value
-values much sum v = getD (Known 1 ∷ much ∷ Unknown ∷ Unknown ∷ sum ∷ []) v Unknown
+values much sum v = getD (known 1 ∷ much ∷ x-4 ∷ x-4 ∷ sum ∷ []) v x-4
 
 -- What is behind either wait: the loop, and the whole anew.
 abbrev rest : Stmt Expr
 rest = sequence (sequence empty loop) (forever body)
 
 abbrev first-writes : List Write
-first-writes = stored 2 (Known 7) ∷ deferred 3 (Known 7) ∷ stored 2 (Known 8) ∷ deferred 3 (Known 8) ∷ []
+first-writes = stored 2 (known 7) ∷ deferred 3 (known 7) ∷ stored 2 (known 8) ∷ deferred 3 (known 8) ∷ []
 
 -- From the start: a store is seen by what follows it, and both pending values of one register are listed, one by one.
-pub start-course : meaning (forever body) (values (Known 7) Unknown) ≡ stops first-writes falls-or-changes rest
+pub start-course : meaning (forever body) (values (known 7) x-4) ≡ stops first-writes falls-or-changes rest
 unfolding turning meaning followed prefixed nothing valuesAfter
 start-course = refl
 
 -- Behind the wait, with a sum below: the loop's body is done and the loop remains.
-pub below-course : meaning rest (values (Known 7) (Known 3)) ≡ stops (stored 2 (Known 3) ∷ []) changes rest
+pub below-course : meaning rest (values (known 7) (known 3)) ≡ stops (stored 2 (known 3) ∷ []) changes rest
 unfolding turning meaning followed prefixed nothing valuesAfter
 below-course = refl
 
 -- With a sum not below, or unknown: the loop is over before its body is done, and the thread begins anew.
-pub over-course : meaning rest (values (Known 7) (Known 7)) ≡ stops first-writes falls-or-changes rest
+pub over-course : meaning rest (values (known 7) (known 7)) ≡ stops first-writes falls-or-changes rest
 unfolding turning meaning followed prefixed nothing valuesAfter
 over-course = refl
 
-pub unknown-course : meaning rest (values (Known 7) Unknown) ≡ stops first-writes falls-or-changes rest
+pub unknown-course : meaning rest (values (known 7) x-4) ≡ stops first-writes falls-or-changes rest
 unfolding turning meaning followed prefixed nothing valuesAfter
 unknown-course = refl
 
 -- ---- statements that end
 
 -- A loop whose condition fails ends with nothing done; a sequence of assignments ends with what both did.
-pub loop-course : meaning loop (values (Known 7) (Known 7)) ≡ ends []
+pub loop-course : meaning loop (values (known 7) (known 7)) ≡ ends []
 unfolding turning meaning followed prefixed nothing valuesAfter
 loop-course = refl
 
 pub two-course :
-    meaning (sequence (assign 2 (constant 4 5)) (later 3 (variable 2))) (values (Known 7) Unknown)
-    ≡ ends (stored 2 (Known 5) ∷ deferred 3 (Known 5) ∷ [])
+    meaning (sequence (assign 2 (constant 4 5)) (later 3 (variable 2))) (values (known 7) x-4)
+    ≡ ends (stored 2 (known 5) ∷ deferred 3 (known 5) ∷ [])
 unfolding turning meaning followed prefixed nothing valuesAfter
 two-course = refl

@@ -7,7 +7,7 @@ use Prim.Native.Nat.{ℕ, zero, suc, _<_}
 use native.Mathlib.Omega.{arith}
 use lib.ListN.{length, getD}
 use Rattle.values.specs.declared.Value.{Value}
-use Rattle.values.specs.declared.Value.the-variants.{Known, Unknown}
+use Rattle.values.specs.Values.{known, nowhere}
 use Rattle.values.specs.declared.Edge.the-variants.{Posedge}
 use Rattle.sheet.specs.declared.EdgeTerm.{EdgeTerm}
 use Rattle.sheet.specs.Expression.{Expr}
@@ -50,25 +50,25 @@ clock = record { edge = Posedge; variable = 0 } ∷ []
 abbrev values : ℕ → ℕ → ℕ → Value
 values reset again v =
     getD
-    (Known 1 ∷ Known reset ∷ Known 5 ∷ Known 2 ∷ Known 0 ∷ Known 5 ∷ Known 0 ∷ Known 0 ∷ Known 0 ∷ Known again ∷ Known 0 ∷ [])
-    v Unknown
+    (known 1 ∷ known reset ∷ known 5 ∷ known 2 ∷ known 0 ∷ known 5 ∷ known 0 ∷ known 0 ∷ known 0 ∷ known again ∷ known 0 ∷ [])
+    v nowhere
 
 -- A reset: three pending values in order, and back at the first wait, place 0.
 pub reset-course :
     meaning (behind (thread 0) 0) (values 1 0)
-    ≡ stops (deferred 5 (Known 0) ∷ deferred 6 (Known 0) ∷ deferred 7 (Known 0) ∷ []) clock (behind (thread 0) 0)
+    ≡ stops (deferred 5 (known 0) ∷ deferred 6 (known 0) ∷ deferred 7 (known 0) ∷ []) clock (behind (thread 0) 0)
 unfolding watchdog turning behind meaning followed prefixed nothing valuesAfter
 reset-course = refl
 
 -- A reading that came again: two pending values, and on to the wait before the loop, place 9.
 pub again-course :
     meaning (behind (thread 0) 0) (values 0 1)
-    ≡ stops (deferred 5 (Known 5) ∷ deferred 6 (Known 1) ∷ []) clock (behind (thread 0) 9)
+    ≡ stops (deferred 5 (known 5) ∷ deferred 6 (known 1) ∷ []) clock (behind (thread 0) 9)
 unfolding watchdog turning behind meaning followed prefixed nothing valuesAfter
 again-course = refl
 
 -- Once more, from the wait in the loop, place 12: the condition holds, one more is counted, and it waits there again.
 pub loop-course :
-    meaning (behind (thread 0) 12) (values 0 1) ≡ stops (deferred 6 (Known 1) ∷ []) clock (behind (thread 0) 12)
+    meaning (behind (thread 0) 12) (values 0 1) ≡ stops (deferred 6 (known 1) ∷ []) clock (behind (thread 0) 12)
 unfolding watchdog turning behind meaning followed prefixed nothing valuesAfter
 loop-course = refl

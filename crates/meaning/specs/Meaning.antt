@@ -50,7 +50,7 @@ nothing ws = ends []
 
 -- ---- meaning: the course of a statement from the values f
 
--- "A condition holds if known and not zero." A loop's body surely waits, so that it stops before the loop comes round (SureStop).
+-- "A condition holds if some known bit is 1" (document 02, [4]). A loop's body surely waits, so that it stops before the loop comes round (SureStop).
 unfoldable pub meaning : Stmt Expr → (ℕ → Value) → Course
 meaning empty f = ends []
 meaning (assign t e) f = ends (stored t (eval f e) ∷ [])

@@ -10,8 +10,7 @@ use lib.ListN.{getD}
 use lib.Dec.{eqb}
 use borrow.Author.Tests.{eqb-true}
 use Rattle.values.specs.declared.Value.{Value}
-use Rattle.values.specs.declared.Value.the-variants.{Known, Unknown}
-use Rattle.values.specs.Values.{pick, holds}
+use Rattle.values.specs.Values.{pick, known, allUnknown, nowhere, holds}
 use Rattle.values.specs.Operators.{unaryWidth, binaryWidth, unary, binary, choice}
 use Rattle.writing.specs.Ascii.{ascii}
 use Rattle.naming.specs.Naming.{nameOf}
@@ -126,9 +125,9 @@ module _ (vw : List ℕ) (f : ℕ → Value) (ls : List ℕ) (vs : List Value) w
 
   unfoldable pub valueOf : Tree → Value
   valueOf (variable v) = f v
-  valueOf (constant w n) = Known n
-  valueOf (unknown w) = Unknown
-  valueOf (number n) = getD vs n Unknown
+  valueOf (constant w n) = known n
+  valueOf (unknown w) = allUnknown w
+  valueOf (number n) = getD vs n nowhere
   valueOf (unaryOf o a) = unary o (widthOf a) (valueOf a)
   valueOf (binaryOf o a b) = binary o (widthOf a) (valueOf a) (valueOf b)
   valueOf (conditional c a b) = choice (valueOf c) (valueOf a) (valueOf b)
@@ -137,7 +136,7 @@ module _ (vw : List ℕ) (f : ℕ → Value) (ls : List ℕ) (vs : List Value) w
   -- Every node's own equation.
   pub record Meets (ws : List ℕ) : Type 0 where
     pub widths : (n : ℕ) → n < 4096 → getD ls n 0 ≡ nodeWidth vw ls (nodeIn ws n)
-    pub values : (n : ℕ) → n < 4096 → getD vs n Unknown ≡ nodeValue ls f vs (nodeIn ws n)
+    pub values : (n : ℕ) → n < 4096 → getD vs n nowhere ≡ nodeValue ls f vs (nodeIn ws n)
 
   module _ (g : ℕ → Tree) (h : (m : ℕ) → widthOf (g m) ≡ getD ls m 0) where
     width-grown : (d : Node) → widthOf (grown g d) ≡ nodeWidth vw ls d
@@ -150,7 +149,7 @@ module _ (vw : List ℕ) (f : ℕ → Value) (ls : List ℕ) (vs : List Value) w
     width-grown (aConditional c a b) = h a
     width-grown (aBranch c a b) = h a
 
-    module _ (k : (m : ℕ) → valueOf (g m) ≡ getD vs m Unknown) where
+    module _ (k : (m : ℕ) → valueOf (g m) ≡ getD vs m nowhere) where
       value-grown : (d : Node) → valueOf (grown g d) ≡ nodeValue ls f vs d
       unfolding valueOf grown nodeValue
       value-grown (aVariable v) = refl
@@ -161,8 +160,8 @@ module _ (vw : List ℕ) (f : ℕ → Value) (ls : List ℕ) (vs : List Value) w
       value-grown (aConditional c a b) = let p = k c in let q = k a in let r = k b in cc
       value-grown (aBranch c a b) =
           ap (λ x. pick (holds x) (valueOf (g a)) (valueOf (g b))) (k c)
-          ∙ ap (λ x. pick (holds (getD vs c Unknown)) x (valueOf (g b))) (k a)
-          ∙ ap (λ x. pick (holds (getD vs c Unknown)) (getD vs a Unknown) x) (k b)
+          ∙ ap (λ x. pick (holds (getD vs c nowhere)) x (valueOf (g b))) (k a)
+          ∙ ap (λ x. pick (holds (getD vs c nowhere)) (getD vs a nowhere) x) (k b)
 
   module _ (ws us : List ℕ) (s : Meets ws) where
     width-below : (n m : ℕ) → n ≤ 4096 → widthOf (treeBelow ws us n m) ≡ getD ls m 0
@@ -181,7 +180,7 @@ module _ (vw : List ℕ) (f : ℕ → Value) (ls : List ℕ) (vs : List Value) w
         by true e false p q = p ∙ ap (λ j. getD ls j 0) (sym (eqb-true m n e))
         by false e u p q = q
 
-    value-below : (n m : ℕ) → n ≤ 4096 → valueOf (treeBelow ws us n m) ≡ getD vs m Unknown
+    value-below : (n m : ℕ) → n ≤ 4096 → valueOf (treeBelow ws us n m) ≡ getD vs m nowhere
     unfolding valueOf treeBelow
     value-below zero m l = refl
     value-below (suc n) m l =
@@ -191,19 +190,19 @@ module _ (vw : List ℕ) (f : ℕ → Value) (ls : List ℕ) (vs : List Value) w
         (value-below n m (omega arith))
       where
         by : (t : Bool) → eqb m n ≡ t → (u : Bool)
-            → valueOf (grown (treeBelow ws us n) (nodeIn ws n)) ≡ getD vs n Unknown
-            → valueOf (treeBelow ws us n m) ≡ getD vs m Unknown
-            → valueOf (pick t (pick u (number n) (grown (treeBelow ws us n) (nodeIn ws n))) (treeBelow ws us n m)) ≡ getD vs m Unknown
-        by true e true p q = ap (λ j. getD vs j Unknown) (sym (eqb-true m n e))
-        by true e false p q = p ∙ ap (λ j. getD vs j Unknown) (sym (eqb-true m n e))
+            → valueOf (grown (treeBelow ws us n) (nodeIn ws n)) ≡ getD vs n nowhere
+            → valueOf (treeBelow ws us n m) ≡ getD vs m nowhere
+            → valueOf (pick t (pick u (number n) (grown (treeBelow ws us n) (nodeIn ws n))) (treeBelow ws us n m)) ≡ getD vs m nowhere
+        by true e true p q = ap (λ j. getD vs j nowhere) (sym (eqb-true m n e))
+        by true e false p q = p ∙ ap (λ j. getD vs j nowhere) (sym (eqb-true m n e))
         by false e u p q = q
 
     -- The tree of a node in a row has the node's value.
-    pub infix-value : (n : ℕ) → valueOf (treeBelow ws us 4096 n) ≡ getD vs n Unknown
+    pub infix-value : (n : ℕ) → valueOf (treeBelow ws us 4096 n) ≡ getD vs n nowhere
     infix-value n = value-below 4096 n (omega arith)
 
     -- So has the tree of a node that has a line of its own.
-    pub own-value : (n : ℕ) → n < 4096 → valueOf (grown (treeBelow ws us n) (nodeIn ws n)) ≡ getD vs n Unknown
+    pub own-value : (n : ℕ) → n < 4096 → valueOf (grown (treeBelow ws us n) (nodeIn ws n)) ≡ getD vs n nowhere
     own-value n h =
         value-grown (treeBelow ws us n) (λ j. width-below n j (omega arith)) (λ j. value-below n j (omega arith)) (nodeIn ws n)
         ∙ sym (s .values n h)

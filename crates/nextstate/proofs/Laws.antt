@@ -8,8 +8,7 @@ use native.Mathlib.Decide.{ℕ-discrete}
 use native.Mathlib.Omega.{arith}
 use lib.ListN.{length, getD}
 use Rattle.values.specs.declared.Value.{Value}
-use Rattle.values.specs.declared.Value.the-variants.{Known}
-use Rattle.values.specs.Values.{pick, holds, same}
+use Rattle.values.specs.Values.{pick, known, allUnknown, holds, same}
 use Rattle.sheet.specs.Expression.{Expr}
 use Rattle.sheet.specs.Module.{Module}
 use Rattle.events.specs.declared.Inputs.{Inputs}
@@ -21,8 +20,8 @@ use Rattle.nextstate.specs.Book.{Book, settled, fed, entry, worth, taken
 use Rattle.nextstate.specs.Laws.{BranchLaw, RiseLaw, TurnLaw, InTurn, Laws}
 
 branch : (us : List ℕ) (f : ℕ → Value) (vs : List Value) (c a b : ℕ) → BranchLaw us f vs c a b
-unfolding nodeValue holds
-branch us f vs c a b = record { first = λ h. rw h refl; other = λ h. rw h refl; unknown = λ h. rw h refl }
+unfolding nodeValue holds allUnknown
+branch us f vs c a b = record { first = λ h. rw h refl; other = λ h. rw h refl; unknown = λ w h. rw h refl }
 
 module _ (m : Module Expr) (T : Tables) where
   module _ (b : Book) (v : ℕ) where
@@ -57,7 +56,7 @@ module _ (m : Module Expr) (T : Tables) where
 
   settling : (a : ℕ → Value) (b : Book) → TurnLaw m T a b
   unfolding turned settled
-  settling a b = record { before = pick (same (a 0) (Known 1)) (rise m T (fed m a b)) (fed m a b) .values; settles = refl }
+  settling a b = record { before = pick (same (a 0) (known 1)) (rise m T (fed m a b)) (fed m a b) .values; settles = refl }
 
   in-turn : (l : List Inputs) (a : Inputs) (b : Book) → turnedAll m T (l ++ (a ∷ [])) b ≡ turned m T (inputOf a) (turnedAll m T l b)
   unfolding turnedAll

@@ -4,14 +4,13 @@ use mathlib.Core.Path.{_≡_, refl}
 use Prim.Native.Nat.{ℕ, zero, suc, _-_}
 use mathlib.Core.Bool.{true, false}
 use mathlib.Core.List.{List, [], _∷_, _++_}
-use lib.ListN.{length, replicate}
+use lib.ListN.{length, getD, replicate}
 use lib.Dec.{eqb}
 use borrow.Author.Tests.{eq-eqb}
 use Rattle.values.specs.declared.Value.{Value}
-use Rattle.values.specs.declared.Value.the-variants.{Known, Unknown}
 use Rattle.values.specs.declared.Edge.the-variants.{Change, Posedge, Negedge}
-use Rattle.values.specs.Values.{pick, holds, same, fits}
-use Rattle.values.specs.Planes.{valueAt, numberOf, isUnknown}
+use Rattle.values.specs.Values.{pick, known, ones, allUnknown, nowhere, holds, same, fits}
+use Rattle.values.specs.Planes.{valueAt, numberOf, marksOf}
 use Rattle.values.specs.Edges.{edgeOf}
 use Rattle.values.specs.Operators as operators
 use Rattle.sheet.specs.declared.EdgeTerm.{EdgeTerm}
@@ -21,10 +20,10 @@ use Rattle.sheet.specs.Statement.{Stmt, empty, assign, later, sequence, ifThen,
 use Rattle.sheet.specs.Module.{Module, readWidths, readHead, readWires, readThreads, readSheet, read}
 use Rattle.evaluation.specs.Evaluation.{eval, reads}
 use Rattle.pseudocode.specs.Translation.{translate, threadCode}
-use Rattle.state.specs.Saved.{listOf}
+use Rattle.state.specs.Rows.{listOf}
 use Rattle.events.specs.declared.Inputs.{Inputs}
 use Rattle.events.specs.Cycle.{variables, codeOf, instrAt, wireExpr, wireVariable, anyBelow, allBelow, isWait}
-use Rattle.events.specs.Calls.{widthOf, inputOf}
+use Rattle.events.specs.Calls.{unset, widthOf, inputOf}
 use Rattle.events.proofs.Samples.{module-of, posedge-clock, swapping}
 use Rattle.nextstate.specs.declared.Registers.{Registers}
 use Rattle.nextstate.specs.Rules.{setsAt, defersAt, readsAt, anyInstr, plainWrites, defers, writes, threadReads, wireReads, someThread, someWire, someRegister, twoWriters, bothWays, readElsewhere, plainlyShared, isPosedge, clockEdge, otherWaitAt, otherWait, startsWaiting, bodyOf, startsRunning, surelyWaits, loopsWait, runsAway, clockRead, readsUpward, one, waitsBefore, waitsBelow, manyWaits, rule}
@@ -49,11 +48,11 @@ unfolding judging extracted threadsBelow walksBelow walkFrom variableNodes walk 
 walking = tt
 
 unfoldable pub turning : Unit {0}
-unfolding judging book turnedAll turned opening rise nextPlace taken worth entry rowOf fed settled settle settleBelow put worked workOut nodeValue nodeWidth eval operators.unary operators.unaryKnown operators.binary operators.binaryKnown operators.choice operators.complement operators.sum operators.difference operators.flag operators.unaryWidth operators.binaryWidth holds same numberOf valueAt inputOf
+unfolding judging book turnedAll turned opening rise nextPlace taken worth entry rowOf fed settled settle settleBelow put worked workOut nodeValue nodeWidth eval operators.unary operators.inverted operators.negated operators.binary operators.both operators.either operators.differing operators.certain operators.equal operators.agreed operators.choice operators.possible operators.marked operators.between operators.outside operators.sum operators.difference operators.flag operators.unaryWidth operators.binaryWidth known ones allUnknown nowhere holds same numberOf valueAt unset inputOf
 turning = tt
 
 unfoldable pub clocking : Unit {0}
-unfolding turning clockedIn given refused wireValue stored storePlaces storeRegisters withWait withRegister clocked handed upperInputsFit registersFit tablesFit rowsFit rowFits registerFits landings lands widthsFrom nodesFit nodeFits width? isUnknown fits widthOf allBelow instrAt listOf variables isRegister
+unfolding turning clockedIn given refused wireValue stored storePlaces storeRegisters withWait withRegister clocked handed upperInputsFit registersFit tablesFit rowsFit rowFits registerFits landings lands widthsFrom nodesFit nodeFits width? marksOf fits widthOf allBelow instrAt listOf variables isRegister
 clocking = tt
 
 -- A row of the table: its first register nodes, 0 for the rest, and the place's node.
@@ -334,7 +333,8 @@ pub rule-20 :
 unfolding judging waits
 rule-20 = (refl, refl, refl, refl)
 
--- ---- "?: for a branch: on x it gives x, where the thread takes the other leg."
+-- ---- "?: for a branch: on x it gives x, where the thread takes the other leg." By document 02, request [4], it is x in the bits in
+-- which its arms differ.
 
 -- @(posedge v0) if (v1) v2 <= 1; else v2 <= 2;
 abbrev branching : Module Expr
@@ -365,11 +365,11 @@ branched kind a =
     worth branching T (λ v. a) (entry branching T 0 0 0)
 
 pub branch-on-x :
-    (branched aBranch Unknown ≡ Known 2)
-    × (branched aBranch (Known 0) ≡ Known 2)
-    × (branched aBranch (Known 1) ≡ Known 1)
-    × (branched aConditional Unknown ≡ Unknown)
-    × (branched aConditional (Known 1) ≡ Known 1)
+    (branched aBranch (allUnknown 1) ≡ known 2)
+    × (branched aBranch (known 0) ≡ known 2)
+    × (branched aBranch (known 1) ≡ known 1)
+    × (branched aConditional (allUnknown 1) ≡ record { number = 0; unknown = 3 })
+    × (branched aConditional (known 1) ≡ known 1)
 unfolding turning
 branch-on-x = (refl, refl, refl, refl, refl)
 
@@ -377,17 +377,17 @@ branch-on-x = (refl, refl, refl, refl, refl)
 
 -- Two inputs, the clock's first.
 abbrev both : ℕ → ℕ → Inputs
-both c n = record { count = 2; value = c ∷ n ∷ replicate 14 0; unknown = false ∷ false ∷ replicate 14 true }
+both c n = record { count = 2; value = c ∷ n ∷ replicate 14 0; unknown = replicate 16 0 }
 
 -- The flip-flop's register: x at first, and from each rise on what the input was then.
 pub flip-flop-book :
     (n k : ℕ) →
-    (book flipFlop flipFlopTables [] .values 2 ≡ Unknown)
-    × (book flipFlop flipFlopTables (both 0 n ∷ []) .values 2 ≡ Unknown)
-    × (book flipFlop flipFlopTables (both 0 n ∷ both 1 n ∷ []) .values 2 ≡ Known n)
+    (book flipFlop flipFlopTables [] .values 2 ≡ allUnknown 8)
+    × (book flipFlop flipFlopTables (both 0 n ∷ []) .values 2 ≡ allUnknown 8)
+    × (book flipFlop flipFlopTables (both 0 n ∷ both 1 n ∷ []) .values 2 ≡ known n)
     × (book flipFlop flipFlopTables (both 0 n ∷ both 1 n ∷ []) .places 0 ≡ 0)
-    × (book flipFlop flipFlopTables (both 0 n ∷ both 1 n ∷ both 0 k ∷ []) .values 2 ≡ Known n)
-    × (book flipFlop flipFlopTables (both 0 n ∷ both 1 n ∷ both 0 k ∷ both 1 k ∷ []) .values 2 ≡ Known k)
+    × (book flipFlop flipFlopTables (both 0 n ∷ both 1 n ∷ both 0 k ∷ []) .values 2 ≡ known n)
+    × (book flipFlop flipFlopTables (both 0 n ∷ both 1 n ∷ both 0 k ∷ both 1 k ∷ []) .values 2 ≡ known k)
 unfolding turning
 flip-flop-book n k = (refl, refl, refl, refl, refl, refl)
 
@@ -428,65 +428,65 @@ chain-extracted = (refl, refl)
 
 -- One pass is enough; upwards it isn't, and wire 0 is still made of what wire 1 was.
 pub settled-in-one-pass :
-    (settle chain (λ v. Known 5) 3 ≡ Known 6)
-    × (settle chain (λ v. Known 5) 4 ≡ Known 12)
-    × (settle upward (λ v. Known 5) 4 ≡ Known 6)
-    × (settle upward (λ v. Known 5) 3 ≡ Known 10)
+    (settle chain (λ v. known 5) 3 ≡ known 6)
+    × (settle chain (λ v. known 5) 4 ≡ known 12)
+    × (settle upward (λ v. known 5) 4 ≡ known 6)
+    × (settle upward (λ v. known 5) 3 ≡ known 10)
 unfolding turning
 settled-in-one-pass = (refl, refl, refl, refl)
 
 -- "Wires settled after the rise only": then the register would be x after the first rise, and a cycle late ever after.
 pub settled-before-the-rise :
-    (book chain chainTables (both 0 5 ∷ both 1 5 ∷ []) .values 2 ≡ Known 12)
-    × (book chain chainTables (both 0 5 ∷ both 1 5 ∷ both 0 7 ∷ []) .values 4 ≡ Known 16)
-    × (book chain chainTables (both 0 5 ∷ both 1 5 ∷ both 0 7 ∷ []) .values 2 ≡ Known 12)
-    × (book chain chainTables (both 0 5 ∷ both 1 5 ∷ both 0 7 ∷ both 1 7 ∷ []) .values 2 ≡ Known 16)
+    (book chain chainTables (both 0 5 ∷ both 1 5 ∷ []) .values 2 ≡ known 12)
+    × (book chain chainTables (both 0 5 ∷ both 1 5 ∷ both 0 7 ∷ []) .values 4 ≡ known 16)
+    × (book chain chainTables (both 0 5 ∷ both 1 5 ∷ both 0 7 ∷ []) .values 2 ≡ known 12)
+    × (book chain chainTables (both 0 5 ∷ both 1 5 ∷ both 0 7 ∷ both 1 7 ∷ []) .values 2 ≡ known 16)
 unfolding turning
 settled-before-the-rise = (refl, refl, refl, refl)
 
 -- ---- the cycle run, on the same tables
 
--- Registers all x, threads at place 0; and one input above the clock.
-abbrev pub at-first : Registers
-at-first = record { value = replicate 32 0; unknown = replicate 32 true; places = replicate 8 0 }
+-- Registers of these widths, all x, threads at place 0; and one input above the clock.
+abbrev pub at-first : List ℕ → Registers
+at-first ws = record { value = replicate 32 0; unknown = listOf 32 (λ r. ones (getD ws r 32)); places = replicate 8 0 }
 
 abbrev upper : ℕ → Inputs
-upper n = record { count = 1; value = n ∷ replicate 15 0; unknown = false ∷ replicate 15 true }
+upper n = record { count = 1; value = n ∷ replicate 15 0; unknown = replicate 16 0 }
 
 -- What the book has after a low and a high instant.
 pub clocked-as-the-book :
     (n : ℕ) →
-    (clocked flipFlop flipFlopTables at-first (upper n) .values 2 ≡ book flipFlop flipFlopTables (both 0 n ∷ both 1 n ∷ []) .values 2)
-    × (clocked chain chainTables at-first (upper n) .values 2 ≡ book chain chainTables (both 0 n ∷ both 1 n ∷ []) .values 2)
-    × (clocked chain chainTables at-first (upper n) .values 4 ≡ book chain chainTables (both 0 n ∷ both 1 n ∷ []) .values 4)
+    (clocked flipFlop flipFlopTables (at-first (8 ∷ [])) (upper n) .values 2 ≡ book flipFlop flipFlopTables (both 0 n ∷ both 1 n ∷ []) .values 2)
+    × (clocked chain chainTables (at-first (8 ∷ [])) (upper n) .values 2 ≡ book chain chainTables (both 0 n ∷ both 1 n ∷ []) .values 2)
+    × (clocked chain chainTables (at-first (8 ∷ [])) (upper n) .values 4 ≡ book chain chainTables (both 0 n ∷ both 1 n ∷ []) .values 4)
 unfolding clocking
 clocked-as-the-book n = (refl, refl, refl)
 
 -- "and gives registers, places and wires"
 pub clocked-chain :
-    clockedIn chain chainTables at-first (upper 5)
+    clockedIn chain chainTables (at-first (8 ∷ [])) (upper 5)
     ≡ record {
       number = 0;
       value = 12 ∷ replicate 31 0;
-      unknown = false ∷ replicate 31 true;
+      unknown = 0 ∷ replicate 31 0xFFFFFFFF;
       places = replicate 8 0;
       wire = 6 ∷ 12 ∷ replicate 30 0;
-      unsure = false ∷ false ∷ replicate 30 true;
+      unsure = 0 ∷ 0 ∷ replicate 30 0xFFFFFFFF;
     }
 unfolding clocking
 clocked-chain = refl
 
 -- "24, 31, 25": a place entry that is no constant; a thread that doesn't wait; an input too wide. The first of them is met.
 abbrev running : Registers
-running = record { value = replicate 32 0; unknown = replicate 32 true; places = 1 ∷ replicate 7 0 }
+running = record { value = replicate 32 0; unknown = replicate 32 0xFF; places = 1 ∷ replicate 7 0 }
 
 abbrev wrongTables : Tables
 wrongTables = record { nodes = aVariable 0 ∷ aVariable 1 ∷ aVariable 2 ∷ aConstant 8 0 ∷ []; rows = row (1 ∷ []) 1 }
 
 pub refused-in-order :
-    (clockedIn flipFlop flipFlopTables at-first (upper 255) .number ≡ 0)
-    × (clockedIn flipFlop flipFlopTables at-first (upper 256) ≡ refused 25 at-first)
-    × (clockedIn flipFlop flipFlopTables at-first (both 1 7) ≡ refused 25 at-first)
+    (clockedIn flipFlop flipFlopTables (at-first (8 ∷ [])) (upper 255) .number ≡ 0)
+    × (clockedIn flipFlop flipFlopTables (at-first (8 ∷ [])) (upper 256) ≡ refused 25 (at-first (8 ∷ [])))
+    × (clockedIn flipFlop flipFlopTables (at-first (8 ∷ [])) (both 1 7) ≡ refused 25 (at-first (8 ∷ [])))
     × (clockedIn flipFlop flipFlopTables running (upper 256) ≡ refused 31 running)
     × (clockedIn flipFlop wrongTables running (upper 256) ≡ refused 24 running)
     × (cycleRun flipFlopSheet [] [] running (upper 256) ≡ refused 23 running)

@@ -5,7 +5,7 @@ use Prim.Native.Nat.{ℕ}
 use mathlib.Core.Bool.{true, false}
 use mathlib.Core.List.{List, [], _∷_, _++_}
 use lib.ListN.{length, replicate}
-use Rattle.values.specs.declared.Value.the-variants.{Known}
+use Rattle.values.specs.Values.{known}
 use Rattle.values.specs.Planes.{valueAt}
 use Rattle.sheet.specs.Reading.{ok}
 use Rattle.sheet.specs.Expression.{Expr, variable, constant, unary, binary}
@@ -112,7 +112,7 @@ watchdog-accepted ns rs h g = ap (λ r. r .number) (fills watchdog-sheet watchdo
 
 -- Inputs 1 up: reset, the reading 5, which may come twice, nothing seen.
 abbrev with-reset : ℕ → Inputs
-with-reset n = record { count = 4; value = n ∷ 5 ∷ 2 ∷ replicate 13 0; unknown = replicate 4 false ++ replicate 12 true }
+with-reset n = record { count = 4; value = n ∷ 5 ∷ 2 ∷ replicate 13 0; unknown = replicate 16 0 }
 
 abbrev after : Clocked → Registers
 after c = record { value = c .value; unknown = c .unknown; places = c .places }
@@ -123,11 +123,11 @@ watched (a ∷ more) g = watched more (after (clockedIn watchdog watchdog-tables
 
 -- The alarm after a reset and so many cycles with the one reading.
 abbrev alarm : ℕ → Registers
-alarm n = watched (with-reset 1 ∷ replicate n (with-reset 0)) at-first
+alarm n = watched (with-reset 1 ∷ replicate n (with-reset 0)) (at-first (12 ∷ 8 ∷ 1 ∷ 16 ∷ []))
 
 pub watchdog-trips :
-    (valueAt (alarm 3 .value) (alarm 3 .unknown) 2 ≡ Known 0)
-    × (valueAt (alarm 4 .value) (alarm 4 .unknown) 2 ≡ Known 1)
+    (valueAt (alarm 3 .value) (alarm 3 .unknown) 2 ≡ known 0)
+    × (valueAt (alarm 4 .value) (alarm 4 .unknown) 2 ≡ known 1)
     × (alarm 4 .places ≡ 16 ∷ replicate 7 0)
 unfolding watched watchdog watchdog-tables clocking
 watchdog-trips = (refl, refl, refl)

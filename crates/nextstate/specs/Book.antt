@@ -6,15 +6,14 @@ use mathlib.Core.List.{List, [], _∷_}
 use lib.ListN.{length, getD}
 use lib.Dec.{ltb, eqb}
 use Rattle.values.specs.declared.Value.{Value}
-use Rattle.values.specs.declared.Value.the-variants.{Known, Unknown}
-use Rattle.values.specs.Values.{pick, same}
+use Rattle.values.specs.Values.{pick, known, nowhere, same}
 use Rattle.values.specs.Planes.{numberOf}
 use Rattle.sheet.specs.Expression.{Expr}
 use Rattle.sheet.specs.Module.{Module}
 use Rattle.evaluation.specs.Evaluation.{eval}
 use Rattle.events.specs.declared.Inputs.{Inputs}
 use Rattle.events.specs.Cycle.{codeOf, wireExpr, wireVariable}
-use Rattle.events.specs.Calls.{inputOf}
+use Rattle.events.specs.Calls.{unset, inputOf}
 use Rattle.nextstate.specs.Rules.{writes, waitsBefore, waitsBelow}
 use Rattle.nextstate.specs.Nodes.{worked}
 use Rattle.nextstate.specs.Extraction.{Tables}
@@ -62,7 +61,7 @@ module _ (m : Module Expr) (T : Tables) where
 
   -- What a node is worth on the values f.
   unfoldable pub worth : (ℕ → Value) → ℕ → Value
-  worth f n = getD (worked (m .scope .widths) f (T .nodes) .values) n Unknown
+  worth f n = getD (worked (m .scope .widths) f (T .nodes) .values) n nowhere
 
   -- Variable v as the threads below i leave it.
   unfoldable pub taken : Book → ℕ → ℕ → Value
@@ -80,12 +79,12 @@ module _ (m : Module Expr) (T : Tables) where
 
   -- "At first inputs and registers are x, places 0, and it settles."
   unfoldable pub opening : Book
-  opening = settled m (record { values = λ v. Unknown; places = λ i. 0 })
+  opening = settled m (record { values = unset (m .scope .widths); places = λ i. 0 })
 
   -- "With the clock 0, it takes the inputs and settles. With the clock 1, it takes the inputs; then .. the values of the nodes ..;
   -- then it settles." A clock that is neither is as one that is 0; demand 3 can't see it.
   unfoldable pub turned : (ℕ → Value) → Book → Book
-  turned a b = settled m (pick (same (a 0) (Known 1)) (rise (fed m a b)) (fed m a b))
+  turned a b = settled m (pick (same (a 0) (known 1)) (rise (fed m a b)) (fed m a b))
 
   -- After these instants, from a book on.
   unfoldable pub turnedAll : List Inputs → Book → Book

@@ -5,14 +5,13 @@ use mathlib.Core.List.{List, [], _∷_, _++_}
 use lib.ListN.{length, getD, set, replicate}
 use lib.Dec.{ltb, leb, eqb}
 use Rattle.values.specs.declared.Value.{Value}
-use Rattle.values.specs.declared.Value.the-variants.{Known, Unknown}
-use Rattle.values.specs.Values.{pick, fits}
-use Rattle.values.specs.Planes.{valueAt, numberOf, isUnknown}
+use Rattle.values.specs.Values.{pick, known, ones, nowhere, fits}
+use Rattle.values.specs.Planes.{valueAt, numberOf, marksOf}
 use Rattle.sheet.specs.Reading.{Res, ok, no, _>>=_, _>>_}
 use Rattle.sheet.specs.Expression.{Expr}
 use Rattle.sheet.specs.Statement.{isRegister}
 use Rattle.sheet.specs.Module.{Module, read}
-use Rattle.state.specs.Saved.{listOf}
+use Rattle.state.specs.Rows.{listOf}
 use Rattle.events.specs.declared.Inputs.{Inputs}
 use Rattle.events.specs.Cycle.{variables, codeOf, instrAt, wireVariable, allBelow, isWait}
 use Rattle.events.specs.Calls.{widthOf, inputOf}
@@ -114,10 +113,10 @@ module _ (m : Module Expr) where
       record {
         values =
             λ v.
-            pick (eqb v 0) (Known 1)
+            pick (eqb v 0) (known 1)
             (pick (ltb v (m .scope .inputs)) (inputOf a (v - 1))
             (pick (isRegister (m .scope) v) (valueAt (g .value) (g .unknown) (v - m .scope .inputs))
-            Unknown));
+            nowhere));
         places = λ i. getD (g .places) i 0;
       }
 
@@ -129,7 +128,7 @@ module _ (m : Module Expr) where
   -- A register's value, and a thread's place.
   unfoldable pub withRegister : Registers → ℕ → Value → Registers
   withRegister g r a =
-      record { value = set (g .value) r (numberOf a); unknown = set (g .unknown) r (isUnknown a); places = g .places }
+      record { value = set (g .value) r (numberOf a); unknown = set (g .unknown) r (marksOf a); places = g .places }
 
   unfoldable pub withWait : Registers → ℕ → ℕ → Registers
   withWait g i p = record { value = g .value; unknown = g .unknown; places = set (g .places) i p }
@@ -151,7 +150,7 @@ module _ (m : Module Expr) where
 
   -- A wire's value; past the sheet's wires x.
   unfoldable pub wireValue : Book → ℕ → Value
-  wireValue b k = pick (ltb k (length (m .wires))) (b .values (wireVariable m k)) Unknown
+  wireValue b k = pick (ltb k (length (m .wires))) (b .values (wireVariable m k)) nowhere
 
 -- A refusal hands back the registers and places that it got, and wires all x.
 unfoldable pub refused : ℕ → Registers → Clocked
@@ -162,7 +161,7 @@ refused n g =
       unknown = g .unknown;
       places = g .places;
       wire = replicate 32 0;
-      unsure = replicate 32 true;
+      unsure = replicate 32 (ones 32);
     }
 
 unfoldable pub given : Module Expr → Book → Registers → Clocked
@@ -173,7 +172,7 @@ given m b g =
       unknown = stored m b g .unknown;
       places = stored m b g .places;
       wire = listOf 32 (λ k. numberOf (wireValue m b k));
-      unsure = listOf 32 (λ k. isUnknown (wireValue m b k));
+      unsure = listOf 32 (λ k. marksOf (wireValue m b k));
     }
 
 -- ---- the call

@@ -9,7 +9,7 @@ use Rattle.values.specs.Values.{pick}
 use Rattle.sheet.specs.Reading.{Res, ok, no, _>>=_, _>>_, check}
 use Rattle.sheet.specs.Expression.{Expr}
 use Rattle.sheet.specs.Module.{Module, read}
-use Rattle.state.specs.Saved.{listOf}
+use Rattle.state.specs.Rows.{listOf}
 use Rattle.events.specs.Cycle.{variables, codeOf, instrAt, isWait}
 use Rattle.nextstate.specs.Rules.{rule}
 use Rattle.nextstate.specs.Nodes.{Node, aVariable, allWords, padded}

@@ -7,8 +7,7 @@ use mathlib.Core.Bool.{true, false}
 use mathlib.Core.List.{List, [], _∷_, _++_}
 use lib.ListN.{length, getD}
 use Rattle.values.specs.declared.Value.{Value}
-use Rattle.values.specs.declared.Value.the-variants.{Unknown}
-use Rattle.values.specs.Values.{holds}
+use Rattle.values.specs.Values.{allUnknown, nowhere, holds}
 use Rattle.sheet.specs.Expression.{Expr}
 use Rattle.sheet.specs.Module.{Module}
 use Rattle.events.specs.declared.Inputs.{Inputs}
@@ -20,9 +19,9 @@ use Rattle.nextstate.specs.Book.{Book, settle, entry, worth, rise, turne
 
 -- "A branch node takes its first arm only if the condition holds, x included among the failures."
 pub record BranchLaw (us : List ℕ) (f : ℕ → Value) (vs : List Value) (c a b : ℕ) : Type 0 where
-  pub first : holds (getD vs c Unknown) ≡ true → nodeValue us f vs (aBranch c a b) ≡ getD vs a Unknown
-  pub other : holds (getD vs c Unknown) ≡ false → nodeValue us f vs (aBranch c a b) ≡ getD vs b Unknown
-  pub unknown : getD vs c Unknown ≡ Unknown → nodeValue us f vs (aBranch c a b) ≡ getD vs b Unknown
+  pub first : holds (getD vs c nowhere) ≡ true → nodeValue us f vs (aBranch c a b) ≡ getD vs a nowhere
+  pub other : holds (getD vs c nowhere) ≡ false → nodeValue us f vs (aBranch c a b) ≡ getD vs b nowhere
+  pub unknown : (w : ℕ) → getD vs c nowhere ≡ allUnknown w → nodeValue us f vs (aBranch c a b) ≡ getD vs b nowhere
 
 module _ (m : Module Expr) (T : Tables) where
   -- "then each thread's written registers .. take the values of the nodes in its place's row, all worked out on the values before"

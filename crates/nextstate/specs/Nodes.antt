@@ -5,8 +5,7 @@ use mathlib.Core.List.{List, [], _∷_, _++_}
 use lib.ListN.{length, getD, replicate}
 use lib.Dec.{leb}
 use Rattle.values.specs.declared.Value.{Value}
-use Rattle.values.specs.declared.Value.the-variants.{Known, Unknown}
-use Rattle.values.specs.Values.{pick, holds, _is_then_else_}
+use Rattle.values.specs.Values.{pick, _is_then_else_, known, allUnknown, nowhere, holds}
 use Rattle.values.specs.Operators.{unaryWidth, binaryWidth, unary, binary, choice}
 
 -- An operand is the number of an earlier node.
@@ -72,12 +71,12 @@ nodeWidth ws us (aBranch c a b) = getD us a 0
 -- "A branch node takes its first arm only if the condition holds, x included among the failures."
 unfoldable pub nodeValue : List ℕ → (ℕ → Value) → List Value → Node → Value
 nodeValue us f vs (aVariable v) = f v
-nodeValue us f vs (aConstant w n) = Known n
-nodeValue us f vs (anUnknown w) = Unknown
-nodeValue us f vs (aUnary o a) = unary o (getD us a 0) (getD vs a Unknown)
-nodeValue us f vs (aBinary o a b) = binary o (getD us a 0) (getD vs a Unknown) (getD vs b Unknown)
-nodeValue us f vs (aConditional c a b) = choice (getD vs c Unknown) (getD vs a Unknown) (getD vs b Unknown)
-nodeValue us f vs (aBranch c a b) = pick (holds (getD vs c Unknown)) (getD vs a Unknown) (getD vs b Unknown)
+nodeValue us f vs (aConstant w n) = known n
+nodeValue us f vs (anUnknown w) = allUnknown w
+nodeValue us f vs (aUnary o a) = unary o (getD us a 0) (getD vs a nowhere)
+nodeValue us f vs (aBinary o a b) = binary o (getD us a 0) (getD vs a nowhere) (getD vs b nowhere)
+nodeValue us f vs (aConditional c a b) = choice (getD vs c nowhere) (getD vs a nowhere) (getD vs b nowhere)
+nodeValue us f vs (aBranch c a b) = pick (holds (getD vs c nowhere)) (getD vs a nowhere) (getD vs b nowhere)
 
 -- ---- nodes worked out once each, in order
 

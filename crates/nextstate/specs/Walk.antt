@@ -9,7 +9,7 @@ use Rattle.sheet.specs.Expression.{Expr, variable, constant, unknown, unary, bi
 use Rattle.sheet.specs.Statement.{isRegister}
 use Rattle.sheet.specs.Module.{Module}
 use Rattle.pseudocode.specs.Translation.{Instr, wait!, set!, later!, go, ifnot}
-use Rattle.state.specs.Saved.{listOf}
+use Rattle.state.specs.Rows.{listOf}
 use Rattle.events.specs.Cycle.{codeOf, instrAt}
 use Rattle.nextstate.specs.Rules.{defers, writes}
 use Rattle.nextstate.specs.Nodes.{Node, aConstant, anUnknown, aUnary, aBinary, aConditional, aBranch}

@@ -4,7 +4,7 @@
 // The registers' values, and the places at which the threads wait.
 pub struct Registers {
     pub value: [u32; 32],
-    pub unknown: [bool; 32],
+    pub unknown: [u32; 32],
     pub places: [u8; 8],
 }
 
@@ -13,8 +13,8 @@ pub struct Registers {
 pub struct Clocked {
     pub number: u8,
     pub value: [u32; 32],
-    pub unknown: [bool; 32],
+    pub unknown: [u32; 32],
     pub places: [u8; 8],
     pub wire: [u32; 32],
-    pub unsure: [bool; 32],
+    pub unsure: [u32; 32],
 }

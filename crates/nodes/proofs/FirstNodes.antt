@@ -10,7 +10,7 @@ use native.Mathlib.Omega.{arith}
 use lib.ListN.{length, length-append}
 use Rattle.sheet.specs.Expression.{Expr}
 use Rattle.sheet.specs.Module.{Module}
-use Rattle.state.specs.Saved.{listOf}
+use Rattle.state.specs.Rows.{listOf}
 use Rattle.events.proofs.Cycle.{and-left, and-right}
 use Rattle.nextstate.specs.Nodes.{Node, nodeWidth}
 use Rattle.nextstate.specs.CycleRun.{nodeFits, nodesFit, widthsFrom, lands, landings}

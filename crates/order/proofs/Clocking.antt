@@ -9,8 +9,7 @@ use native.Mathlib.Decide.{decLt, ℕ-discrete}
 use lib.ListN.{length}
 use lib.Dec.{ltb}
 use borrow.Author.Tests.{lt-ltb, le-ltb, ne-eqb, le-leb}
-use Rattle.values.specs.declared.Value.the-variants.{Known, Unknown}
-use Rattle.values.specs.Values.{pick, same}
+use Rattle.values.specs.Values.{pick, known, nowhere, same}
 use Rattle.values.specs.Planes.{valueAt, numberOf}
 use Rattle.sheet.specs.Reading.{ok}
 use Rattle.sheet.specs.Expression.{Expr}
@@ -77,14 +76,14 @@ module _ (m : Module Expr) (w : Sound m) (u : Ruled m) (T : Tables) (x : extract
   -- ---- before the rise
 
   module _ (b : Book) (k : Kept m b) (low high : Inputs) (fl : inputsFit m low ≡ true) (fh : inputsFit m high ≡ true)
-      (zero-low : inputOf low 0 ≡ Known 0) (one-high : inputOf high 0 ≡ Known 1) (alike : SameButClock high low)
+      (zero-low : inputOf low 0 ≡ known 0) (one-high : inputOf high 0 ≡ known 1) (alike : SameButClock high low)
       (g : Registers) (a : Inputs) (hand : Handed m b low g a) where
     -- The book with the clock low, settled; then the high instant's inputs.
     lowered : Book
     lowered = turned m T (inputOf low) b
 
     lowered-is : lowered ≡ settled m (fed m (inputOf low) b)
-    unfolding lowered turned same
+    unfolding lowered turned same known
     lowered-is = rw zero-low refl
 
     -- What the cycle run is handed, but the clock, is what the book settles on.
@@ -94,7 +93,7 @@ module _ (m : Module Expr) (w : Sound m) (u : Ruled m) (T : Tables) (x : extract
       where
         by : Dec (v < m .scope .inputs) →
             pick (ltb v (m .scope .inputs)) (inputOf a (v - 1))
-            (pick (isRegister (m .scope) v) (valueAt (g .value) (g .unknown) (v - m .scope .inputs)) Unknown)
+            (pick (isRegister (m .scope) v) (valueAt (g .value) (g .unknown) (v - m .scope .inputs)) nowhere)
             ≡ pick (ltb v (m .scope .inputs)) (inputOf low v) (b .values v)
         by (yes d) =
             let e : v - 1 + 1 ≡ v = omega arith in
@@ -111,7 +110,7 @@ module _ (m : Module Expr) (w : Sound m) (u : Ruled m) (T : Tables) (x : extract
         let c = count-inputs m high fh in
         subst (λ (n : ℕ). inputOf high n ≡ inputOf low n) e (alike (v - 1) (omega arith))
 
-    clock-one : handed m g a .values 0 ≡ Known 1
+    clock-one : handed m g a .values 0 ≡ known 1
     unfolding handed
     clock-one = refl
 
@@ -159,7 +158,7 @@ module _ (m : Module Expr) (w : Sound m) (u : Ruled m) (T : Tables) (x : extract
     next-book = turned m T (inputOf high) (turned m T (inputOf low) b)
 
     next-is : next-book ≡ settled m (rise m T (fed m (inputOf high) lowered))
-    unfolding lowered turned same
+    unfolding lowered turned same known
     next-is = rw one-high refl
 
     pub clocked-agree : Agree m (clocked m (lent m w u T x) g a) next-book

@@ -9,8 +9,7 @@ use lib.ListN.{length}
 use lib.Dec.{ltb}
 use borrow.Author.Tests.{lt-ltb}
 use Rattle.values.specs.declared.Value.{Value}
-use Rattle.values.specs.declared.Value.the-variants.{Known}
-use Rattle.values.specs.Values.{pick, same}
+use Rattle.values.specs.Values.{pick, known, same}
 use Rattle.sheet.specs.Reading.{ok}
 use Rattle.sheet.specs.Expression.{Expr}
 use Rattle.sheet.specs.Module.{Module, read}
@@ -46,9 +45,9 @@ module _ (s : List ℕ) (m : Module Expr) (e : read s ≡ ok m) (w : Sound m) (u
   unfolding turned turnedAlone fed rise riseAlone
   turned-alone a b waits =
       let r = rise-alone m w u T x (fed m a b) waits in
-      λ i. settled m (pick (same (a 0) (Known 1)) (record { values = λ v. r .0 v i; places = λ j. r .1 j i }) (fed m a b))
+      λ i. settled m (pick (same (a 0) (known 1)) (record { values = λ v. r .0 v i; places = λ j. r .1 j i }) (fed m a b))
 
-  low : (b : Book) (old new : State) (n : ℕ) (a : ℕ → Value) → Fits m old → Instant m old new a → a 0 ≡ Known 0 →
+  low : (b : Book) (old new : State) (n : ℕ) (a : ℕ → Value) → Fits m old → Instant m old new a → a 0 ≡ known 0 →
       Phase m b old n → Phase m (turned m T a b) new 0
   low b old new n a f i z p =
       subst (λ (c : Book). Phase m c new 0) (sym (turned-alone a b (phase-places m w u b old n p)))
@@ -58,8 +57,8 @@ module _ (s : List ℕ) (m : Module Expr) (e : read s ≡ ok m) (w : Sound m) (u
   unfolding variables
   within v l = omega (arith, w .variables)
 
-  high : (b : Book) (old new : State) (n : ℕ) (a : ℕ → Value) → Fits m old → Instant m old new a → a 0 ≡ Known 1 →
-      b .values 0 ≡ Known 0 → ((v : ℕ) → v ≢ 0 → v < m .scope .inputs → a v ≡ b .values v) →
+  high : (b : Book) (old new : State) (n : ℕ) (a : ℕ → Value) → Fits m old → Instant m old new a → a 0 ≡ known 1 →
+      b .values 0 ≡ known 0 → ((v : ℕ) → v ≢ 0 → v < m .scope .inputs → a v ≡ b .values v) →
       Phase m b old n → Phase m (turned m T a b) new 0
   high b old new n a f i z clock same p =
       let q = phase-quiet m w u b old n (i .rest) p .0 in
@@ -67,8 +66,8 @@ module _ (s : List ℕ) (m : Module Expr) (e : read s ≡ ok m) (w : Sound m) (u
       (phase-high m w u b old new n a (i .rest) p (q 0 (some-variables m w) ∙ clock) i z
       (λ v ne l. same v ne l ∙ sym (q v (within v l))))
 
-  takes-in : (b : Book) (a : ℕ → Value) (v : ℕ) → a 0 ≡ Known 0 → v < m .scope .inputs → turned m T a b .values v ≡ a v
-  unfolding turned settled fed same
+  takes-in : (b : Book) (a : ℕ → Value) (v : ℕ) → a 0 ≡ known 0 → v < m .scope .inputs → turned m T a b .values v ≡ a v
+  unfolding turned settled fed same known
   takes-in b a v z l =
       rw z (settle-below m (λ v. pick (ltb v (m .scope .inputs)) (a v) (b .values v)) v (omega arith) ∙ rw (lt-ltb v (m .scope .inputs) l) refl)
 

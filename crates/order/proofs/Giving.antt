@@ -11,13 +11,12 @@ use lib.Seq.{getD-set-same, getD-set-other}
 use lib.Dec.{ltb}
 use borrow.Author.Tests.{lt-ltb, le-ltb}
 use Rattle.values.specs.declared.Value.{Value}
-use Rattle.values.specs.declared.Value.the-variants.{Known, Unknown}
 use Rattle.values.specs.Values.{pick}
-use Rattle.values.specs.Planes.{valueAt, numberOf, isUnknown}
+use Rattle.values.specs.Planes.{valueAt, numberOf, marksOf}
 use Rattle.values.proofs.Planes.{valueAt-set-same, valueAt-set-other}
 use Rattle.sheet.specs.Expression.{Expr}
 use Rattle.sheet.specs.Module.{Module}
-use Rattle.state.proofs.Rows.{length-listOf, getD-listOf}
+use Rattle.state.proofs.Rows.{getD-listOf}
 use Rattle.soundness.specs.Soundness.{Sound}
 use Rattle.events.specs.Cycle.{wireVariable}
 use Rattle.nextstate.specs.declared.Registers.{Registers}
@@ -31,12 +30,6 @@ below-same r n ne = by (decLt r n)
     by : Dec (r < n) → ltb r n ≡ ltb r (suc n)
     by (yes l) = lt-ltb r n l ∙ sym (lt-ltb r (suc n) (omega arith))
     by (no l) = le-ltb r n (omega arith) ∙ sym (le-ltb r (suc n) (omega arith))
-
--- A value from its two planes.
-planes : (a : Value) → pick (isUnknown a) Unknown (Known (numberOf a)) ≡ a
-unfolding isUnknown numberOf
-planes (Known n) = refl
-planes Unknown = refl
 
 module _ (m : Module Expr) (w : Sound m) (b : Book) (g : Registers) (lv : length (g .value) ≡ 32) (lu : length (g .unknown) ≡ 32)
     (lp : length (g .places) ≡ 8)
@@ -65,7 +58,7 @@ module _ (m : Module Expr) (w : Sound m) (b : Book) (g : Registers) (lv : length
       a : Value
       a = b .values (m .scope .inputs + n)
 
-      by : (r : ℕ) → Dec (r ≡ n) → valueAt (set (h .value) n (numberOf (b .values (m .scope .inputs + n)))) (set (h .unknown) n (isUnknown (b .values (m .scope .inputs + n)))) r
+      by : (r : ℕ) → Dec (r ≡ n) → valueAt (set (h .value) n (numberOf (b .values (m .scope .inputs + n)))) (set (h .unknown) n (marksOf (b .values (m .scope .inputs + n)))) r
           ≡ pick (ltb r (suc n)) (b .values (m .scope .inputs + r)) (valueAt (g .value) (g .unknown) r)
       by r (yes q) =
           rw (q, lt-ltb n (suc n) (omega arith))
@@ -136,15 +129,11 @@ module _ (m : Module Expr) (w : Sound m) (b : Book) (g : Registers) (lv : length
   given-places i l = placed .places i l
 
   pub given-wires : (k : ℕ) → k < length (m .wires) → valueAt (given m b g .wire) (given m b g .unsure) k ≡ b .values (wireVariable m k)
-  unfolding given valueAt wireValue
+  unfolding given valueAt wireValue numberOf marksOf
   given-wires k l =
       let most = w .wires-most in
-      let value : ℕ → ℕ = λ k. numberOf (wireValue m b k) in
       rw (
-        length-listOf (λ k. numberOf (wireValue m b k)) 32,
-        lt-ltb k 32 (omega arith),
-        getD-listOf (λ k. isUnknown (wireValue m b k)) 32 k true (omega arith),
+        getD-listOf (λ k. marksOf (wireValue m b k)) 32 k 0 (omega arith),
         getD-listOf (λ k. numberOf (wireValue m b k)) 32 k 0 (omega arith),
         lt-ltb k (length (m .wires)) l,
       )
-      (planes (b .values (wireVariable m k)))

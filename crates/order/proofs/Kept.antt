@@ -10,18 +10,16 @@ use lib.ListN.{length, getD}
 use lib.Dec.{ltb}
 use borrow.Author.Tests.{lt-ltb, le-ltb}
 use Rattle.values.specs.declared.Value.{Value}
-use Rattle.values.specs.declared.Value.the-variants.{Known, Unknown}
-use Rattle.values.specs.Values.{pick, fits, same}
-use Rattle.values.proofs.Values.{fits-unknown}
+use Rattle.values.specs.Values.{pick, known, fits, same}
 use Rattle.sheet.specs.Reading.{ok}
 use Rattle.sheet.specs.Expression.{Expr}
 use Rattle.sheet.specs.Module.{Module}
 use Rattle.soundness.specs.Soundness.{Fitting, Sound}
 use Rattle.events.specs.declared.Inputs.{Inputs}
 use Rattle.events.specs.Cycle.{variables, codeOf}
-use Rattle.events.specs.Calls.{widthOf, pendingFits, inputOf, inputsFit}
+use Rattle.events.specs.Calls.{unset, widthOf, pendingFits, inputOf, inputsFit}
 use Rattle.events.specs.Steps.{latest}
-use Rattle.events.proofs.Fits.{fits-inputs, latest-fits}
+use Rattle.events.proofs.Fits.{unset-fits, fits-inputs, latest-fits}
 use Rattle.nextstate.specs.Rules.{plainWrites, writes}
 use Rattle.nextstate.specs.Extraction.{Tables, extracted}
 use Rattle.nextstate.specs.Book.{Book, settled, fed, rise, opening, turned, turnedAll, book}
@@ -47,7 +45,7 @@ module _ (m : Module Expr) (w : Sound m) (u : Ruled m) where
   pub kept-opening : (T : Tables) → Kept m (opening m T)
   unfolding opening
   kept-opening T =
-      settled-kept (record { values = λ v. Unknown; places = λ i. 0 }) (λ v l. fits-unknown (widthOf m v))
+      settled-kept (record { values = unset (m .scope .widths); places = λ i. 0 }) (λ v l. unset-fits m v (omega (arith, w .variables)))
       (λ i l. (wait-inside (codeOf m i) 0 (u .first i l), u .first i l))
 
   -- Inputs taken.
@@ -113,7 +111,7 @@ module _ (m : Module Expr) (w : Sound m) (u : Ruled m) where
 
     pub kept-turned : (a : Inputs) (b : Book) → inputsFit m a ≡ true → Kept m b → Kept m (turned m T (inputOf a) b)
     unfolding turned
-    kept-turned a b h k = by (same (inputOf a 0) (Known 1))
+    kept-turned a b h k = by (same (inputOf a 0) (known 1))
       where
         f : Kept m (fed m (inputOf a) b)
         f = kept-fed (inputOf a) b (λ v l. fits-inputs m a h v l) k

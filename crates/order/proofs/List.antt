@@ -9,7 +9,7 @@ use native.Mathlib.Omega.{arith}
 use lib.ListN.{length}
 use borrow.Author.Tests.{eqb-true}
 use Rattle.values.specs.declared.Value.{Value}
-use Rattle.values.specs.declared.Value.the-variants.{Known}
+use Rattle.values.specs.Values.{known}
 use Rattle.sheet.specs.Reading.{ok}
 use Rattle.sheet.specs.Expression.{Expr}
 use Rattle.sheet.specs.Module.{Module, read}
@@ -32,9 +32,9 @@ use Rattle.order.proofs.Outcomes.{Did, nothing, chose, was-fed, Standin
 -- After a low clock: the list ends, or the clock rises and nothing else changes.
 unfoldable pub Rises : Inputs → List Inputs → Type 0
 Rises low [] = Unit {0}
-Rises low (high ∷ l) = (inputOf high 0 ≡ Known 1) × SameButClock high low × Cycles l
+Rises low (high ∷ l) = (inputOf high 0 ≡ known 1) × SameButClock high low × Cycles l
 
-pub falls : (low : Inputs) (l : List Inputs) → Cycles (low ∷ l) → (inputOf low 0 ≡ Known 0) × Rises low l
+pub falls : (low : Inputs) (l : List Inputs) → Cycles (low ∷ l) → (inputOf low 0 ≡ known 0) × Rises low l
 unfolding Cycles Rises
 falls low [] h = (h, tt)
 falls low (high ∷ l) h = (h .0, (h .1, h .2, h .3))
@@ -48,12 +48,12 @@ count-inputs m a h = eqb-true (a .count) (m .scope .inputs) (and-left _ _ h)
 module _ (s : List ℕ) (m : Module Expr) (e : read s ≡ ok m) (w : Sound m) (T : Tables)
     (Holds : Book → State → ℕ → Type 0)
     (step : (b : Book) (old new : State) (who c n : ℕ) → Fits m old → Step m old new who c → Holds b old n → Holds b new (n + 1))
-    (low : (b : Book) (old new : State) (n : ℕ) (a : ℕ → Value) → Fits m old → Instant m old new a → a 0 ≡ Known 0 →
+    (low : (b : Book) (old new : State) (n : ℕ) (a : ℕ → Value) → Fits m old → Instant m old new a → a 0 ≡ known 0 →
     Holds b old n → Holds (turned m T a b) new 0)
-    (high : (b : Book) (old new : State) (n : ℕ) (a : ℕ → Value) → Fits m old → Instant m old new a → a 0 ≡ Known 1 →
-    b .values 0 ≡ Known 0 → ((v : ℕ) → v ≢ 0 → v < m .scope .inputs → a v ≡ b .values v) →
+    (high : (b : Book) (old new : State) (n : ℕ) (a : ℕ → Value) → Fits m old → Instant m old new a → a 0 ≡ known 1 →
+    b .values 0 ≡ known 0 → ((v : ℕ) → v ≢ 0 → v < m .scope .inputs → a v ≡ b .values v) →
     Holds b old n → Holds (turned m T a b) new 0)
-    (takes-in : (b : Book) (a : ℕ → Value) (v : ℕ) → a 0 ≡ Known 0 → v < m .scope .inputs → turned m T a b .values v ≡ a v)
+    (takes-in : (b : Book) (a : ℕ → Value) (v : ℕ) → a 0 ≡ known 0 → v < m .scope .inputs → turned m T a b .values v ≡ a v)
   where
     -- The book holds the inputs of the low instant before.
     abbrev Has : Inputs → Book → Type 0
@@ -61,7 +61,7 @@ module _ (s : List ℕ) (m : Module Expr) (e : read s ≡ ok m) (w : Sound m) (T
 
     pub data Next (b : Book) (l : List Inputs) : Type 0 where
       to-fall : Cycles l → Next b l
-      to-rise : (a : Inputs) → inputOf a 0 ≡ Known 0 → Has a b → Rises a l → Next b l
+      to-rise : (a : Inputs) → inputOf a 0 ≡ known 0 → Has a b → Rises a l → Next b l
 
     -- Counts only rise, so that every step of accepted choices has room where the last has.
     chain : (who : ℕ) → who < users → (b : Book) (old new : State) (cs : List ℕ) (n k : ℕ) → k ≡ n + length cs → Fits m old →

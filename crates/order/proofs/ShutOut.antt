@@ -8,11 +8,10 @@ use Prim.Native.Nat.{ℕ, zero, suc, _+_, _<_}
 use native.Mathlib.Omega.{arith}
 use lib.ListN.{length, replicate}
 use Rattle.values.specs.declared.Value.{Value}
-use Rattle.values.specs.declared.Value.the-variants.{Known, Unknown}
-use Rattle.values.specs.Values.{same, fits, holds}
+use Rattle.values.specs.Values.{known, ones, allUnknown, fits, holds, same}
 use Rattle.values.proofs.Values.{same→≡, same→≢}
 use Rattle.values.specs.Edges.{level, moves, fires}
-use Rattle.values.specs.Planes.{valueAt, numberOf, isUnknown}
+use Rattle.values.specs.Planes.{valueAt, numberOf, marksOf}
 use Rattle.sheet.specs.Reading.{ok}
 use Rattle.sheet.specs.Expression.{Expr, variable, constant}
 use Rattle.sheet.specs.Statement.{later, sequence, ifElse, size}
@@ -20,7 +19,7 @@ use Rattle.sheet.specs.Module.{Module, read}
 use Rattle.evaluation.specs.Evaluation.{eval, reads}
 use Rattle.pseudocode.specs.Translation.{translate, threadCode}
 use Rattle.state.specs.declared.State.{State}
-use Rattle.state.specs.Saved.{allBelow}
+use Rattle.state.specs.Rows.{listOf, allBelow}
 use Rattle.state.specs.State.{countOf, allowanceOf, withPlanes, withSlots, withPlaces, withMarks, withCounters, valueOf, withValue, pendingOf, withPending, withoutPending, placeOf, withPlace, isDue, withDue}
 use Rattle.events.specs.declared.Inputs.{Inputs}
 use Rattle.events.specs.Cycle.{variables, codeOf, instrAt, current, wireExpr, wireVariable, anyBelow, isWait, threadEnabled, items, enabled, anyEnabled, isSome, anyPending, quiet, changed, termsFire, waitFires, fireBelow, touched, markBelow, react, runInstr, runThread, runWire, storeOne, storePending, commit, storeInputs, feed}
@@ -36,7 +35,7 @@ use Rattle.order.specs.Misread.{Reading, ShutOut, Misreadings, turnedBy,
 -- ---- what is computed with
 
 unfoldable simulating : Unit {0}
-unfolding same fits holds level moves fires valueAt numberOf isUnknown size eval reads translate threadCode withPlanes withSlots withPlaces withMarks withCounters valueOf withValue pendingOf withPending withoutPending placeOf withPlace isDue withDue variables codeOf instrAt current wireExpr wireVariable anyBelow allBelow isWait threadEnabled items enabled anyEnabled isSome anyPending quiet changed termsFire waitFires fireBelow touched markBelow react runInstr runThread runWire storeOne storePending commit storeInputs feed dueBelow started startOf start widthOf pendingFits stateFits judged countOf allowanceOf answer spendTime spend byUser countedBy counted timed refusal performed chooseIn resting runBy lowest plainChoice runPlain inputOf inputsFit instantRefusal instantIn instant rested instanced called final before instants
+unfolding known ones allUnknown fits holds same level moves fires valueAt numberOf marksOf size eval reads translate threadCode withPlanes withSlots withPlaces withMarks withCounters valueOf withValue pendingOf withPending withoutPending placeOf withPlace isDue withDue variables codeOf instrAt current wireExpr wireVariable anyBelow allBelow isWait threadEnabled items enabled anyEnabled isSome anyPending quiet changed termsFire waitFires fireBelow touched markBelow react runInstr runThread runWire storeOne storePending commit storeInputs feed dueBelow listOf started startOf start widthOf pendingFits stateFits judged countOf allowanceOf answer spendTime spend byUser countedBy counted timed refusal performed chooseIn resting runBy lowest plainChoice runPlain inputOf inputsFit instantRefusal instantIn instant rested instanced called final before instants
 simulating = tt
 
 -- ---- a list of calls on a sheet that extraction accepts, and a variable's value at its end
@@ -77,7 +76,7 @@ shut {s} {m} {T} {l} {v} {a} E R d =
 -- ---- instants of two inputs, the clock's first
 
 abbrev both : ℕ → ℕ → Inputs
-both c n = record { count = 2; value = c ∷ n ∷ replicate 14 0; unknown = false ∷ false ∷ replicate 14 true }
+both c n = record { count = 2; value = c ∷ n ∷ replicate 14 0; unknown = replicate 16 0 }
 
 unfoldable one-cycle : List Inputs
 one-cycle = both 0 5 ∷ both 1 5 ∷ []
@@ -96,11 +95,11 @@ only-the-clock n zero l = refl
 only-the-clock n (suc v) l = absurd (omega arith)
 
 one-in-cycles : Cycles one-cycle
-unfolding one-cycle Cycles inputOf valueAt
+unfolding one-cycle Cycles inputOf valueAt known
 one-in-cycles = (refl, refl, only-the-clock 5, tt)
 
 two-in-cycles : Cycles two-cycles
-unfolding two-cycles Cycles inputOf valueAt
+unfolding two-cycles Cycles inputOf valueAt known
 two-in-cycles = (refl, refl, only-the-clock 5, (refl, refl, only-the-clock 7, tt))
 
 -- ---- @(posedge v0) if (v3) v2 <= 1; else v2 <= v4; and @(posedge v0) v3 <= v2; where the wire v4 is v1
@@ -132,7 +131,7 @@ the-tables =
     }
 
 -- The first cycle leaves 5 and x in the registers, v3 being x at its rise, and the second one 7 and 5.
-the-end : Ended the-sheet the-module the-tables two-cycles 2 (Known 7)
+the-end : Ended the-sheet the-module the-tables two-cycles 2 (known 7)
 unfolding the-sheet the-module the-tables two-cycles run-through reading walking simulating
 the-end =
     record {
@@ -148,36 +147,51 @@ the-end =
 
 -- ---- v2 there, in each of the readings but the last
 
-five : Known 7 ≢ Known 5
-five e = let z : _≡_ {A = ℕ} 7 5 = cc in omega arith
+-- A value with another number than 7.
+not-7 : (a : Value) → a .number ≢ 7 → known 7 ≢ a
+unfolding known
+not-7 a d e = d (sym (ap (λ (b : Value). b .number) e))
 
-one : Known 7 ≢ Known 1
-one e = let z : _≡_ {A = ℕ} 7 1 = cc in omega arith
+five : known 7 ≢ known 5
+unfolding known
+five = not-7 (known 5) (λ e. omega arith)
 
-none : Known 7 ≢ Unknown
-none e = let z : _≡_ {A = ℕ} 0 1 = cc in omega arith
+one : known 7 ≢ known 1
+unfolding known
+one = not-7 (known 1) (λ e. omega arith)
 
-branch-value : conditionalForBranch the-module the-tables two-cycles .values 2 ≡ Unknown
+none : known 7 ≢ allUnknown 8
+unfolding allUnknown
+none = not-7 (allUnknown 8) (λ e. omega arith)
+
+-- 1 and 7 agree in all bits but two.
+abbrev merged : Value
+merged = record { number = 1; unknown = 6 }
+
+no-merged : known 7 ≢ merged
+no-merged = not-7 merged (λ e. omega arith)
+
+branch-value : conditionalForBranch the-module the-tables two-cycles .values 2 ≡ merged
 unfolding the-module the-tables two-cycles turning conditionalForBranch conditionals conditional
 branch-value = refl
 
-commit-value : threadByThread the-module the-tables two-cycles .values 2 ≡ Known 1
+commit-value : threadByThread the-module the-tables two-cycles .values 2 ≡ known 1
 unfolding the-module the-tables two-cycles turning threadByThread turnedBy turnInTurn riseInTurn takenInTurn
 commit-value = refl
 
-wait-value : firedByTheWrite the-module the-tables two-cycles .values 2 ≡ Known 1
+wait-value : firedByTheWrite the-module the-tables two-cycles .values 2 ≡ known 1
 unfolding the-module the-tables two-cycles turning firedByTheWrite turnedBy turnOnWrite
 wait-value = refl
 
-wires-value : settledAfterTheRise the-module the-tables two-cycles .values 2 ≡ Known 5
+wires-value : settledAfterTheRise the-module the-tables two-cycles .values 2 ≡ known 5
 unfolding the-module the-tables two-cycles turning settledAfterTheRise turnedBy turnUnsettled
 wires-value = refl
 
-idle-value : idleAfterwards the-module the-tables two-cycles .values 2 ≡ Known 5
+idle-value : idleAfterwards the-module the-tables two-cycles .values 2 ≡ known 5
 unfolding the-module the-tables two-cycles turning idleAfterwards turnedBy idleTurn
 idle-value = refl
 
-nothing-value : nothingRun the-module the-tables two-cycles .values 2 ≡ Unknown
+nothing-value : nothingRun the-module the-tables two-cycles .values 2 ≡ allUnknown 8
 unfolding the-module the-tables two-cycles turning nothingRun turnedBy idleTurn
 nothing-value = refl
 
@@ -200,7 +214,7 @@ unfoldable nine-tables : Tables
 nine-tables =
     record { nodes = aVariable 0 ∷ aVariable 1 ∷ aVariable 2 ∷ aConstant 8 9 ∷ aConstant 8 0 ∷ []; rows = row (3 ∷ []) 4 }
 
-nine-end : Ended nine-sheet nine nine-tables one-cycle 2 (Known 9)
+nine-end : Ended nine-sheet nine nine-tables one-cycle 2 (known 9)
 unfolding nine-sheet nine nine-tables one-cycle run-through reading walking simulating
 nine-end =
     record {
@@ -214,7 +228,7 @@ nine-end =
       leaves = refl;
     }
 
-flip-flop-end : Ended flipFlopSheet flipFlop flipFlopTables one-cycle 2 (Known 5)
+flip-flop-end : Ended flipFlopSheet flipFlop flipFlopTables one-cycle 2 (known 5)
 unfolding one-cycle run-through reading walking simulating
 flip-flop-end =
     record {
@@ -237,30 +251,30 @@ module _ (T : Tables) where
   unfolding nine one-cycle turning
   no-other = refl
 
-  nine-apart : the-same ≡ Known 5 → Known 9 ≢ sameTables T nine nine-tables one-cycle .values 2
-  unfolding sameTables
+  nine-apart : the-same ≡ known 5 → known 9 ≢ sameTables T nine nine-tables one-cycle .values 2
+  unfolding sameTables known
   nine-apart e q =
-      let h : Known 9 ≡ Known 5 = q ∙ no-other ∙ e in
-      let z : _≡_ {A = ℕ} 9 5 = cc in
+      let h : known 9 ≡ known 5 = q ∙ no-other ∙ e in
+      let z : _≡_ {A = ℕ} 9 5 = ap (λ (a : Value). a .number) h in
       omega arith
 
-  five-apart : the-same ≢ Known 5 → Known 5 ≢ sameTables T flipFlop flipFlopTables one-cycle .values 2
+  five-apart : the-same ≢ known 5 → known 5 ≢ sameTables T flipFlop flipFlopTables one-cycle .values 2
   unfolding sameTables
   five-apart d q = d (sym q)
 
   no-one-table : ShutOut (sameTables T)
-  no-one-table = by (same the-same (Known 5)) refl
+  no-one-table = by (same the-same (known 5)) refl
     where
-      by : (t : Bool) → same the-same (Known 5) ≡ t → ShutOut (sameTables T)
-      by true e = shut nine-end (sameTables T) (nine-apart (same→≡ the-same (Known 5) e))
-      by false e = shut flip-flop-end (sameTables T) (five-apart (same→≢ the-same (Known 5) e))
+      by : (t : Bool) → same the-same (known 5) ≡ t → ShutOut (sameTables T)
+      by true e = shut nine-end (sameTables T) (nine-apart (same→≡ the-same (known 5) e))
+      by false e = shut flip-flop-end (sameTables T) (five-apart (same→≢ the-same (known 5) e))
 
 -- ---- the theorem
 
 pub shut-out : Misreadings
 shut-out =
     record {
-      branch = shut the-end conditionalForBranch (rw branch-value none);
+      branch = shut the-end conditionalForBranch (rw branch-value no-merged);
       commit = shut the-end threadByThread (rw commit-value one);
       wait = shut the-end firedByTheWrite (rw wait-value one);
       wires = shut the-end settledAfterTheRise (rw wires-value five);

@@ -146,22 +146,22 @@ module _ (s : List ℕ) where
           good = r .good;
         }
 
-    -- From the start, with n wires.
-    tallied-from : (allowances : List ℕ) (ks : List Call) (n : ℕ) → start s allowances .state ≡ started n allowances →
+    -- From the start, with variables of the widths ws and n wires.
+    tallied-from : (allowances : List ℕ) (ks : List Call) (ws : List ℕ) (n : ℕ) → start s allowances .state ≡ started ws n allowances →
         Good (start s allowances .state) → ((st : State) → Good st → CountsFit st) → Tallied s allowances ks
     unfolding together
-    tallied-from allowances ks n e h fit =
+    tallied-from allowances ks ws n e h fit =
         let st = start s allowances .state in
         let r = sums ks st h in
-        let zero : (u : ℕ) → countOf st u ≡ 0 = λ u. ap (λ (x : State). countOf x u) e ∙ count-started n allowances u in
-        let time : st .counters .time ≡ 0 = ap (λ (x : State). x .counters .time) e ∙ time-started n allowances in
+        let zero : (u : ℕ) → countOf st u ≡ 0 = λ u. ap (λ (x : State). countOf x u) e ∙ count-started ws n allowances u in
+        let time : st .counters .time ≡ 0 = ap (λ (x : State). x .counters .time) e ∙ time-started ws n allowances in
         let sum : together st ≡ 0 = let a = zero 0 in let b = zero 1 in let c = zero 2 in let d = zero 3 in omega arith in
         record {
           time = let a = r .time in omega arith;
           counts = λ u l. let a = r .counts u in let b = zero u in omega arith;
           all = let a = r .all in omega arith;
           allowances-stay = λ u.
-              r .allowances u ∙ ap (λ (x : State). allowanceOf x u) e ∙ allowance-started n allowances u;
+              r .allowances u ∙ ap (λ (x : State). allowanceOf x u) e ∙ allowance-started ws n allowances u;
           within = fit (final s ks st) (r .good);
         }
 
@@ -174,19 +174,19 @@ module _ (s : List ℕ) (m : Module Expr) (e : read s ≡ ok m) (w : Sound m) wh
   all-standing (k ∷ ks) st h = all-standing ks (called s st k .state) (standing s m e w st h k)
 
   module _ (allowances : List ℕ) (right : length allowances ≡ users) where
-    pub from-start : start s allowances .state ≡ started (length (m .wires)) allowances
+    pub from-start : start s allowances .state ≡ started (m .scope .widths) (length (m .wires)) allowances
     unfolding start startOf
     from-start = rw e refl
 
     pub standing-start : Standing m (start s allowances .state)
     standing-start =
         rw from-start
-        (record { shaped = shaped-started (length (m .wires)) allowances right; fits = fits-started m w allowances })
+        (record { shaped = shaped-started (m .scope .widths) (length (m .wires)) allowances right; fits = fits-started m w allowances })
 
     pub tallied : (ks : List Call) → Tallied s allowances ks
     tallied ks =
         tallied-from s (Standing m) (λ st h k. counted-did s m st k (called s st k) (did s m e w st h k))
-        (λ st h k. standing s m e w st h k) allowances ks (length (m .wires)) from-start standing-start (λ st h. h .fits .counts)
+        (λ st h k. standing s m e w st h k) allowances ks (m .scope .widths) (length (m .wires)) from-start standing-start (λ st h. h .fits .counts)
 
 -- ---- a sheet that isn't: every call is refused
 
@@ -200,14 +200,14 @@ module _ (s : List ℕ) (n p : ℕ) (e : read s ≡ no n p) where
   refused-all st (an-instant a) =
       rw e (counted-nothing s st (an-instant a) _ refl refl (rw (ne-eqb n 0 (λ q. omega (arith, numbered s n p e .0))) refl), refl)
 
-  refused-start : (allowances : List ℕ) → start s allowances .state ≡ started 0 allowances
+  refused-start : (allowances : List ℕ) → start s allowances .state ≡ started [] 0 allowances
   unfolding start startOf
   refused-start allowances = rw e refl
 
   refused-tallied : (allowances : List ℕ) (ks : List Call) → Tallied s allowances ks
   refused-tallied allowances ks =
-      let z : CountsFit (started 0 allowances) = λ u l. rw (count-started 0 allowances u) (omega arith) in
-      tallied-from s CountsFit (λ st h k. refused-all st k .0) (λ st h k. rw (refused-all st k .1) h) allowances ks 0
+      let z : CountsFit (started [] 0 allowances) = λ u l. rw (count-started [] 0 allowances u) (omega arith) in
+      tallied-from s CountsFit (λ st h k. refused-all st k .0) (λ st h k. rw (refused-all st k .1) h) allowances ks [] 0
       (refused-start allowances) (rw (refused-start allowances) z) (λ st h. h)
 
 -- ---- the theorem

@@ -6,8 +6,7 @@ use mathlib.Core.Bool.{Bool, false}
 use mathlib.Core.List.{List, [], _∷_}
 use mathlib.Core.Option.{Option, none, some}
 use lib.Dec.{eqb}
-use Rattle.values.specs.declared.Value.the-variants.{Known}
-use Rattle.values.specs.Values.{pick}
+use Rattle.values.specs.Values.{pick, known}
 use Rattle.state.specs.declared.State.{State}
 use Rattle.events.specs.declared.Inputs.{Inputs}
 use Rattle.events.specs.declared.Chosen.{Chosen}
@@ -98,11 +97,11 @@ SameButClock a b = (v : ℕ) → v + 1 < a .count → inputOf a (v + 1) ≡ inpu
 
 unfoldable pub Cycles : List Inputs → Type 0
 Cycles [] = Unit {0}
-Cycles (low ∷ []) = inputOf low 0 ≡ Known 0
-Cycles (low ∷ high ∷ l) = (inputOf low 0 ≡ Known 0) × (inputOf high 0 ≡ Known 1) × SameButClock high low × Cycles l
+Cycles (low ∷ []) = inputOf low 0 ≡ known 0
+Cycles (low ∷ high ∷ l) = (inputOf low 0 ≡ known 0) × (inputOf high 0 ≡ known 1) × SameButClock high low × Cycles l
 
 -- The same, and it doesn't end between a low clock and a high one.
 unfoldable pub WholeCycles : List Inputs → Type 0
 WholeCycles [] = Unit {0}
 WholeCycles (low ∷ []) = ⊥
-WholeCycles (low ∷ high ∷ l) = (inputOf low 0 ≡ Known 0) × (inputOf high 0 ≡ Known 1) × SameButClock high low × WholeCycles l
+WholeCycles (low ∷ high ∷ l) = (inputOf low 0 ≡ known 0) × (inputOf high 0 ≡ known 1) × SameButClock high low × WholeCycles l

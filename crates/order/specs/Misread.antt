@@ -8,8 +8,7 @@ use mathlib.Core.Bool.{true}
 use mathlib.Core.List.{List, [], _∷_}
 use lib.ListN.{length}
 use Rattle.values.specs.declared.Value.{Value}
-use Rattle.values.specs.declared.Value.the-variants.{Known}
-use Rattle.values.specs.Values.{pick, same}
+use Rattle.values.specs.Values.{pick, known, same}
 use Rattle.sheet.specs.Reading.{ok}
 use Rattle.sheet.specs.Expression.{Expr}
 use Rattle.sheet.specs.Module.{Module, read}
@@ -67,7 +66,7 @@ module _ (m : Module Expr) (T : Tables) where
   riseInTurn b = record { values = takenInTurn b (length (m .threads)); places = nextPlace m T b }
 
   unfoldable pub turnInTurn : (ℕ → Value) → Book → Book
-  turnInTurn a b = settled m (pick (same (a 0) (Known 1)) (riseInTurn (fed m a b)) (fed m a b))
+  turnInTurn a b = settled m (pick (same (a 0) (known 1)) (riseInTurn (fed m a b)) (fed m a b))
 
 unfoldable pub threadByThread : Reading
 threadByThread m T l = turnedBy (turnInTurn m T) l (opening m T)
@@ -83,7 +82,7 @@ firedByTheWrite m T l = turnedBy (turnOnWrite m T) l (opening m T)
 -- ---- "Wires settled after the rise only."
 
 unfoldable pub turnUnsettled : Module Expr → Tables → (ℕ → Value) → Book → Book
-turnUnsettled m T a b = pick (same (a 0) (Known 1)) (settled m (rise m T (fed m a b))) (fed m a b)
+turnUnsettled m T a b = pick (same (a 0) (known 1)) (settled m (rise m T (fed m a b))) (fed m a b)
 
 unfoldable pub settledAfterTheRise : Reading
 settledAfterTheRise m T l = turnedBy (turnUnsettled m T) l (opening m T)

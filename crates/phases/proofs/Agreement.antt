@@ -8,8 +8,7 @@ use native.Mathlib.Omega.{arith}
 use lib.ListN.{length}
 use borrow.Author.Tests.{lt-ltb}
 use Rattle.values.specs.declared.Value.{Value}
-use Rattle.values.specs.declared.Value.the-variants.{Known}
-use Rattle.values.specs.Values.{pick, same}
+use Rattle.values.specs.Values.{pick, known, same}
 use Rattle.sheet.specs.Expression.{Expr}
 use Rattle.sheet.specs.Statement.{Scope}
 use Rattle.sheet.specs.Module.{Module}
@@ -121,7 +120,7 @@ module _ (m : Module Expr) (w : Sound m) where
 
     pub turned-agree : (a : ℕ → Value) (b c : Book) → Agree m b c → Agree m (turnedAlone m a b) (turnedAlone m a c)
     unfolding turnedAlone
-    turned-agree a b c h = by (same (a 0) (Known 1))
+    turned-agree a b c h = by (same (a 0) (known 1))
       where
         by : (t : Bool) →
             Agree m (settled m (pick t (riseAlone m (fed m a b)) (fed m a b)))
@@ -136,7 +135,7 @@ module _ (m : Module Expr) (w : Sound m) where
         (T : Tables) (a : ℕ → Value) (b : Book) → Agree m (riseAlone m (fed m a b)) (rise m T (fed m a b)) →
         Agree m (turnedAlone m a b) (turned m T a b)
     unfolding turnedAlone turned
-    turned-alone T a b h = by (same (a 0) (Known 1))
+    turned-alone T a b h = by (same (a 0) (known 1))
       where
         by : (t : Bool) →
             Agree m (settled m (pick t (riseAlone m (fed m a b)) (fed m a b)))

@@ -7,7 +7,7 @@ use Prim.Native.Nat.{ℕ, _+_, _<_}
 use native.Mathlib.Decide.{decLt}
 use native.Mathlib.Omega.{arith}
 use lib.ListN.{length, List·getD-eq-default}
-use Rattle.values.specs.declared.Value.the-variants.{Known}
+use Rattle.values.specs.Values.{known}
 use Rattle.values.proofs.Edges.{posedge-0-1, posedge-to-0}
 use Rattle.sheet.specs.Expression.{Expr}
 use Rattle.sheet.specs.Module.{Module}
@@ -30,14 +30,14 @@ wait-inside c p h = by (decLt p (length c))
     by (no d) = absurd-bool h (rw (List·getD-eq-default c (go 0) {n = p} (omega arith)))
 
 module _ (m : Module Expr) (u : Ruled m) (old new : State) (i : ℕ) (h : isWait (current m old i) ≡ true) where
-  pub low-stays : valueOf new 0 ≡ Known 0 → Fired m old new i → placeOf new i ≡ placeOf old i
+  pub low-stays : valueOf new 0 ≡ known 0 → Fired m old new i → placeOf new i ≡ placeOf old i
   unfolding current
   low-stays z (goes-on q e) =
       absurd-bool q (fires-clock m u i (placeOf old i) (valueOf old) (valueOf new) h ∙ (rw z (posedge-to-0 (valueOf old 0))))
   low-stays z (stays q e) = e
 
   pub high-goes-on :
-      valueOf old 0 ≡ Known 0 → valueOf new 0 ≡ Known 1 → Fired m old new i → placeOf new i ≡ placeOf old i + 1
+      valueOf old 0 ≡ known 0 → valueOf new 0 ≡ known 1 → Fired m old new i → placeOf new i ≡ placeOf old i + 1
   unfolding current
   high-goes-on y z (goes-on q e) = e
   high-goes-on y z (stays q e) =

@@ -14,15 +14,14 @@ use lib.ListN.{length}
 use lib.Dec.{ltb}
 use borrow.Author.Tests.{not-false, lt-ltb, le-ltb}
 use Rattle.values.specs.declared.Value.{Value}
-use Rattle.values.specs.declared.Value.the-variants.{Known, Unknown}
-use Rattle.values.specs.Values.{pick, same}
+use Rattle.values.specs.Values.{pick, known, same}
 use Rattle.sheet.specs.Expression.{Expr}
 use Rattle.sheet.specs.Module.{Module}
 use Rattle.state.specs.declared.State.{State}
 use Rattle.state.specs.State.{valueOf, pendingOf, placeOf, isDue}
 use Rattle.soundness.specs.Soundness.{Sound}
 use Rattle.events.specs.Cycle.{variables, codeOf, instrAt, current, wireVariable, isWait, items, enabled, quiet}
-use Rattle.events.specs.Calls.{started}
+use Rattle.events.specs.Calls.{unset, started}
 use Rattle.events.specs.Steps.{latest, Marked, was-due, reads-changed, not-due, Acts, assigns, defers, jumps, goes-in, passes-by, settles, commits, Step, Instant}
 use Rattle.events.proofs.Cycle.{absurd-bool, current-place}
 use Rattle.events.proofs.Choices.{enabled-thread, enabled-wire, none-enabled, none-pending, quiet-enabled, quiet-pending}
@@ -78,12 +77,12 @@ still-kept m old new h still i l = rw (current-place m new old i (h i l)) (still
 -- ---- the book's next values, by the clock
 
 module _ (m : Module Expr) (a : ℕ → Value) (b : Book) where
-  turned-low : a 0 ≡ Known 0 → turnedAlone m a b ≡ settled m (fed m a b)
-  unfolding turnedAlone same
+  turned-low : a 0 ≡ known 0 → turnedAlone m a b ≡ settled m (fed m a b)
+  unfolding turnedAlone same known
   turned-low e = rw e
 
-  turned-high : a 0 ≡ Known 1 → turnedAlone m a b ≡ settled m (riseAlone m (fed m a b))
-  unfolding turnedAlone same
+  turned-high : a 0 ≡ known 1 → turnedAlone m a b ≡ settled m (riseAlone m (fed m a b))
+  unfolding turnedAlone same known
   turned-high e = rw e
 
 module _ (m : Module Expr) (w : Sound m) (u : Ruled m) where
@@ -96,18 +95,21 @@ module _ (m : Module Expr) (w : Sound m) (u : Ruled m) where
 
   -- ---- the start
 
-  pub phase-start : (T : Tables) (allowances : List ℕ) → Phase m (opening m T) (started (length (m .wires)) allowances) 0
+  pub phase-start : (T : Tables) (allowances : List ℕ) → Phase m (opening m T) (started (m .scope .widths) (length (m .wires)) allowances) 0
   unfolding opening settled current
   phase-start T allowances =
+      let ws = m .scope .widths in
       let W = length (m .wires) in
-      let z = room-below (started W allowances) in
+      let z = room-below (started ws W allowances) in
       settling
       (record {
-        still = λ i l. rw (place-started W allowances i) (u .first i l);
-        clear = λ r l. pending-started W allowances r;
+        still = λ i l. rw (place-started ws W allowances i) (u .first i l);
+        clear = λ r l. pending-started ws W allowances r;
         settles = settles-start m w allowances;
-        values = settle-agree m w u (valueOf (started W allowances)) (λ v. Unknown) (λ v l. value-started W allowances v);
-        places = λ i l. place-started W allowances i;
+        values =
+            settle-agree m w u (valueOf (started ws W allowances)) (unset ws)
+            (λ v l. value-started ws W allowances v (omega (arith, w .inputs-most, w .registers-most)));
+        places = λ i l. place-started ws W allowances i;
         bound = omega arith;
       })
 
@@ -307,7 +309,7 @@ module _ (m : Module Expr) (w : Sound m) (u : Ruled m) where
         by (no d) =
             rw (le-ltb v (m .scope .inputs) (omega arith)) (s .others v d ∙ quiet-values b old n q A v l)
 
-    low-phase : a 0 ≡ Known 0 → Settling m (turnedAlone m a b) new 0
+    low-phase : a 0 ≡ known 0 → Settling m (turnedAlone m a b) new 0
     unfolding settled fed variables
     low-phase e =
         let z = room-below new in
@@ -339,7 +341,7 @@ module _ (m : Module Expr) (w : Sound m) (u : Ruled m) where
     unmarked same k d (not-due e r x) = x
 
     high-phase :
-        valueOf old 0 ≡ Known 0 → a 0 ≡ Known 1 → ((v : ℕ) → v ≢ 0 → v < m .scope .inputs → a v ≡ valueOf old v) →
+        valueOf old 0 ≡ known 0 → a 0 ≡ known 1 → ((v : ℕ) → v ≢ 0 → v < m .scope .inputs → a v ≡ valueOf old v) →
         Running m (turnedAlone m a b) new 0
     unfolding settled fed begin alone current variables
     high-phase y e same =
@@ -369,11 +371,11 @@ module _ (m : Module Expr) (w : Sound m) (u : Ruled m) where
 
   pub phase-low :
       (b : Book) (old new : State) (n : ℕ) (a : ℕ → Value) → quiet m old ≡ true → Phase m b old n → Instant m old new a →
-      a 0 ≡ Known 0 → Phase m (turnedAlone m a b) new 0
+      a 0 ≡ known 0 → Phase m (turnedAlone m a b) new 0
   phase-low b old new n a q p s e = settling (low-phase b old new n a q (quiet-phase b old n q p) s e)
 
   pub phase-high :
-      (b : Book) (old new : State) (n : ℕ) (a : ℕ → Value) → quiet m old ≡ true → Phase m b old n → valueOf old 0 ≡ Known 0 →
-      Instant m old new a → a 0 ≡ Known 1 → ((v : ℕ) → v ≢ 0 → v < m .scope .inputs → a v ≡ valueOf old v) →
+      (b : Book) (old new : State) (n : ℕ) (a : ℕ → Value) → quiet m old ≡ true → Phase m b old n → valueOf old 0 ≡ known 0 →
+      Instant m old new a → a 0 ≡ known 1 → ((v : ℕ) → v ≢ 0 → v < m .scope .inputs → a v ≡ valueOf old v) →
       Phase m (turnedAlone m a b) new 0
   phase-high b old new n a q p y s e same = running (high-phase b old new n a q (quiet-phase b old n q p) s y e same)

@@ -8,8 +8,7 @@ use mathlib.Core.Bool.{true, false}
 use mathlib.Core.Option.{none}
 use lib.ListN.{length}
 use Rattle.values.specs.declared.Value.{Value}
-use Rattle.values.specs.declared.Value.the-variants.{Known}
-use Rattle.values.specs.Values.{pick, same}
+use Rattle.values.specs.Values.{pick, known, same}
 use Rattle.sheet.specs.Expression.{Expr}
 use Rattle.sheet.specs.Module.{Module}
 use Rattle.state.specs.declared.State.{State}
@@ -39,7 +38,7 @@ stepsUpTo steps (suc i) = stepsUpTo steps i + steps i
 -- ---- the book from one instant to the next, the rise of the clock told by the threads run alone
 
 unfoldable pub turnedAlone : Module Expr → (ℕ → Value) → Book → Book
-turnedAlone m a b = settled m (pick (same (a 0) (Known 1)) (riseAlone m (fed m a b)) (fed m a b))
+turnedAlone m a b = settled m (pick (same (a 0) (known 1)) (riseAlone m (fed m a b)) (fed m a b))
 
 -- ---- rest, part by part
 

@@ -13,7 +13,7 @@ use Rattle.pseudocode.specs.declared.EdgeTerms.{EdgeTerms}
 use Rattle.pseudocode.specs.Fetching.{termAt}
 use Rattle.masks.specs.Masks.{bits, either, anyMark}
 use Rattle.events.specs.Cycle.{anyBelow}
-use Rattle.cells.specs.Cells.{cellOf, valueOf, cellAt}
+use Rattle.values.specs.Cells.{cellOf, valueOf, cellAt}
 use Rattle.plan.specs.declared.Instruction.{Instruction}
 use Rattle.plan.specs.declared.Instruction.the-variants.{Wait, Act}
 use Rattle.plan.specs.Plan.{Plan}
@@ -47,7 +47,7 @@ wake q ps v a b ws = pick (anyMark (q .watchers v)) (wakeBelow q ps v a b (eight
 
 -- ---- put: the value of a cell stored into variable v; ps are the places before the change
 
--- "Storing an equal value is no change": it is stored all the same, so that 0 lies under an x. There are 80 variables at most.
+-- "Storing an equal value is no change": it is stored all the same. There are 80 variables at most.
 unfoldable pub put : Plan → List ℕ → ℕ → ℕ → Changing → Changing
 put q ps v c k =
     pick (ltb v 80)

@@ -8,7 +8,7 @@ ghost use mathlib.Core.Path.{_≡_};
 ghost use Prim.Native.Nat.{_<_};
 ghost use Rattle.masks.specs.Masks.{bits};
 ghost use Rattle.events.specs.Cycle.{anyBelow};
-ghost use Rattle.cells.specs.Cells.{valueOf};
+ghost use Rattle.values.specs.Cells.{valueOf};
 ghost use Rattle.plan.specs.Plan.{planOf};
 ghost use Rattle.plan_changes.specs.Scene.{stand, changing, scene};
 ghost use Rattle.plan_changes.specs.Changes.{eight, termWakes, wakes, wakeThread, wake, put, after, placed, moveThread, move, store};
@@ -61,7 +61,7 @@ fn term_wakes(terms: EdgeTerms, k: u8, v: usize, old: u64, new: u64) -> bool
     let t = pseudocode::term_at(terms, k);
     if wide(t.variable) == v {
         let e = t.edge;
-        cells::fires(e, old, new)
+        values::fires_cells(e, old, new)
     } else {
         false
     }
@@ -155,8 +155,8 @@ pub fn put(
         return made;
     }
     let old = cells[v];
-    cells[v] = cells::store(cells::load(c));
-    if cells::same(old, c) {
+    cells[v] = values::store(values::load(c));
+    if values::same_cells(old, c) {
         return made;
     }
     let due = masks::union(made.due, plan::readers(plan, v));

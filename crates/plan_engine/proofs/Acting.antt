@@ -12,7 +12,7 @@ use borrow.Author.Tests.{ltb-true, ltb-false}
 use Rattle.values.specs.declared.Value.{Value}
 use Rattle.masks.specs.Masks.{bits}
 use Rattle.masks.proofs.Masks.{getD-bits-past}
-use Rattle.cells.specs.Cells.{cellOf}
+use Rattle.values.specs.Cells.{cellOf}
 use Rattle.plan.specs.declared.Expression.{Expression}
 use Rattle.plan.specs.declared.Action.the-variants.{Set, Later, Go, IfNot}
 use Rattle.plan.specs.Plan.{Plan}

@@ -8,7 +8,7 @@ use lib.Dec.{ltb}
 use Rattle.values.specs.declared.Value.{Value}
 use Rattle.values.specs.Values.{pick, holds}
 use Rattle.masks.specs.Masks.{bits}
-use Rattle.cells.specs.Cells.{cellOf, valueOf}
+use Rattle.values.specs.Cells.{cellOf, valueOf}
 use Rattle.plan.specs.declared.Action.{Action}
 use Rattle.plan.specs.declared.Action.the-variants.{Set, Later, Go, IfNot}
 use Rattle.plan.specs.Plan.{Plan}

@@ -70,7 +70,7 @@ fn evaluate(plan: &PlanTable, cells: &mut Cells, e: Expression) -> u64
 fn leg(c: u64, p: u8, goal: u8) -> u8
     ensures { λ r. ⌜ r ≡ leg c p goal ⌝ }
 {
-    if cells::holds(c) {
+    if values::holds_cell(c) {
         plan_changes::after(p)
     } else {
         goal
@@ -95,7 +95,7 @@ fn defer(plan: &PlanTable, pending: &mut [u64; 32], held: u32, v: u8, c: u64) ->
     if 32 <= r {
         return held;
     }
-    pending[r] = cells::store(cells::load(c));
+    pending[r] = values::store(values::load(c));
     masks::with(held, r)
 }
 
@@ -266,7 +266,7 @@ fn put_inputs<'a>(
     places: &'a [u8; 8],
     due: u32,
     value: &'a [u32; 16],
-    unknown: &'a [bool; 16],
+    unknown: &'a [u32; 16],
 ) -> Made
     ensures { λ r. ⌜
         changing (now (cells .exit)) (bits (r .due)) (bits (r .woken))
@@ -279,7 +279,7 @@ fn put_inputs<'a>(
     let mut made = Made { due, woken: 0 };
     let mut n: usize = 0;
     while n < inputs {
-        let c = cells::store(values::value_at(value, unknown, n));
+        let c = values::store(values::value_at(value, unknown, n));
         made = plan_changes::put(plan, cells, places, made, n, c);
         n += 1;
     }
@@ -294,7 +294,7 @@ pub fn feed<'a>(
     places: &mut [u8; 8],
     marks: Marks,
     value: &'a [u32; 16],
-    unknown: &'a [bool; 16],
+    unknown: &'a [u32; 16],
 ) -> Marks
     ensures { λ r. ⌜
         live (now (cells .exit)) (now (pending .exit)) (now (places .exit)) r

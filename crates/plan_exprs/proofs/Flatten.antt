@@ -91,7 +91,7 @@ module _ (f g : ℕ → Node) (base : ℕ) where
   pub flat-kept : {n r k : ℕ} {e : Expr} → ((i : ℕ) → i < n + k → f i ≡ g i) → Flat f base n e r k → Flat g base n e r k
   flat-kept u (a-variable v) = a-variable v
   flat-kept u (a-constant v e) = a-constant v (sym (u _ (omega arith)) ∙ e)
-  flat-kept u (an-unknown e) = an-unknown (sym (u _ (omega arith)) ∙ e)
+  flat-kept u (an-unknown h e) = an-unknown h (sym (u _ (omega arith)) ∙ e)
   flat-kept u (a-unary p q x y e) = a-unary p q x (flat-kept (λ i j. u i (omega arith)) y) (sym (u _ (omega arith)) ∙ e)
   flat-kept u (a-binary p q x y z e) =
       a-binary p q x (flat-kept (λ i j. u i (omega arith)) y) (flat-kept (λ i j. u i (omega arith)) z) (sym (u _ (omega arith)) ∙ e)
@@ -186,7 +186,7 @@ module _ (base n : ℕ) (ws : List ℕ) (long : 16704 ≤ length ws) (r : n + 1 
         width = refl;
         next = refl;
         narrow = h;
-        flat = an-unknown (put-same n 2 0 0 w ws u long);
+        flat = an-unknown h (put-same n 2 0 0 w ws u long);
         below = put-below n 2 0 0 w ws u;
         above = put-above n 2 0 0 w ws u;
         long = put-length n 2 0 0 w ws u;

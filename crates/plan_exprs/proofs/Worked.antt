@@ -8,7 +8,7 @@ use Rattle.values.specs.declared.Value.{Value}
 use Rattle.sheet.specs.Expression.{Parsed, Expr}
 use Rattle.sheet.proofs.Expression.{Reads}
 use Rattle.evaluation.specs.Evaluation.{eval}
-use Rattle.cells.specs.Cells.{cellAt}
+use Rattle.values.specs.Cells.{cellAt}
 use Rattle.plan.specs.Plan.{nodeAt}
 use Rattle.plan_nodes.specs.Nodes.{workFrom}
 use Rattle.plan_nodes.proofs.Flat.{flat-eval}

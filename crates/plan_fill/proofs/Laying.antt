@@ -59,7 +59,7 @@ ready-kept vs ws us h k x =
 pub flat-root : {f : ℕ → Node} {base n r k : ℕ} {e : Expr} → base ≤ n → Flat f base n e r k → r < n + k
 flat-root h (a-variable v) = omega arith
 flat-root h (a-constant v e) = omega arith
-flat-root h (an-unknown e) = omega arith
+flat-root h (an-unknown w e) = omega arith
 flat-root h (a-unary p q x y e) = omega arith
 flat-root h (a-binary p q x y z e) = omega arith
 flat-root h (a-conditional x y z e) = omega arith

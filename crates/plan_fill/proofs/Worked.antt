@@ -7,7 +7,7 @@ use lib.ListN.{length}
 use Rattle.values.specs.declared.Value.{Value}
 use Rattle.sheet.specs.Expression.{Expr}
 use Rattle.evaluation.specs.Evaluation.{eval}
-use Rattle.cells.specs.Cells.{cellAt}
+use Rattle.values.specs.Cells.{cellAt}
 use Rattle.plan.specs.declared.Expression.{Expression}
 use Rattle.plan.specs.Plan.{Node}
 use Rattle.plan_nodes.specs.Nodes.{work, workFrom}
@@ -20,7 +20,7 @@ use Rattle.plan_fill.specs.Holding.{Lies}
 pub flat-last : {f : ℕ → Node} {base n r k : ℕ} {e : Expr} → base ≤ n → Flat f base n e r k → r + 1 - n ≡ k
 flat-last h (a-variable v) = omega arith
 flat-last h (a-constant v e) = omega arith
-flat-last h (an-unknown e) = omega arith
+flat-last h (an-unknown w e) = omega arith
 flat-last h (a-unary p q x y e) = omega arith
 flat-last h (a-binary p q x y z e) = omega arith
 flat-last h (a-conditional x y z e) = omega arith

@@ -34,7 +34,7 @@ fn flag_at(flags: &[bool], at: usize) -> bool
 }
 
 // Do the first `n` values fit their widths?
-fn values_fit<'a>(plan: &PlanTable, n: usize, value: &'a [u32], unknown: &'a [bool]) -> bool
+fn values_fit<'a>(plan: &PlanTable, n: usize, value: &'a [u32], unknown: &'a [u32]) -> bool
     ensures { λ r. ⌜ r ≡ allBelow n
         (λ v. fits (planOf (now (plan .entry)) .width v) (valueAt (now (value .entry)) (now (unknown .entry)) v)) ⌝ }
 {

@@ -1,24 +1,21 @@
 -- An expression that lies flattened in a table is worked out to its value, and cells below its nodes stay. Assumes nothing.
 use mathlib.Core.Path.{_≡_, refl, sym, ap, _∙_}
-use mathlib.Core.Bool.{Bool, true, false}
+use mathlib.Core.Bool.{true}
 use mathlib.Core.List.{List}
 use Prim.Native.Nat.{ℕ, zero, suc, _+_, _-_, _%_, _^_, _<_, _≤_}
 use native.Mathlib.Omega.{arith}
 use native.Mathlib.Nat.{mod-eq-of-lt}
-use lib.Bits.{and-lt, or-lt, xor-lt}
-use lib.Dec.{eqb, ltb}
 use lib.ListN.{length, getD, set, length-set}
 use lib.Seq.{getD-set-other}
 use Rattle.values.specs.declared.Value.{Value}
-use Rattle.values.specs.declared.Value.the-variants.{Known, Unknown}
-use Rattle.values.specs.Values.{pick, _is_then_else_, fits}
+use Rattle.values.specs.Values.{known, allUnknown}
 use Rattle.values.specs.Operators as operators
-use Rattle.values.proofs.Values.{fits-known, fits-unknown, fits→<, below-wider}
-use Rattle.values.proofs.Operators.{complement-lt, sum-lt, difference-lt, choice-fits}
+use Rattle.values.proofs.Values.{fits-known, fits-unknown}
+use Rattle.values.proofs.Operators.{fits-small, unary-small, binary-small, choice-small}
 use Rattle.sheet.specs.Expression.{Expr, variable, constant, unknown, unary, binary, conditional}
 use Rattle.evaluation.specs.Evaluation.{eval}
-use Rattle.cells.specs.Cells.{cellOf, cellAt}
-use Rattle.cells.proofs.Cells.{at-fits, at-set-same, at-same}
+use Rattle.values.specs.Cells.{small, cellOf, cellAt}
+use Rattle.values.proofs.Cells.{at-small, at-set-same, at-same}
 use Rattle.plan.specs.Sections.{slotOf}
 use Rattle.plan.specs.Plan.{Node, node}
 use Rattle.plan.proofs.Sections.{slot-same}
@@ -26,47 +23,11 @@ use Rattle.plan_nodes.specs.Nodes.{worthOf, workNode, workFrom}
 use Rattle.plan_nodes.specs.Flat.{Flat, a-variable, a-constant, an-unknown, a-unary, a-binary, a-conditional}
 use Rattle.plan_nodes.proofs.Nodes.{leaf-constant, leaf-none, worth-leaf, worth-unary, worth-binary, worth-choice, work-add, work-last}
 
--- ---- the operators stay within 32 bits, whatever the width up to that
-
-row-small : (o k n : ℕ) (rest : Value) → n < 2 ^ 32 → fits 32 rest ≡ true → fits 32 (o is k then Known n else rest) ≡ true
-row-small o k n rest h f = by (eqb o k)
-  where
-    by : (t : Bool) → fits 32 (pick t (Known n) rest) ≡ true
-    by true = fits-known 32 n h
-    by false = f
-
-flag-small : (t : Bool) → operators.flag t < 2 ^ 32
-unfolding operators.flag
-flag-small true = omega arith
-flag-small false = omega arith
-
-pub unary-small : (o w : ℕ) (a : Value) → w ≤ 32 → fits 32 (operators.unary o w a) ≡ true
-unfolding operators.unary operators.unaryKnown
-unary-small o w (Known a) h =
-    row-small o 1 _ _ (below-wider (complement-lt w a) h) (row-small o 2 _ _ (flag-small (eqb a 0)) (fits-unknown 32))
-unary-small o w Unknown h = fits-unknown 32
-
-pub binary-small : (o w : ℕ) (a b : Value) → w ≤ 32 → fits 32 a ≡ true → fits 32 b ≡ true → fits 32 (operators.binary o w a b) ≡ true
-unfolding operators.binary operators.binaryKnown
-binary-small o w (Known a) (Known b) h f g =
-    let x = fits→< 32 a f in
-    let y = fits→< 32 b g in
-    row-small o 3 _ _ (and-lt 32 a b x y)
-    (row-small o 4 _ _ (or-lt 32 a b x y)
-    (row-small o 5 _ _ (xor-lt 32 a b x y)
-    (row-small o 6 _ _ (below-wider (sum-lt w a b) h)
-    (row-small o 7 _ _ (below-wider (difference-lt w a b) h)
-    (row-small o 8 _ _ (flag-small (eqb a b))
-    (row-small o 9 _ _ (flag-small (ltb a b))
-    (fits-unknown 32)))))))
-binary-small o w (Known a) Unknown h f g = fits-unknown 32
-binary-small o w Unknown b h f g = fits-unknown 32
-
 -- ---- what is known when the k nodes from n on are worked out on cs: ds is the plane then, r the cell of the value
 
 pub record Done (cs ds : List ℕ) (n r k : ℕ) (a : Value) : Type 0 where
   pub value : cellAt ds r ≡ a
-  pub small : fits 32 a ≡ true
+  pub sized : small a ≡ true
   pub kept : (i : ℕ) → i < n → getD ds i 0 ≡ getD cs i 0
   pub long : length ds ≡ length cs
   pub below : r < n + k
@@ -75,7 +36,7 @@ pub record Done (cs ds : List ℕ) (n r k : ℕ) (a : Value) : Type 0 where
 module _ (ws : ℕ → Node) (cs ds : List ℕ) (n k m : ℕ) (a : Value) where
   pub last-node : ds ≡ workFrom ws n k cs → m ≡ n + k → length ds ≡ length cs → m < length cs
       → ((i : ℕ) → i < n → getD ds i 0 ≡ getD cs i 0)
-      → worthOf (cellAt ds) (ws m) ≡ a → fits 32 a ≡ true
+      → worthOf (cellAt ds) (ws m) ≡ a → small a ≡ true
       → Done cs (workFrom ws n (suc k) cs) n m (suc k) a
   unfolding workNode
   last-node e p l h keep w f =
@@ -83,7 +44,7 @@ module _ (ws : ℕ → Node) (cs ds : List ℕ) (n k m : ℕ) (a : Value) where
       work-last ws n k cs ∙ rw (← p, ← e) (ap (λ (v : Value). set ds m (cellOf v)) w) in
       rw ends (record {
         value = at-set-same ds m a (rw l h) f;
-        small = f;
+        sized = f;
         kept = λ i u. getD-set-other ds m i (cellOf a) 0 (λ q. omega arith) ∙ keep i u;
         long = length-set ds m (cellOf a) ∙ l;
         below = omega arith;
@@ -102,7 +63,7 @@ unfolding workFrom
 variable-done ws cs n v a e h =
     record {
       value = e;
-      small = rw e at (at-fits cs v);
+      sized = rw e at (at-small cs v);
       kept = λ i j. refl;
       long = refl;
       below = omega arith;
@@ -123,7 +84,7 @@ module _ (ws : ℕ → Node) (cs : List ℕ) (n : ℕ) (l : length cs ≡ 4176) 
       last-node ws cs ds n k (n + k) (operators.unary o w x) p refl (d .long) (omega arith) (d .kept)
       (ap (worthOf (cellAt ds)) e ∙ worth-unary (cellAt ds) (10 + o) r 0 w (omega arith) (omega arith)
       ∙ rw (s, z, number o (omega arith), d .value))
-      (unary-small o w x c)
+      (unary-small o w x c (d .sized))
 
   module _ (es : List ℕ) (t m : ℕ) (y : Value) (q : es ≡ workFrom ws (n + k) m ds) (g : Done ds es (n + k) t m y) where
     left : cellAt es r ≡ x
@@ -142,7 +103,7 @@ module _ (ws : ℕ → Node) (cs : List ℕ) (n : ℕ) (l : length cs ≡ 4176) 
         (λ v u. g .kept v (omega arith) ∙ d .kept v u)
         (ap (worthOf (cellAt es)) e ∙ worth-binary (cellAt es) (10 + o) r t w (omega arith) (omega arith) (omega arith)
         ∙ rw (i, j, z, number o (omega arith), left, g .value))
-        (binary-small o w x y c (d .small) (g .small))
+        (binary-small o w x y c (d .sized) (g .sized))
 
     module _ (fs : List ℕ) (u b : ℕ) (v : Value) (q2 : fs ≡ workFrom ws (n + k + m) b es) (f : Done es fs (n + k + m) u b v) where
       conditional-done : n + suc (k + m + b) ≤ 4176 → ws (n + k + m + b) ≡ node 20 r t u
@@ -161,7 +122,7 @@ module _ (ws : ℕ → Node) (cs : List ℕ) (n : ℕ) (l : length cs ≡ 4176) 
           (λ a w. f .kept a (omega arith) ∙ g .kept a (omega arith) ∙ d .kept a w)
           (ap (worthOf (cellAt fs)) e ∙ worth-choice (cellAt fs) 20 r t u (omega arith) (omega arith) refl
           ∙ rw (i, j, z, first, second, f .value))
-          (choice-fits 32 x y v (g .small) (f .small))
+          (choice-small x y v (g .sized) (f .sized))
 
 -- The variables' cells stay while nodes above them are worked out.
 kept-env : (base n : ℕ) (cs ds : List ℕ) (env : ℕ → Value) → base ≤ n → ((i : ℕ) → i < n → getD ds i 0 ≡ getD cs i 0)
@@ -174,12 +135,15 @@ module _ (ws : ℕ → Node) (base : ℕ) where
   unfolding eval
   flat-eval {n} cs env l b h f (a-variable {v = v} u) = variable-done ws cs n v (env v) (f v u) (omega arith)
   flat-eval {n} cs env l b h f (a-constant {k = k} u e) =
-      last-node ws cs cs n 0 n (Known k) (work-zero ws n cs) (omega arith) refl (omega arith) (λ i j. refl)
-      (ap (worthOf (cellAt cs)) e ∙ worth-leaf (cellAt cs) 1 0 k 0 (omega arith) ∙ leaf-constant (cellAt cs) 1 0 k 0 refl) (fits-known 32 k u)
-  flat-eval {n} cs env l b h f (an-unknown {w = w} e) =
-      last-node ws cs cs n 0 n Unknown (work-zero ws n cs) (omega arith) refl (omega arith) (λ i j. refl)
+      last-node ws cs cs n 0 n (known k) (work-zero ws n cs) (omega arith) refl (omega arith) (λ i j. refl)
+      (ap (worthOf (cellAt cs)) e ∙ worth-leaf (cellAt cs) 1 0 k 0 (omega arith) ∙ leaf-constant (cellAt cs) 1 0 k 0 refl)
+      (fits-small 32 (known k) (omega arith) (fits-known 32 k u))
+  flat-eval {n} cs env l b h f (an-unknown {w = w} u e) =
+      let z : w % 256 ≡ w = mod-eq-of-lt (omega arith) in
+      last-node ws cs cs n 0 n (allUnknown w) (work-zero ws n cs) (omega arith) refl (omega arith) (λ i j. refl)
       (ap (worthOf (cellAt cs)) e ∙ worth-leaf (cellAt cs) 2 0 0 w (omega arith)
-      ∙ leaf-none (cellAt cs) 2 0 0 w (λ q. omega arith) (λ q. omega arith)) (fits-unknown 32)
+      ∙ leaf-none (cellAt cs) 2 0 0 w (λ q. omega arith) (λ q. omega arith) ∙ ap allUnknown z)
+      (fits-small w (allUnknown w) u (fits-unknown w))
   flat-eval {n} cs env l b h f (a-unary {o = o} {w = w} {r = r} {k = k} {a = a} p q x y e) =
       unary-done ws cs n l (workFrom ws n k cs) r k (eval env a) refl (flat-eval cs env l b (omega arith) f y) o w h p q x e
   flat-eval {n} cs env l b h f (a-binary {o = o} {w = w} {r = r} {s = t} {k = k} {l = m} {a = a} {b = a2} p q x y z e) =

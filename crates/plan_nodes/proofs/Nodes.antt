@@ -7,18 +7,23 @@ use native.Mathlib.Numerals.{add-one}
 use borrow.Author.Tests.{lt-ltb, le-ltb, eq-eqb, ne-eqb, le-leb, lt-leb}
 use lib.ListN.{getD}
 use Rattle.values.specs.declared.Value.{Value}
-use Rattle.values.specs.declared.Value.the-variants.{Known, Unknown}
-use Rattle.values.specs.Values.{pick, holds}
+use Rattle.values.specs.Values.{pick, known, allUnknown, holds}
 use Rattle.values.specs.Operators.{unary, binary, choice}
-use Rattle.cells.specs.Cells.{cellOf, valueOf, cellAt}
+use Rattle.values.specs.Cells.{cellOf, valueOf, cellAt}
 use Rattle.plan.specs.Sections.{slotOf}
 use Rattle.plan.specs.Plan.{Node, node}
 use Rattle.plan_nodes.specs.Nodes.{leafOf, worthOf, workNode, workFrom, work}
 
+-- ---- the cell of a known number
+
+pub known-cell : (n : ℕ) → cellOf (known n) ≡ n
+unfolding cellOf known
+known-cell n = omega arith
+
 -- ---- leafOf, worthOf, by the kind
 
 module _ (g : ℕ → Value) (k a b c : ℕ) where
-  pub leaf-constant : k ≡ 1 → leafOf g (node k a b c) ≡ Known b
+  pub leaf-constant : k ≡ 1 → leafOf g (node k a b c) ≡ known b
   unfolding leafOf
   leaf-constant e = rw (eq-eqb k 1 e)
 
@@ -26,7 +31,7 @@ module _ (g : ℕ → Value) (k a b c : ℕ) where
   unfolding leafOf
   leaf-variable n e = rw (ne-eqb k 1 n, eq-eqb k 0 e)
 
-  pub leaf-none : (k ≡ 1 → ⊥) → (k ≡ 0 → ⊥) → leafOf g (node k a b c) ≡ Unknown
+  pub leaf-none : (k ≡ 1 → ⊥) → (k ≡ 0 → ⊥) → leafOf g (node k a b c) ≡ allUnknown (c % 256)
   unfolding leafOf
   leaf-none n m = rw (ne-eqb k 1 n, ne-eqb k 0 m)
 
@@ -57,7 +62,7 @@ module _ (g : ℕ → Value) (k a b c : ℕ) where
       unfolding worthOf
       worth-branch n e = rw (le-ltb k 11 h, le-ltb k 13 wide, le-ltb k 20 m, ne-eqb k 20 n, eq-eqb k 40 e)
 
-      pub worth-none : (k ≡ 20 → ⊥) → (k ≡ 40 → ⊥) → worthOf g (node k a b c) ≡ Unknown
+      pub worth-none : (k ≡ 20 → ⊥) → (k ≡ 40 → ⊥) → worthOf g (node k a b c) ≡ allUnknown (c % 256)
       unfolding worthOf
       worth-none n o = rw (le-ltb k 11 h, le-ltb k 13 wide, le-ltb k 20 m, ne-eqb k 20 n, ne-eqb k 40 o)
 

@@ -8,7 +8,7 @@ use Rattle.plan.specs.Plan.{Node, node}
 pub data Flat (f : ℕ → Node) (base : ℕ) : ℕ → Expr → ℕ → ℕ → Type 0 where
   a-variable : {n v : ℕ} → v < base → Flat f base n (variable v) v 0
   a-constant : {n w k : ℕ} → k < 2 ^ 32 → f n ≡ node 1 0 k 0 → Flat f base n (constant w k) n 1
-  an-unknown : {n w : ℕ} → f n ≡ node 2 0 0 w → Flat f base n (unknown w) n 1
+  an-unknown : {n w : ℕ} → w ≤ 32 → f n ≡ node 2 0 0 w → Flat f base n (unknown w) n 1
   a-unary : {n o w r k : ℕ} {a : Expr} → 1 ≤ o → o ≤ 2 → w ≤ 32 → Flat f base n a r k
       → f (n + k) ≡ node (10 + o) r 0 w → Flat f base n (unary o w a) (n + k) (suc k)
   a-binary : {n o w r s k l : ℕ} {a b : Expr} → 3 ≤ o → o ≤ 9 → w ≤ 32 → Flat f base n a r k → Flat f base (n + k) b s l

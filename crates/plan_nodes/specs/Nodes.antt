@@ -5,21 +5,21 @@ use Prim.Native.Nat.{ℕ, zero, suc, _-_, _%_}
 use lib.Dec.{ltb, leb}
 use lib.ListN.{set}
 use Rattle.values.specs.declared.Value.{Value}
-use Rattle.values.specs.declared.Value.the-variants.{Known, Unknown}
-use Rattle.values.specs.Values.{pick, _is_then_else_, holds}
+use Rattle.values.specs.Values.{pick, _is_then_else_, known, allUnknown, holds}
 use Rattle.values.specs.Operators.{unary, binary, choice}
-use Rattle.cells.specs.Cells.{cellOf, cellAt}
+use Rattle.values.specs.Cells.{cellOf, cellAt}
 use Rattle.plan.specs.Sections.{cells, slotOf}
 use Rattle.plan.specs.Plan.{Node}
 
 -- ---- worthOf: what a node is worth; g gives the cells' values
 
 -- Document 01's kinds below the operators: "0 variable, 1 constant, 2 unknown constant". A constant's number is the second word.
+-- An unknown constant's width is the third word; a kind that is none counts as one.
 unfoldable pub leafOf : (ℕ → Value) → Node → Value
 leafOf g x =
-    x .kind is 1 then Known (x .second) else
+    x .kind is 1 then known (x .second) else
     x .kind is 0 then g (slotOf (x .first)) else
-    Unknown
+    allUnknown (x .third % 256)
 
 -- "10 plus the operator" has its operands' cells and, but for ?:, their width in the third word.
 -- "40 branch": "A branch node takes its first arm only if the condition holds, x included among the failures."
@@ -30,7 +30,7 @@ worthOf g x =
     (pick (ltb (x .kind) 20) (binary op (x .third % 256) first second)
     (x .kind is 20 then choice first second third else
     x .kind is 40 then pick (holds first) second third else
-    Unknown)))
+    allUnknown (x .third % 256))))
   where
     op : ℕ
     op = (x .kind - 10) % 256

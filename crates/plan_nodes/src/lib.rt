@@ -5,7 +5,7 @@ use plan::low;
 use plan::slot;
 ghost use mathlib.Core.Path.{_≡_};
 ghost use Prim.Native.Nat.{_<_};
-ghost use Rattle.cells.specs.Cells.{cellOf, cellAt};
+ghost use Rattle.values.specs.Cells.{cellOf, cellAt};
 ghost use Rattle.plan.specs.Plan.{node, planOf};
 ghost use Rattle.plan_nodes.specs.Nodes.{leafOf, worthOf, workNode, work};
 
@@ -17,9 +17,9 @@ fn leaf(cells: &Cells, kind: u32, a: u32, b: u32, c: u32) -> u64
         return b as u64;
     }
     if kind == 0 {
-        return cells::store(cells::load(cells[slot(a)]));
+        return values::store(values::load(cells[slot(a)]));
     }
-    cells::UNKNOWN
+    values::store(values::all_unknown(low(c)))
 }
 
 // What a node is worth, as a cell.
@@ -32,19 +32,19 @@ fn worth(cells: &Cells, kind: u32, a: u32, b: u32, c: u32) -> u64
     let x = cells[slot(a)];
     let y = cells[slot(b)];
     if kind < 13 {
-        return cells::unary(low(kind - 10), low(c), x);
+        return values::unary_cell(low(kind - 10), low(c), x);
     }
     if kind < 20 {
-        return cells::binary(low(kind - 10), low(c), x, y);
+        return values::binary_cell(low(kind - 10), low(c), x, y);
     }
     let z = cells[slot(c)];
     if kind == 20 {
-        return cells::choice(x, y, z);
+        return values::choice_cell(x, y, z);
     }
     if kind == 40 {
-        return cells::branch(x, y, z);
+        return values::branch_cell(x, y, z);
     }
-    cells::UNKNOWN
+    values::store(values::all_unknown(low(c)))
 }
 
 // Works out a node into its own cell.

@@ -28,9 +28,9 @@ use Rattle.events.proofs.Cycle.{below-none, touched-none, terms-quiet, kept-mar
 use Rattle.refinement.proofs.Kept.{Kept, kept-withValue}
 use Rattle.refinement.proofs.Ready.{ready-places}
 use Rattle.refinement.proofs.Changing.{touched-put}
-use Rattle.cells.specs.Cells as cell
-use Rattle.cells.specs.Cells.{cellOf}
-use Rattle.cells.proofs.Cells.{value-fits}
+use Rattle.values.specs.Cells as cell
+use Rattle.values.specs.Cells.{cellOf}
+use Rattle.values.proofs.Cells.{value-small}
 use Rattle.plan.specs.declared.Instruction.{Instruction}
 use Rattle.plan.specs.declared.Instruction.the-variants.{Wait, Act}
 use Rattle.plan.specs.Plan.{Plan}
@@ -72,7 +72,7 @@ planes-put : (cs : List ℕ) (u : State) (v c : ℕ) → v < 80 → length cs �
     → Planes (withValue u v (cell.valueOf c) .value) (withValue u v (cell.valueOf c) .unknown) 80
     (set cs v (cellOf (cell.valueOf c)))
 unfolding withValue withPlanes
-planes-put cs u v c h l p = planes-set p v (cell.valueOf c) h (omega arith) (value-fits c)
+planes-put cs u v c h l p = planes-set p v (cell.valueOf c) h (omega arith) (value-small c)
 
 -- ---- Midway: in the midst of a change
 

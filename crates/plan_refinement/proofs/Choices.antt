@@ -9,7 +9,8 @@ use lib.ListN.{length, getD, set}
 use lib.Dec.{ltb, eqb}
 use borrow.Author.Tests.{lt-ltb, le-ltb, ltb-true, ltb-false, eqb-true, eqb-false, ne-eqb}
 use Rattle.values.specs.declared.Value.{Value}
-use Rattle.values.specs.Values.{pick, fits}
+use Rattle.values.specs.Values.{pick}
+use Rattle.values.specs.Cells.{small}
 use Rattle.sheet.specs.Expression.{Expr}
 use Rattle.sheet.specs.Module.{Module}
 use Rattle.pseudocode.specs.Translation.{Instr}
@@ -381,7 +382,7 @@ module _ {m : Module Expr} {q : Plan} (w : PlanOf m q) (st : State) (k : Kept m 
 
 -- An instant is made on the state with one more in time.
 pub feed-timed-shows : {m : Module Expr} {q : Plan} (w : PlanOf m q) (st : State) → Kept m st → (l : Live) → Shows m st l
-    → (a : ℕ → Value) → ((n : ℕ) → n < m .scope .inputs → fits 32 (a n) ≡ true) → Shows m (cycle.feed m a (timed st)) (feed q a l)
+    → (a : ℕ → Value) → ((n : ℕ) → n < m .scope .inputs → small (a n) ≡ true) → Shows m (cycle.feed m a (timed st)) (feed q a l)
 unfolding timed
 feed-timed-shows {m} w st k l z a fit =
     feed-shows w (timed st) (kept-timed k) l

@@ -9,7 +9,7 @@ use lib.ListN.{getD}
 use lib.Dec.{ltb}
 use borrow.Author.Tests.{ltb-true, ltb-false}
 use Rattle.values.specs.declared.Value.{Value}
-use Rattle.values.specs.Values.{pick, fits}
+use Rattle.values.specs.Values.{pick}
 use Rattle.sheet.specs.Expression.{Expr}
 use Rattle.sheet.specs.Module.{Module}
 use Rattle.masks.specs.Masks.{bits}
@@ -23,9 +23,9 @@ use Rattle.events.proofs.Cycle.{pending-storePending-above, value-storePending-
 use Rattle.events.proofs.Cycle.{kept-storeInputs, value-storeInputs-above}
 use Rattle.refinement.proofs.Kept.{Kept, flag-none, kept-withoutPending}
 use Rattle.refinement.proofs.Ready.{ready-places}
-use Rattle.cells.specs.Cells as cell
-use Rattle.cells.specs.Cells.{cellOf, cellAt}
-use Rattle.cells.proofs.Cells.{value-cell}
+use Rattle.values.specs.Cells as cell
+use Rattle.values.specs.Cells.{small, cellOf, cellAt}
+use Rattle.values.proofs.Cells.{value-cell}
 use Rattle.plan.specs.Plan.{Plan}
 use Rattle.plan_changes.specs.Scene.{Changing}
 use Rattle.plan_changes.specs.Changes.{put, opened, finish}
@@ -161,7 +161,7 @@ module _ {m : Module Expr} {q : Plan} (w : PlanOf m q) (st : State) (k : Kept m 
 
   -- ---- feed
 
-  module _ (a : ℕ → Value) (fit : (n : ℕ) → n < m .scope .inputs → fits 32 (a n) ≡ true) where
+  module _ (a : ℕ → Value) (fit : (n : ℕ) → n < m .scope .inputs → small (a n) ≡ true) where
     abbrev fed : ℕ → State
     fed n = storeInputs a n st
 

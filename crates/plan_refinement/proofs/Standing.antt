@@ -8,8 +8,8 @@ use borrow.Author.Tests.{le-leb}
 use Rattle.values.specs.declared.Value.{Value}
 use Rattle.sheet.specs.Expression.{Expr}
 use Rattle.evaluation.specs.Evaluation.{eval}
-use Rattle.cells.specs.Cells as cell
-use Rattle.cells.specs.Cells.{cellAt}
+use Rattle.values.specs.Cells as cell
+use Rattle.values.specs.Cells.{cellAt}
 use Rattle.plan.specs.declared.Expression.{Expression}
 use Rattle.plan.specs.Plan.{Node, Plan}
 use Rattle.plan.proofs.Sections.{slot-same}
@@ -23,7 +23,7 @@ use Rattle.plan_refinement.specs.Refinement.{Stands}
 flat-count : {f : ℕ → Node} {base n r k : ℕ} {e : Expr} → base ≤ n → Flat f base n e r k → r + 1 - n ≡ k
 flat-count b (a-variable h) = omega arith
 flat-count b (a-constant h e) = omega arith
-flat-count b (an-unknown e) = omega arith
+flat-count b (an-unknown w e) = omega arith
 flat-count b (a-unary h i j x e) = omega arith
 flat-count b (a-binary h i j x y e) = omega arith
 flat-count b (a-conditional x y z e) = omega arith

@@ -23,9 +23,9 @@ use Rattle.events.specs.Cycle.{runInstr, runThread, runWire}
 use Rattle.events.proofs.Cycle.{kept-react, shaped-react}
 use Rattle.refinement.proofs.Kept.{Kept, kept-unmarked, sound-at}
 use Rattle.refinement.proofs.Ready.{ready-places}
-use Rattle.cells.specs.Cells as cell
-use Rattle.cells.specs.Cells.{cellOf}
-use Rattle.cells.proofs.Cells.{value-fits}
+use Rattle.values.specs.Cells as cell
+use Rattle.values.specs.Cells.{cellOf}
+use Rattle.values.proofs.Cells.{value-small}
 use Rattle.plan.specs.declared.Expression.{Expression}
 use Rattle.plan.specs.declared.Action.{Action}
 use Rattle.plan.specs.declared.Instruction.the-variants.{Act}
@@ -80,7 +80,7 @@ unfolding withPending withSlots
 slots-withPending st ns hs r c h z =
     record {
       long = length-set ns r (cellOf (cell.valueOf c)) ∙ z .long;
-      planes = planes-set (z .planes) r (cell.valueOf c) h (omega (arith, z .long)) (value-fits c);
+      planes = planes-set (z .planes) r (cell.valueOf c) h (omega (arith, z .long)) (value-small c);
       held = ap (λ bs. set bs r true) (z .held);
     }
 

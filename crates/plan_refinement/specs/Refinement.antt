@@ -21,8 +21,8 @@ use Rattle.events.specs.declared.Ran.{Ran}
 use Rattle.events.specs.declared.Rested.{Rested}
 use Rattle.events.specs.Verdict.{numberOfVerdict}
 use Rattle.refinement.specs.Refinement.{readyIn}
-use Rattle.cells.specs.Cells as cell
-use Rattle.cells.specs.Cells.{cellAt}
+use Rattle.values.specs.Cells as cell
+use Rattle.values.specs.Cells.{cellAt}
 use Rattle.plan.specs.declared.Expression.{Expression}
 use Rattle.plan.specs.declared.Action.the-variants.{Set, Later, Go, IfNot}
 use Rattle.plan.specs.declared.Instruction.{Instruction}

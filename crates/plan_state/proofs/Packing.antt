@@ -18,7 +18,7 @@ use Rattle.plan.specs.Plan.{Plan}
 use Rattle.plan_engine.specs.Live.{Live, alive}
 use Rattle.plan_state.specs.Planes.{Planes, cellsBelow}
 use Rattle.plan_state.specs.Packing.{readyBelow, cellsOf, slotsOf, unpackedIn, packed}
-use Rattle.plan_state.proofs.Planes.{cells-planes, planes-numbers, planes-flags}
+use Rattle.plan_state.proofs.Planes.{cells-planes, planes-numbers, planes-marks}
 
 -- ---- readyBelow, mark by mark
 
@@ -82,12 +82,12 @@ module _ (q : Plan) (ps : List ℕ) where
 
 module _ (st : State) (s : Shaped st) (b : Bounded st) where
   pub cells-of : (cs : List ℕ) → 80 ≤ length cs → Planes (st .value) (st .unknown) 80 (cellsOf st cs)
-  cells-of cs h = cells-planes (st .value) (st .unknown) cs 80 (s .value) (s .unknown) h (b .value)
+  cells-of cs h = cells-planes (st .value) (st .unknown) cs 80 (s .value) (s .unknown) h (b .value) (b .unknown)
 
   pub slots-of : Planes (st .pending) (st .unsure) 32 (slotsOf st)
   slots-of =
       cells-planes (st .pending) (st .unsure) (replicate 32 0) 32 (s .pending) (s .unsure)
-      (omega (arith, length-replicate {A = ℕ} 32 0)) (b .pending)
+      (omega (arith, length-replicate {A = ℕ} 32 0)) (b .pending) (b .unsure)
 
 -- ---- packed again
 
@@ -98,9 +98,9 @@ module _ (st : State) (l : Live) (a : Planes (st .value) (st .unknown) 80 (l .ce
   packed-planes p d h =
       λ i. record {
         value = planes-numbers a i;
-        unknown = planes-flags a i;
+        unknown = planes-marks a i;
         pending = planes-numbers b i;
-        unsure = planes-flags b i;
+        unsure = planes-marks b i;
         held = h i;
         places = p i;
         due = d i;

@@ -5,13 +5,14 @@ use mathlib.Core.Bool.{Bool, true, false}
 use mathlib.Core.List.{List}
 use lib.ListN.{getD, set, replicate}
 use Rattle.values.specs.Values.{pick}
+use Rattle.values.specs.Cells.{numberIn, marksIn}
 use Rattle.state.specs.declared.Counters.{Counters}
 use Rattle.state.specs.declared.State.{State}
-use Rattle.state.specs.Saved.{listOf}
+use Rattle.state.specs.Rows.{listOf}
 use Rattle.plan.specs.Plan.{Plan}
 use Rattle.plan_changes.specs.Changes.{eight}
 use Rattle.plan_engine.specs.Live.{Live, alive}
-use Rattle.plan_state.specs.Planes.{numberIn, unknownIn, cellsBelow}
+use Rattle.plan_state.specs.Planes.{cellsBelow}
 
 -- ---- unpacked
 
@@ -39,16 +40,16 @@ unpacked q st = unpackedIn (replicate 4176 0) q st
 abbrev pub numbersIn : List ℕ → ℕ → List ℕ
 numbersIn cs n = listOf n (λ v. numberIn (getD cs v 0))
 
-abbrev pub flagsIn : List ℕ → ℕ → List Bool
-flagsIn cs n = listOf n (λ v. unknownIn (getD cs v 0))
+abbrev pub unknownsIn : List ℕ → ℕ → List ℕ
+unknownsIn cs n = listOf n (λ v. marksIn (getD cs v 0))
 
 unfoldable pub packed : Live → Counters → State
 packed l c =
     record {
       value = numbersIn (l .cells) 80;
-      unknown = flagsIn (l .cells) 80;
+      unknown = unknownsIn (l .cells) 80;
       pending = numbersIn (l .pending) 32;
-      unsure = flagsIn (l .pending) 32;
+      unsure = unknownsIn (l .pending) 32;
       held = l .held;
       places = l .places;
       due = l .due;

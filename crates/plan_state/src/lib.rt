@@ -7,20 +7,21 @@ use state::Counters;
 use state::State;
 ghost use mathlib.Core.Path.{_≡_};
 ghost use lib.ListN.{replicate};
+ghost use Rattle.values.specs.Cells.{numberIn, marksIn};
 ghost use Rattle.masks.specs.Masks.{bits};
 ghost use Rattle.plan.specs.Plan.{planOf};
 ghost use Rattle.plan_changes.specs.Changes.{eight};
 ghost use Rattle.plan_engine.specs.Live.{live};
-ghost use Rattle.plan_state.specs.Planes.{marked, numberIn, unknownIn, cellsBelow};
-ghost use Rattle.plan_state.specs.Packing.{readyBelow, slotsOf, unpackedIn, numbersIn, flagsIn, packed};
+ghost use Rattle.plan_state.specs.Planes.{marked, cellsBelow};
+ghost use Rattle.plan_state.specs.Packing.{readyBelow, slotsOf, unpackedIn, numbersIn, unknownsIn, packed};
 
 // ---- one cell
 
-// The cell of a number and its flag.
-pub fn marked(n: u32, x: bool) -> u64
-    ensures { λ r. ⌜ r ≡ marked n x ⌝ }
+// The cell of a number and its marks.
+pub fn marked(n: u32, marks: u32) -> u64
+    ensures { λ r. ⌜ r ≡ marked n marks ⌝ }
 {
-    if x { n as u64 + 4294967296 } else { n as u64 }
+    n as u64 + marks as u64 * 4294967296
 }
 
 // The number that lies in a cell.
@@ -31,17 +32,18 @@ pub fn number_in(c: u64) -> u32
     n as u32
 }
 
-// The flag that lies in a cell.
-pub fn unknown_in(c: u64) -> bool
-    ensures { λ r. ⌜ r ≡ unknownIn c ⌝ }
+// The marks that lie in a cell.
+pub fn marks_in(c: u64) -> u32
+    ensures { λ r. ⌜ r ≡ marksIn c ⌝ }
 {
-    4294967296 <= c
+    let u = c / 4294967296 % 4294967296;
+    u as u32
 }
 
 // ---- a state into cells and masks
 
 // The variables' cells from a state's values.
-pub fn fill_cells<'a>(value: &'a [u32; 80], unknown: &'a [bool; 80], cells: &mut Cells)
+pub fn fill_cells<'a>(value: &'a [u32; 80], unknown: &'a [u32; 80], cells: &mut Cells)
     ensures { λ _. ⌜ now (cells .exit) ≡ cellsBelow (now (value .entry)) (now (unknown .entry)) 80 (now (cells .entry)) ⌝ }
 {
     let mut v: usize = 0;
@@ -52,7 +54,7 @@ pub fn fill_cells<'a>(value: &'a [u32; 80], unknown: &'a [bool; 80], cells: &mut
 }
 
 // The registers' cells from a state's pending values.
-pub fn slots_of<'a>(pending: &'a [u32; 32], unsure: &'a [bool; 32]) -> [u64; 32]
+pub fn slots_of<'a>(pending: &'a [u32; 32], unsure: &'a [u32; 32]) -> [u64; 32]
     ensures { λ r. ⌜ r ≡ cellsBelow (now (pending .entry)) (now (unsure .entry)) 32 (replicate 32 0) ⌝ }
 {
     let mut slots = [0u64; 32];
@@ -116,14 +118,14 @@ fn numbers_in(cells: &Cells) -> [u32; 80]
     a
 }
 
-// Their flags.
-fn flags_in(cells: &Cells) -> [bool; 80]
-    ensures { λ r. ⌜ r ≡ flagsIn (now (cells .entry)) 80 ⌝ }
+// Their marks.
+fn unknowns_in(cells: &Cells) -> [u32; 80]
+    ensures { λ r. ⌜ r ≡ unknownsIn (now (cells .entry)) 80 ⌝ }
 {
-    let mut a = [false; 80];
+    let mut a = [0u32; 80];
     let mut v: usize = 0;
     while v < 80 {
-        a[v] = unknown_in(cells[v]);
+        a[v] = marks_in(cells[v]);
         v += 1;
     }
     a
@@ -142,14 +144,14 @@ fn slot_numbers(pending: &[u64; 32]) -> [u32; 32]
     a
 }
 
-// Their flags.
-fn slot_flags(pending: &[u64; 32]) -> [bool; 32]
-    ensures { λ r. ⌜ r ≡ flagsIn (now (pending .entry)) 32 ⌝ }
+// Their marks.
+fn slot_unknowns(pending: &[u64; 32]) -> [u32; 32]
+    ensures { λ r. ⌜ r ≡ unknownsIn (now (pending .entry)) 32 ⌝ }
 {
-    let mut a = [false; 32];
+    let mut a = [0u32; 32];
     let mut v: usize = 0;
     while v < 32 {
-        a[v] = unknown_in(pending[v]);
+        a[v] = marks_in(pending[v]);
         v += 1;
     }
     a
@@ -166,9 +168,9 @@ pub fn pack(
     ensures { λ r. ⌜ r ≡ packed (live (now (cells .entry)) (now (pending .entry)) places marks) counters ⌝ }
 {
     let value = numbers_in(cells);
-    let unknown = flags_in(cells);
+    let unknown = unknowns_in(cells);
     let numbers = slot_numbers(pending);
-    let unsure = slot_flags(pending);
+    let unsure = slot_unknowns(pending);
     let held = masks::flags(marks.held);
     let due = masks::flags(marks.due);
     State {

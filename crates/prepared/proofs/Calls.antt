@@ -6,7 +6,8 @@ use Prim.Native.Nat.{ℕ, _+_, _≤_, _<_}
 use native.Mathlib.Omega.{arith}
 use lib.Dec.{ltb, eqb}
 use borrow.Author.Tests.{ltb-true, ltb-false, le-ltb}
-use Rattle.values.specs.Values.{pick, fits}
+use Rattle.values.specs.Values.{pick}
+use Rattle.values.specs.Cells.{small}
 use Rattle.sheet.specs.Expression.{Expr}
 use Rattle.sheet.specs.Module.{Module}
 use Rattle.state.specs.declared.State.{State}
@@ -181,7 +182,7 @@ module _ {m : Module Expr} {q : Plan} (w : PlanOf m q) where
     -- ---- an instant
 
     module _ (a : Inputs) (inputs-same : planInputsFit q a ≡ inputsFit m a)
-        (fitting : (n : ℕ) → n < m .scope .inputs → fits 32 (inputOf a n) ≡ true) where
+        (fitting : (n : ℕ) → n < m .scope .inputs → small (inputOf a n) ≡ true) where
       busy-at : stateFits m st ≡ true → busy (unpacked q st) ≡ not (quiet m st)
       busy-at f = busy-shows w st (kept f) (unpacked q st) (shown f)
 

@@ -2,10 +2,12 @@
 use mathlib.Core.Path.{_≡_, refl, sym, ap, _∙_}
 use mathlib.Core.Bool.{true}
 use mathlib.Core.List.{List}
-use Prim.Native.Nat.{ℕ, _^_, _<_}
+use Prim.Native.Nat.{ℕ, _+_}
+use native.Mathlib.Omega.{arith}
 use lib.Dec.{eqb}
 use lib.ListN.{length, getD}
-use Rattle.values.specs.Values.{pick, fits}
+use Rattle.values.specs.Values.{pick}
+use Rattle.values.specs.Cells.{small}
 use Rattle.sheet.specs.Reading.{Res, ok, no}
 use Rattle.sheet.specs.Expression.{Expr, located}
 use Rattle.sheet.specs.Module.{Module, Sheet, readSheet, read}
@@ -14,6 +16,7 @@ use Rattle.sheet.proofs.Reading.{no≢ok}
 use Rattle.sheet.proofs.Trees.{read-located, mapRes, trees}
 use Rattle.state.specs.declared.State.{State}
 use Rattle.state.specs.State.{Shaped, Bounded}
+use Rattle.state.proofs.Rows.{listOf-is}
 use Rattle.soundness.proofs.Soundness.{sound}
 use Rattle.events.specs.declared.Inputs.{Inputs}
 use Rattle.events.specs.Calls.{started, judged, startOf, start, choose, runList, runPlain, inputOf, instant}
@@ -21,7 +24,7 @@ use Rattle.plan.specs.Plan.{Plan, planOf}
 use Rattle.plan_fill.specs.Holding.{Holds}
 use Rattle.plan_fill.proofs.Holding.{read-holds}
 use Rattle.plan_fitting.proofs.Fitting.{plan-fits, plan-inputs-fit}
-use Rattle.prepared.specs.Prepared.{readOf, preparedPlan, startAt, chooseAt, runAt, plainAt, instantAt}
+use Rattle.prepared.specs.Prepared.{readOf, preparedPlan, widthsOf, startAt, chooseAt, runAt, plainAt, instantAt}
 use Rattle.prepared.proofs.Held.{plan-of}
 use Rattle.prepared.proofs.Calls.{choose-at, run-at, plain-at, instant-at}
 
@@ -42,9 +45,18 @@ module _ (s : List ℕ) (m : Module Expr) (e : read s ≡ ok m) where
     abbrev q : Plan
     q = planOf (preparedPlan s ws)
 
+    widths-prepared : widthsOf q ≡ m .scope .widths
+    unfolding widthsOf
+    widths-prepared =
+        let y = prepared-holds ws l in
+        let n = q .inputs + q .registers + q .wires in
+        let long : length (m .scope .widths) ≡ n =
+        omega (arith, sound s e .variables, y .inputs, y .registers, y .wires) in
+        listOf-is (q .width) (m .scope .widths) 0 n long (λ v h. y .width v (omega (arith, long)))
+
     pub start-prepared : (allowances : List ℕ) → startAt q allowances ≡ start s allowances .state
     unfolding startAt start startOf
-    start-prepared allowances = ap (λ (n : ℕ). started n allowances) (prepared-holds ws l .wires) ∙ sym (rw e refl)
+    start-prepared allowances = (λ i. started (widths-prepared i) (prepared-holds ws l .wires i) allowances) ∙ sym (rw e refl)
 
     module _ (st : State) (h : Shaped st) (b : Bounded st) where
       pub choose-prepared : (u c : ℕ) → chooseAt q st u c ≡ choose s st u c
@@ -65,8 +77,8 @@ module _ (s : List ℕ) (m : Module Expr) (e : read s ≡ ok m) where
           let y = prepared-holds ws l in
           rw e (plain-at (plan-of (preparedPlan s ws) (sound s e) y) st (plan-fits (sound s e) y st) h b u n)
 
-      -- The inputs are numbers of 32 bits, as every caller's are.
-      pub instant-prepared : (a : Inputs) → ((v : ℕ) → fits 32 (inputOf a v) ≡ true) → instantAt q st a ≡ instant s st a
+      -- The inputs and their marks are numbers of 32 bits, as every caller's are.
+      pub instant-prepared : (a : Inputs) → ((v : ℕ) → small (inputOf a v) ≡ true) → instantAt q st a ≡ instant s st a
       unfolding instant judged
       instant-prepared a f =
           let y = prepared-holds ws l in

@@ -9,11 +9,15 @@ use lib.Dec.{leb, eqb}
 use lib.ListN.{length, getD, set, List·getD-eq-default}
 use lib.Seq.{set-out}
 use borrow.Author.Tests.{eq-eqb, ne-eqb, lt-ltb, le-ltb, lt-leb, le-leb}
-use Rattle.values.specs.Values.{pick}
+use Rattle.values.specs.declared.Value.{Value}
+use Rattle.values.specs.Values.{pick, ones, allUnknown}
+use Rattle.values.specs.Planes.{marksOf}
 use Rattle.sheet.specs.declared.SheetRead.{SheetRead}
 use Rattle.state.specs.declared.Counters.{Counters}
 use Rattle.state.specs.declared.State.{State}
 use Rattle.state.specs.State.{full, countersOf, users}
+use Rattle.state.specs.Rows.{listOf}
+use Rattle.state.proofs.Rows.{length-listOf, getD-listOf}
 use Rattle.events.specs.declared.Inputs.{Inputs}
 use Rattle.events.specs.declared.Verdict.{Verdict}
 use Rattle.events.specs.declared.Verdict.the-variants.{Quiet, Spent, Stopped, Refused}
@@ -28,7 +32,7 @@ use Rattle.plan_state.specs.Packing.{slotsOf, unpackedIn, unpacked, packed}
 use Rattle.plan_fill.specs.Filling.{filledPlan}
 use Rattle.plan_fitting.specs.Fitting.{planFits, planInputsFit}
 use Rattle.prepared.specs.declared.Prepared.{Prepared}
-use Rattle.prepared.specs.Prepared.{readOf, preparedPlan}
+use Rattle.prepared.specs.Prepared.{readOf, preparedPlan, widthsOf}
 use Rattle.prepared.specs.Prepared.{roomIn, raised, accepted, userless, verdictOf, chooseAt, runAt, plainAt}
 use Rattle.prepared.specs.Prepared.{later, instantNumber, fedAt, instantAt}
 
@@ -46,6 +50,24 @@ module _ (s ws : List ℕ) (r : SheetRead) (e : r ≡ readOf s) where
   pub prepared-filled : r .number ≡ 0 → (vs : List ℕ) → vs ≡ filledPlan s (r .layout) ws → vs ≡ preparedPlan s ws
   unfolding preparedPlan
   prepared-filled h vs f = rw (← e, eq-eqb (r .number) 0 h) f
+
+-- ---- start
+
+module _ (q : Plan) (v : ℕ) where
+  pub width-within : v < q .inputs + q .registers + q .wires → q .width v ≡ getD (widthsOf q) v 32
+  unfolding widthsOf
+  width-within h = sym (getD-listOf (q .width) (q .inputs + q .registers + q .wires) v 32 h)
+
+  pub width-past : q .inputs + q .registers + q .wires ≤ v → 32 ≡ getD (widthsOf q) v 32
+  unfolding widthsOf
+  width-past h =
+      let n = q .inputs + q .registers + q .wires in
+      sym (List·getD-eq-default (listOf n (q .width)) 32 {n = v} (omega (arith, length-listOf (q .width) n)))
+
+-- What is stored in the plane of marks for a variable that is x.
+pub unset-marks : (w n : ℕ) (a : Value) → a ≡ allUnknown w → n ≡ marksOf a → n ≡ ones w
+unfolding marksOf allUnknown
+unset-marks w n a e f = f ∙ ap (λ (x : Value). x .unknown) e
 
 -- ---- a state laid out
 

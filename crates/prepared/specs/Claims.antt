@@ -5,7 +5,7 @@ use mathlib.Core.Bool.{true}
 use mathlib.Core.List.{List}
 use Prim.Native.Nat.{ℕ}
 use lib.ListN.{length}
-use Rattle.values.specs.Values.{fits}
+use Rattle.values.specs.Cells.{small}
 use Rattle.sheet.specs.Reading.{ok}
 use Rattle.sheet.specs.Expression.{Expr}
 use Rattle.sheet.specs.Module.{Module, read}
@@ -17,12 +17,12 @@ use Rattle.plan.specs.Plan.{Plan, planOf}
 use Rattle.plan_fill.specs.Holding.{Holds}
 use Rattle.prepared.specs.Prepared.{preparedPlan, startAt, chooseAt, runAt, plainAt, instantAt}
 
--- The calls on a plan, from one state, are those on a sheet. Inputs are numbers of 32 bits, as every caller's are.
+-- The calls on a plan, from one state, are those on a sheet. Inputs and their marks are numbers of 32 bits, as every caller's are.
 pub record Same (s : List ℕ) (q : Plan) (st : State) : Type 0 where
   pub choose : (u c : ℕ) → chooseAt q st u c ≡ calls.choose s st u c
   pub run : (u : ℕ) (cs : List ℕ) → runAt q st u cs ≡ calls.runList s st u cs
   pub plain : (u n : ℕ) → plainAt q st u n ≡ calls.runPlain s st u n
-  pub instant : (a : Inputs) → ((v : ℕ) → fits 32 (calls.inputOf a v) ≡ true) → instantAt q st a ≡ calls.instant s st a
+  pub instant : (a : Inputs) → ((v : ℕ) → small (calls.inputOf a v) ≡ true) → instantAt q st a ≡ calls.instant s st a
 
 pub record Prepares (s : List ℕ) (m : Module Expr) (q : Plan) : Type 0 where
   pub holds : Holds m q

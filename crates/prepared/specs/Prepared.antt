@@ -12,6 +12,7 @@ use Rattle.sheet.specs.Answers.{sheetAnswer}
 use Rattle.state.specs.declared.Counters.{Counters}
 use Rattle.state.specs.declared.State.{State}
 use Rattle.state.specs.State.{countersOf, users}
+use Rattle.state.specs.Rows.{listOf}
 use Rattle.events.specs.declared.Inputs.{Inputs}
 use Rattle.events.specs.declared.Chosen.{Chosen}
 use Rattle.events.specs.declared.Ran.{Ran}
@@ -38,8 +39,12 @@ preparedPlan s ws = pick (eqb (readOf s .number) 0) (filledPlan s (readOf s .lay
 
 -- ---- start
 
+-- The widths of the plan's variables.
+unfoldable pub widthsOf : Plan → List ℕ
+widthsOf q = listOf (q .inputs + q .registers + q .wires) (q .width)
+
 unfoldable pub startAt : Plan → List ℕ → State
-startAt q allowances = started (q .wires) allowances
+startAt q allowances = started (widthsOf q) (q .wires) allowances
 
 -- ---- counting: "Each accepted choice names its user, 0 to 3, and is counted for that user alone"
 

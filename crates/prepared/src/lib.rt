@@ -13,12 +13,15 @@ use state::State;
 ghost use mathlib.Core.Path.{_≡_};
 ghost use mathlib.Core.List.{List};
 ghost use Prim.Native.Nat.{ℕ, _<_};
+ghost use lib.ListN.{getD};
+ghost use Rattle.values.specs.Values.{ones};
 ghost use Rattle.state.specs.State.{full};
+ghost use Rattle.state.specs.Rows.{listOf};
 ghost use Rattle.events.specs.declared.Verdict.the-variants.{Refused};
 ghost use Rattle.events.specs.Calls.{dueBelow};
 ghost use Rattle.plan.specs.Plan.{planOf};
 ghost use Rattle.plan_engine.specs.Live.{live};
-ghost use Rattle.prepared.specs.Prepared.{readOf, preparedPlan, startAt, roomIn, raised, accepted, userless, verdictOf};
+ghost use Rattle.prepared.specs.Prepared.{readOf, preparedPlan, widthsOf, startAt, roomIn, raised, accepted, userless, verdictOf};
 ghost use Rattle.prepared.specs.Prepared.{chooseAt, runAt, plainAt, later, instantAt};
 
 // The users' numbers lie below it.
@@ -61,15 +64,38 @@ fn due_below(n: usize) -> [bool; 32]
     masks::flags(due)
 }
 
+// The width of a variable; past the variables 32.
+fn width_at(plan: &PlanTable, v: usize) -> u8
+    ensures { λ r. ⌜ r ≡ getD (widthsOf (planOf (now (plan .entry)))) v 32 ⌝ }
+{
+    if v < plan::inputs(plan) + plan::registers(plan) + plan::wires(plan) {
+        return plan::width(plan, v);
+    }
+    32
+}
+
+// The marks of the variables: each is x in all bits of its width.
+fn unset_marks(plan: &PlanTable) -> [u32; 80]
+    ensures { λ r. ⌜ r ≡ listOf 80 (λ v. ones (getD (widthsOf (planOf (now (plan .entry)))) v 32)) ⌝ }
+{
+    let mut marks = [0u32; 80];
+    let mut v: usize = 0;
+    while v < 80 {
+        marks[v] = values::marks_of(values::all_unknown(width_at(plan, v)));
+        v += 1;
+    }
+    marks
+}
+
 // The state at the start. "Each has an allowance of choices fixed at the start".
 pub fn start(plan: &PlanTable, allowances: [u32; 4]) -> State
     ensures { λ r. ⌜ r ≡ startAt (planOf (now (plan .entry))) allowances ⌝ }
 {
     State {
         value: [0u32; 80],
-        unknown: [true; 80],
+        unknown: unset_marks(plan),
         pending: [0u32; 32],
-        unsure: [false; 32],
+        unsure: [0u32; 32],
         held: [false; 32],
         places: [0u8; 8],
         due: due_below(plan::wires(plan)),

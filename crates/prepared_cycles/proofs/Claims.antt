@@ -48,7 +48,7 @@ module _ (s : List ℕ) {m : Module Expr} {q : Plan} (k : PlanOf m q) (inputs-fi
         record { shaped = h; fit = g; shows = unpacked-shows k (fits-kept h g) b; counters = refl; user = refl }
 
     module _ (u : ℕ) where
-      cycles-of : (ns : List ℕ) (xs : List Bool) → cyclesAt q st u ns xs ≡ runCycles s st u ns xs
+      cycles-of : (ns xs : List ℕ) → cyclesAt q st u ns xs ≡ runCycles s st u ns xs
       unfolding cyclesAt runCycles judged
       cycles-of ns xs = rw (e, same) (by (stateFits m st) refl (ltb u users) refl (wholeRows ns xs))
         where
@@ -72,11 +72,11 @@ module _ (s : List ℕ) {m : Module Expr} {q : Plan} (k : PlanOf m q) (inputs-fi
               ∙ phases-stood s k inputs-fit e u (ltb-true u users l) (rowInputs (m .scope .inputs) ns xs) rounds 0 st (laidOut q st u)
               (stood u f)
 
-      trace-of : (ns : List ℕ) (xs : List Bool) (w : List ℕ) → traceAt q st u ns xs w ≡ traceCycles s st u ns xs w
+      trace-of : (ns xs w : List ℕ) → traceAt q st u ns xs w ≡ traceCycles s st u ns xs w
       unfolding traceAt traceCycles
       trace-of ns xs w = ap (λ (r : Cycled). pick (hasRoom (rounds ns) w) r (cycled 0 23 false st)) (cycles-of ns xs)
 
-      traced-of : (ns : List ℕ) (xs : List Bool) (w : List ℕ) → tracedAt q st u ns xs w ≡ tracedCycles s st u ns xs w
+      traced-of : (ns xs w : List ℕ) → tracedAt q st u ns xs w ≡ tracedCycles s st u ns xs w
       unfolding tracedAt tracedCycles judged
       traced-of ns xs w =
           rw (e, same) (by (hasRoom (rounds ns) w) (stateFits m st) refl (ltb u users) refl (wholeRows ns xs))
@@ -115,7 +115,7 @@ module _ (s : List ℕ) {m : Module Expr} {q : Plan} (k : PlanOf m q) (inputs-fi
           by true f true l =
               arrived-like (ends 0 (toRest-like s k inputs-fit e u (ltb-true u users l) draws (like 0 false seed (stood u f))))
 
-      module _ (ns : List ℕ) (xs : List Bool) (w : List ℕ) where
+      module _ (ns xs w : List ℕ) where
         drive-of : driveAt q draws seed st u ns xs w ≡ driveCycles s draws seed st u ns xs w
         unfolding driveAt driveCycles judged
         drive-of = rw (e, same) (by (hasRoom (rounds ns) w) (stateFits m st) refl (ltb u users) refl (wholeRows ns xs))

@@ -8,8 +8,9 @@ use native.Mathlib.Decide.{ℕ-discrete}
 use native.Mathlib.Omega.{arith}
 use lib.Dec.{eqb}
 use borrow.Author.Tests.{ne-eqb, lt-ltb}
-use Rattle.values.specs.Values.{pick, fits}
-use Rattle.values.proofs.Values.{fits-wider}
+use Rattle.values.specs.Values.{pick}
+use Rattle.values.specs.Cells.{small}
+use Rattle.values.proofs.Operators.{fits-small}
 use Rattle.sheet.specs.Reading.{ok}
 use Rattle.sheet.specs.Expression.{Expr}
 use Rattle.sheet.specs.Module.{Module, read}
@@ -106,10 +107,10 @@ module _ (s : List ℕ) {m : Module Expr} {q : Plan} (w : PlanOf m q) (inputs-fi
 
       module _ (x : instantRefusal m st a ≡ 0) where
         -- An input that fits its width fits 32 bits.
-        small : (n : ℕ) → n < m .scope .inputs → fits 32 (inputOf a n) ≡ true
+        small-inputs : (n : ℕ) → n < m .scope .inputs → small (inputOf a n) ≡ true
         unfolding widthOf
-        small n h =
-            fits-wider (widthOf m n) 32 (inputOf a n) (w .sound .widths-most n (omega (arith, w .sound .variables)))
+        small-inputs n h =
+            fits-small (widthOf m n) (inputOf a n) (w .sound .widths-most n (omega (arith, w .sound .variables)))
             (fits-inputs m a (accepted-instant m st a x .0) n h)
 
         pub fed-shaped : Shaped (fed st a)
@@ -126,7 +127,7 @@ module _ (s : List ℕ) {m : Module Expr} {q : Plan} (w : PlanOf m q) (inputs-fi
             omega (arith, count-feed m st (inputOf a) u, allowance-feed m st (inputOf a) u)
 
         pub fed-shows : Shows m (fed st a) (feed q (inputOf a) (o .left))
-        fed-shows = feed-timed-shows w st kept (o .left) (z .shows) (inputOf a) small
+        fed-shows = feed-timed-shows w st kept (o .left) (z .shows) (inputOf a) small-inputs
 
         pub fed-counters : fed st a .counters ≡ later (o .counters)
         fed-counters = counters-feed m st (inputOf a) ∙ later-timed st ∙ ap later (z .counters)

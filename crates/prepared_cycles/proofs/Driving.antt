@@ -161,7 +161,7 @@ module _ (q : Plan) (t : Bool) (seed : ℕ) (st : State) (u : ℕ) where
   unfolding settledAt
   settled-run f h r e = rw (f, lt-ltb u users h) e
 
-  module _ (ns : List ℕ) (xs : List Bool) (w : List ℕ) where
+  module _ (ns xs w : List ℕ) where
     abbrev Answers : Driven → List ℕ → Type 0
     Answers r v = (r ≡ driveAt q t seed st u ns xs w) × (v ≡ drivenAt q t seed st u ns xs w)
 

@@ -109,7 +109,7 @@ pub ended-course : (o : Moment) (c : Course) (p n : ℕ) (running : Bool) (st : 
 unfolding ended
 ended-course o c p n running st h e = rw (← h, e) refl
 
-module _ (q : Plan) (st : State) (u : ℕ) (ns : List ℕ) (xs : List Bool) where
+module _ (q : Plan) (st : State) (u : ℕ) (ns xs : List ℕ) where
   pub cycles-unfit : planFits q st ≡ false → cycled 0 31 false st ≡ cyclesAt q st u ns xs
   unfolding cyclesAt
   cycles-unfit f = rw f refl

@@ -47,7 +47,7 @@ module _ (q : Plan) (inputs : ℕ → Inputs) (n p : ℕ) (o : Moment) (w : List
 
 -- ---- the call
 
-module _ (q : Plan) (st : State) (u : ℕ) (ns : List ℕ) (xs : List Bool) (w : List ℕ) where
+module _ (q : Plan) (st : State) (u : ℕ) (ns xs w : List ℕ) where
   abbrev Answers : Cycled → List ℕ → Type 0
   Answers r v = (r ≡ traceAt q st u ns xs w) × (v ≡ tracedAt q st u ns xs w)
 
@@ -83,21 +83,21 @@ module _ (q : Plan) (st : State) (u : ℕ) (ns : List ℕ) (xs : List Bool) (w :
 
 -- ---- what a loop over the instants keeps: their number, and the length of what is lent
 
-pub record Kept (n : ℕ) (value : List ℕ) (unknown : List Bool) (w v : List ℕ) : Type 0 where
+pub record Kept (n : ℕ) (value unknown w v : List ℕ) : Type 0 where
   pub few : n < 18446744073709551615
   pub count : n ≡ rounds value
-  pub flagged : length unknown ≡ length value
+  pub marked : length unknown ≡ length value
   pub room : n ≤ length w / 88
   pub long : length v ≡ length w
 
-module _ {n : ℕ} {value : List ℕ} {unknown : List Bool} {w v : List ℕ} (k : Kept n value unknown w v) where
+module _ {n : ℕ} {value unknown w v : List ℕ} (k : Kept n value unknown w v) where
   pub kept-written : (p : ℕ) (st : State) (u : List ℕ) → u ≡ written p st v → Kept n value unknown w u
   unfolding written
   kept-written p st u e =
       record {
         few = k .few;
         count = k .count;
-        flagged = k .flagged;
+        marked = k .marked;
         room = k .room;
         long = ap length e ∙ length-sets v (88 * p) (rowOf st) ∙ k .long;
       }

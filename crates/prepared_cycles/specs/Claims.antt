@@ -18,15 +18,15 @@ use Rattle.prepared_cycles.specs.Traces.{traceCycles, tracedCycles, trac
 use Rattle.prepared_cycles.specs.Drives.{settled, driveCycles, drivenCycles, settledAt, driveAt, drivenAt}
 
 pub record Same (s : List ℕ) (q : Plan) (st : State) : Type 0 where
-  pub cycles : (u : ℕ) (ns : List ℕ) (xs : List Bool) → cyclesAt q st u ns xs ≡ runCycles s st u ns xs
+  pub cycles : (u : ℕ) (ns xs : List ℕ) → cyclesAt q st u ns xs ≡ runCycles s st u ns xs
   -- What a trace answers, and what it leaves in what is lent.
-  pub trace : (u : ℕ) (ns : List ℕ) (xs : List Bool) (w : List ℕ) → traceAt q st u ns xs w ≡ traceCycles s st u ns xs w
-  pub traced : (u : ℕ) (ns : List ℕ) (xs : List Bool) (w : List ℕ) → tracedAt q st u ns xs w ≡ tracedCycles s st u ns xs w
+  pub trace : (u : ℕ) (ns xs w : List ℕ) → traceAt q st u ns xs w ≡ traceCycles s st u ns xs w
+  pub traced : (u : ℕ) (ns xs w : List ℕ) → tracedAt q st u ns xs w ≡ tracedCycles s st u ns xs w
   -- A run to rest, plainly or by draws; what driven cycles answer, and what they leave in what is lent.
   pub settle : (byDraws : Bool) (seed u : ℕ) → settledAt q byDraws seed st u ≡ settled s byDraws seed st u
-  pub drive : (byDraws : Bool) (seed u : ℕ) (ns : List ℕ) (xs : List Bool) (w : List ℕ)
+  pub drive : (byDraws : Bool) (seed u : ℕ) (ns xs w : List ℕ)
       → driveAt q byDraws seed st u ns xs w ≡ driveCycles s byDraws seed st u ns xs w
-  pub driven : (byDraws : Bool) (seed u : ℕ) (ns : List ℕ) (xs : List Bool) (w : List ℕ)
+  pub driven : (byDraws : Bool) (seed u : ℕ) (ns xs w : List ℕ)
       → drivenAt q byDraws seed st u ns xs w ≡ drivenCycles s byDraws seed st u ns xs w
 
 -- Every state that code has is of such lengths and numbers.

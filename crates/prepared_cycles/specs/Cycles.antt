@@ -18,17 +18,17 @@ use Rattle.prepared_cycles.specs.declared.Cycled.{Cycled}
 -- ---- rows: the inputs of instant number p, two to a row of 16
 
 -- The items of row r from the v-th on, n of them.
-unfoldable pub rowFrom : {A : Type 0} → List A → A → ℕ → ℕ → ℕ → List A
-rowFrom xs other r v zero = []
-rowFrom xs other r v (suc n) = getD xs (16 * r + v) other ∷ rowFrom xs other r (v + 1) n
+unfoldable pub rowFrom : List ℕ → ℕ → ℕ → ℕ → List ℕ
+rowFrom ns r v zero = []
+rowFrom ns r v (suc n) = getD ns (16 * r + v) 0 ∷ rowFrom ns r (v + 1) n
 
 -- The clock is low in a row's first instant and high in its second; what stands in its place in the row isn't looked at.
-unfoldable pub rowInputs : ℕ → List ℕ → List Bool → ℕ → Inputs
+unfoldable pub rowInputs : ℕ → List ℕ → List ℕ → ℕ → Inputs
 rowInputs inputs ns xs p =
     record {
       count = inputs;
-      value = p % 2 ∷ rowFrom ns 0 (p / 2) 1 15;
-      unknown = false ∷ rowFrom xs false (p / 2) 1 15;
+      value = p % 2 ∷ rowFrom ns (p / 2) 1 15;
+      unknown = 0 ∷ rowFrom xs (p / 2) 1 15;
     }
 
 -- ---- an instant and the plain run after it
@@ -51,7 +51,7 @@ module _ (s : List ℕ) (u : ℕ) (inputs : ℕ → Inputs) where
 -- ---- run_cycles: the rows, one after the other
 
 -- "1 to 11, 31", a user above 3, 25: a sheet, a state, a user or rows that aren't whole are refused at once.
-unfoldable pub runCycles : List ℕ → State → ℕ → List ℕ → List Bool → Cycled
+unfoldable pub runCycles : List ℕ → State → ℕ → List ℕ → List ℕ → Cycled
 runCycles s st u ns xs =
     judged (read s) st
     (λ n. cycled 0 n false st)

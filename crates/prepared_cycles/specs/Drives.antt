@@ -175,7 +175,7 @@ module _ (s : List ℕ) (byDraws : Bool) (seed : ℕ) (st : State) (u : ℕ) whe
       pick (ltb u users) (arrived (λ x. x) (driven 0 (toRest (onSheet s m u) byDraws (going 0 false seed st))))
       (told 0 46 false seed st))
 
-  module _ (ns : List ℕ) (xs : List Bool) (w : List ℕ) where
+  module _ (ns xs w : List ℕ) where
     -- 23, 1 to 11, 31, 46, 25, and then instant by instant.
     unfoldable pub driveCycles : Driven
     driveCycles =
@@ -231,7 +231,7 @@ module _ (q : Plan) (byDraws : Bool) (seed : ℕ) (st : State) (u : ℕ) where
       (told 0 46 false seed st))
       (told 0 31 false seed st)
 
-  module _ (ns : List ℕ) (xs : List Bool) (w : List ℕ) where
+  module _ (ns xs w : List ℕ) where
     unfoldable pub driveAt : Driven
     driveAt =
         pick (hasRoom (rounds ns) w)

@@ -104,7 +104,7 @@ unfoldable pub ended : Course → Cycled
 ended c = cycled (c .phases) (c .number) (c .running) (stateAt (c .after))
 
 -- "31", a user above 3, 25, and then instant by instant.
-unfoldable pub cyclesAt : Plan → State → ℕ → List ℕ → List Bool → Cycled
+unfoldable pub cyclesAt : Plan → State → ℕ → List ℕ → List ℕ → Cycled
 cyclesAt q st u ns xs =
     pick (planFits q st)
     (pick (ltb u users)

@@ -8,16 +8,17 @@ use lib.Dec.{ltb, leb, eqb}
 use lib.ListN.{length, getD}
 use lib.Seq.{sets}
 use Rattle.values.specs.Values.{pick}
+use Rattle.values.specs.Cells.{cellOf}
+use Rattle.values.specs.Cells as cells
 use Rattle.sheet.specs.Module.{read}
 use Rattle.state.specs.declared.State.{State}
-use Rattle.state.specs.State.{users}
-use Rattle.state.specs.Saved.{listOf}
+use Rattle.state.specs.State.{users, valueOf}
+use Rattle.state.specs.Rows.{listOf}
 use Rattle.events.specs.declared.Inputs.{Inputs}
 use Rattle.events.specs.Verdict.{numberOfVerdict}
 use Rattle.events.specs.Calls.{judged, instant, runPlain}
 use Rattle.events.specs.Rows.{wholeRows}
 use Rattle.plan.specs.Plan.{Plan}
-use Rattle.plan_state.specs.Planes.{marked, numberIn, unknownIn}
 use Rattle.plan_fitting.specs.Fitting.{planFits}
 use Rattle.prepared_cycles.specs.declared.Cycled.{Cycled}
 use Rattle.prepared_cycles.specs.Cycles.{cycled, rowInputs, runCycles}
@@ -28,9 +29,9 @@ use Rattle.prepared_cycles.specs.Phases.{Moment, stateAt, phaseAt, laidO
 abbrev pub placesIn : List ℕ → List ℕ
 placesIn ps = listOf 8 (λ i. getD ps i 0)
 
--- A state's variables, each its number and 4,294,967,296 more where it is unknown, and its places.
+-- The cells of a state's variables, and its places.
 unfoldable pub rowOf : State → List ℕ
-rowOf st = listOf 80 (λ v. marked (getD (st .value) v 0) (getD (st .unknown) v false)) ++ placesIn (st .places)
+rowOf st = listOf 80 (λ v. cellOf (valueOf st v)) ++ placesIn (st .places)
 
 unfoldable pub written : ℕ → State → List ℕ → List ℕ
 written p st w = sets w (88 * p) (rowOf st)
@@ -56,7 +57,7 @@ rounds ns = 2 * (length ns / 16)
 abbrev pub hasRoom : ℕ → List ℕ → Bool
 hasRoom n w = leb n (length w / 88)
 
-module _ (s : List ℕ) (st : State) (u : ℕ) (ns : List ℕ) (xs : List Bool) (w : List ℕ) where
+module _ (s : List ℕ) (st : State) (u : ℕ) (ns xs w : List ℕ) where
   -- What the call answers: 23, 1 to 11, 31, 46, 25, and then instant by instant.
   unfoldable pub traceCycles : Cycled
   traceCycles = pick (hasRoom (rounds ns) w) (runCycles s st u ns xs) (cycled 0 23 false st)
@@ -76,7 +77,7 @@ module _ (s : List ℕ) (st : State) (u : ℕ) (ns : List ℕ) (xs : List Bool) 
 
 -- A row as it lies in cells and places.
 abbrev pub wordIn : ℕ → ℕ
-wordIn c = marked (numberIn c) (unknownIn c)
+wordIn c = cellOf (cells.valueOf c)
 
 abbrev pub wordsIn : List ℕ → List ℕ
 wordsIn cs = listOf 80 (λ v. wordIn (getD cs v 0))
@@ -91,7 +92,7 @@ module _ (q : Plan) (inputs : ℕ → Inputs) where
       let f = phaseAt q (inputs p) o in
       pick (eqb (f .number) 0) (traceFromAt n (p + 1) (f .after) (written p (stateAt (f .after)) w)) w
 
-module _ (q : Plan) (st : State) (u : ℕ) (ns : List ℕ) (xs : List Bool) (w : List ℕ) where
+module _ (q : Plan) (st : State) (u : ℕ) (ns xs w : List ℕ) where
   unfoldable pub traceAt : Cycled
   traceAt = pick (hasRoom (rounds ns) w) (cyclesAt q st u ns xs) (cycled 0 23 false st)
 

@@ -103,7 +103,7 @@ fn ended(
 }
 
 // Two instants to each row, up to the first that is stopped, from a state laid out.
-fn run_phases(plan: &PlanTable, st: State, user: u8, value: &[u32], unknown: &[bool]) -> Cycled
+fn run_phases(plan: &PlanTable, st: State, user: u8, value: &[u32], unknown: &[u32]) -> Cycled
     requires { ⌜ length (now unknown) ≡ length (now value) ⌝ }
     ensures { λ r. ⌜
         r ≡ ended
@@ -137,7 +137,7 @@ fn run_phases(plan: &PlanTable, st: State, user: u8, value: &[u32], unknown: &[b
 }
 
 // Rows of 16 inputs, for each an instant with the clock low and one with the clock high, a plain run of the user after each.
-pub fn run_cycles(plan: &PlanTable, st: State, user: u8, value: &[u32], unknown: &[bool]) -> Cycled
+pub fn run_cycles(plan: &PlanTable, st: State, user: u8, value: &[u32], unknown: &[u32]) -> Cycled
     ensures { λ r. ⌜ r ≡ cyclesAt (planOf (now (plan .entry))) st user (now (value .entry)) (now (unknown .entry)) ⌝ }
 {
     if !plan_fitting::state_fits(plan, st) {
@@ -160,7 +160,7 @@ fn trace_phases(
     st: State,
     user: u8,
     value: &[u32],
-    unknown: &[bool],
+    unknown: &[u32],
     out: &mut [u64],
 ) -> Cycled
     requires { ⌜ length (now unknown) ≡ length (now value) ⌝ }
@@ -211,7 +211,7 @@ pub fn trace(
     st: State,
     user: u8,
     value: &[u32],
-    unknown: &[bool],
+    unknown: &[u32],
     out: &mut [u64],
 ) -> Cycled
     ensures { λ r. ⌜
@@ -318,7 +318,7 @@ fn drive_phases(
     drawn: bool,
     seed: u64,
     value: &[u32],
-    unknown: &[bool],
+    unknown: &[u32],
     out: &mut [u64],
 ) -> Driven
     requires { ⌜ length (now unknown) ≡ length (now value) ⌝ }
@@ -375,7 +375,7 @@ pub fn drive(
     drawn: bool,
     seed: u64,
     value: &[u32],
-    unknown: &[bool],
+    unknown: &[u32],
     out: &mut [u64],
 ) -> Driven
     ensures { λ r. ⌜

@@ -1,19 +1,16 @@
 // A trace's rows: what an instant and the run after it leave, written into an array that a caller lends.
 use plan::Cells;
-use plan_state::marked;
-use plan_state::number_in;
-use plan_state::unknown_in;
 ghost use mathlib.Core.Path.{_≡_};
 ghost use Prim.Native.Nat.{_+_, _*_, _≤_};
 ghost use lib.ListN.{length};
 ghost use lib.Seq.{sets};
 ghost use Rattle.prepared_cycles.specs.Traces.{wordIn, wordsIn, placesIn, rowIn};
 
-// A variable's word: its number, and 4,294,967,296 more where it is unknown.
+// A variable's word: the cell of its value.
 fn word_in(c: u64) -> u64
     ensures { λ r. ⌜ r ≡ wordIn c ⌝ }
 {
-    marked(number_in(c), unknown_in(c))
+    values::store(values::load(c))
 }
 
 // A place as a word.

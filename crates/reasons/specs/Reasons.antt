@@ -23,7 +23,7 @@ lineOf (suc n) l = lineOf n (otherLines l)
 
 -- What a number refuses.
 unfoldable pub refusals : List ℕ
-refusals = ascii "nothing is refused\nthe sheet is over 8,192 bytes\nthe sheet ends early\na count is out of range\na width is out of range\na bit map that is not allowed\na field is out of range\nnested too deep\nwidths disagree\nthe target is no register\nbytes stand after the end\na thread has over 256 instructions\ntwo threads write one register\na register is written both ways\na register written by plain assignment is read elsewhere\na wait other than the single posedge of the clock\na thread does not start with a wait\na loop or a thread body does not surely wait\nthe clock is read in an expression\na wire reads itself or a higher wire\nover 32 waits\nover 4,096 nodes\nthe choice names no item\na lent table has another length\nthe tables do not hold together\nthe inputs are of the wrong number or too wide\nno such number\nno such number\nno such number\nno such number\nno such number\nthe state does not fit the sheet\nan instant while the state is not quiet\nthe item is not enabled\na commit while an item is enabled\na commit with nothing pending\nthe time is full\nno such number\nno such number\nno such number\nno such number\nthe text is over 16,384 bytes\nthe text is none of the forms that are read\na name is undeclared or declared twice, or a wire has not one assign\nno such number\nno such number\nthere is no such user\nthe user's allowance of choices is used up"
+refusals = ascii "nothing is refused\nthe sheet is over 8,192 bytes\nthe sheet ends early\na count is out of range\na width is out of range\na bit map that is not allowed\na field is out of range\nnested too deep\nwidths disagree\nthe target is no register\nbytes stand after the end\na thread has over 256 instructions\ntwo threads write one register\na register is written both ways\na register written by plain assignment is read elsewhere\na wait other than the single posedge of the clock\na thread does not start with a wait\na loop or a thread body does not surely wait\nthe clock is read in an expression\na wire reads itself or a higher wire\nover 32 waits\nover 4,096 nodes\nthe choice names no item\na lent table has another length\nthe tables do not hold together\nthe inputs are of the wrong number, too wide, or have a number under a mark\nno such number\nno such number\nno such number\nno such number\nno such number\nthe state does not fit the sheet\nan instant while the state is not quiet\nthe item is not enabled\na commit while an item is enabled\na commit with nothing pending\nthe time is full\nno such number\nno such number\nno such number\nno such number\nthe text is over 16,384 bytes\nthe text is none of the forms that are read\na name is undeclared or declared twice, or a wire has not one assign\nno such number\nno such number\nthere is no such user\nthe user's allowance of choices is used up"
 
 unfoldable pub reason : ℕ → List ℕ
 reason n = lineOf n refusals

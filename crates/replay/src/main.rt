@@ -9,7 +9,7 @@ use libc::STDIN_FILENO;
 use libc::STDOUT_FILENO;
 use nextstate::Clocked;
 use nextstate::Registers;
-use state::Brought;
+use saved::Brought;
 use state::Counters;
 use state::State;
 ghost use Prim.Native.Nat.{_<_};
@@ -21,17 +21,32 @@ struct Next {
     state: State,
 }
 
-// One value, where the record held it whole.
+// One value, a number and the marks of its unknown bits, where the record held it whole.
 struct Input {
     found: bool,
     value: u32,
-    unknown: bool,
+    unknown: u32,
+}
+
+// A flag and a number, where the record held them whole.
+struct Flagged {
+    found: bool,
+    flag: bool,
+    number: u32,
 }
 
 // The inputs of an instant or of a cycle run, where the record held them whole.
 struct Given {
     found: bool,
     inputs: Inputs,
+}
+
+// The turn records of modules, where the record held them whole.
+struct Turns {
+    found: bool,
+    count: u8,
+    busy: [bool; 16],
+    turns: [u32; 16],
 }
 
 // What a cycle run is handed beside its inputs, where the record held it whole.
@@ -154,17 +169,28 @@ fn say_words(words: &[u16]) {
     }
 }
 
-// A value in hexadecimal, five bytes.
-fn put_value(n: u32, unknown: bool, text: &mut [u8; 1024], pos: usize) -> usize {
-    let a = put_hex(unknown as u8, text, pos);
-    let b = put_hex((n % 256) as u8, text, a);
-    let c = put_hex((n / 256 % 256) as u8, text, b);
-    let d = put_hex((n / 65536 % 256) as u8, text, c);
-    put_hex((n / 16777216 % 256) as u8, text, d)
+// A number in hexadecimal, four bytes.
+fn put_number(n: u32, text: &mut [u8; 1024], pos: usize) -> usize {
+    let a = put_hex((n % 256) as u8, text, pos);
+    let b = put_hex((n / 256 % 256) as u8, text, a);
+    let c = put_hex((n / 65536 % 256) as u8, text, b);
+    put_hex((n / 16777216 % 256) as u8, text, c)
+}
+
+// A value in hexadecimal: its number, then its marks.
+fn put_value(n: u32, marks: u32, text: &mut [u8; 1024], pos: usize) -> usize {
+    let a = put_number(n, text, pos);
+    put_number(marks, text, a)
+}
+
+// A turn record in hexadecimal: whether it is busy, then its turns.
+fn put_turns(turns: u32, busy: bool, text: &mut [u8; 1024], pos: usize) -> usize {
+    let a = put_hex(busy as u8, text, pos);
+    put_number(turns, text, a)
 }
 
 // Registers or wires in hexadecimal.
-fn say_values(value: [u32; 32], unknown: [bool; 32]) {
+fn say_values(value: [u32; 32], unknown: [u32; 32]) {
     let mut text = [0u8; 1024];
     let mut n = 0;
     let mut r = 0;
@@ -175,13 +201,13 @@ fn say_values(value: [u32; 32], unknown: [bool; 32]) {
     say_text(&text, n);
 }
 
-// The turn records in hexadecimal: each has the form of a value.
+// The turn records in hexadecimal.
 fn say_turns(turns: [u32; 16], busy: [bool; 16], count: usize) {
     let mut text = [0u8; 1024];
     let mut n = 0;
     let mut r = 0;
     while r < 16 && r < count {
-        n = put_value(turns[r], busy[r], &mut text, n);
+        n = put_turns(turns[r], busy[r], &mut text, n);
         r += 1;
     }
     say_text(&text, n);
@@ -197,7 +223,7 @@ fn say_picked(picked: u8) {
 }
 
 // A saved state in hexadecimal, without its form byte.
-fn say_state(bytes: &[u8; 689]) {
+fn say_state(bytes: &[u8; 1025]) {
     say_hex(bytes, 1);
 }
 
@@ -247,14 +273,25 @@ fn long_word(a: u8, b: u8, c: u8, d: u8) -> u32 {
     low + 65536 * high
 }
 
-// One value: its flag and four bytes of number.
+// One value: four bytes of number, then four bytes of marks.
 fn read_input() -> Input {
+    let mut bytes = [0u8; 8];
+    let found = take(&mut bytes);
+    Input {
+        found,
+        value: long_word(bytes[0], bytes[1], bytes[2], bytes[3]),
+        unknown: long_word(bytes[4], bytes[5], bytes[6], bytes[7]),
+    }
+}
+
+// A flag, 0 or 1, and four bytes of number.
+fn read_flagged() -> Flagged {
     let mut bytes = [0u8; 5];
     let whole = take(&mut bytes);
-    Input {
+    Flagged {
         found: whole && bytes[0] < 2,
-        value: long_word(bytes[1], bytes[2], bytes[3], bytes[4]),
-        unknown: bytes[0] == 1,
+        flag: bytes[0] == 1,
+        number: long_word(bytes[1], bytes[2], bytes[3], bytes[4]),
     }
 }
 
@@ -275,7 +312,7 @@ fn read_allowances() -> Allowed {
 // Input values: `n` of them, the first 16 are handed on.
 fn read_inputs(n: u8) -> Given {
     let mut value = [0u32; 16];
-    let mut unknown = [false; 16];
+    let mut unknown = [0u32; 16];
     let mut found = true;
     let mut k: u8 = 0;
     while k < n && found {
@@ -306,10 +343,42 @@ fn read_given() -> Given {
     g
 }
 
+// Turn records: `n` of them, the first 16 are handed on.
+fn read_turns(n: u8) -> Turns {
+    let mut busy = [false; 16];
+    let mut turns = [0u32; 16];
+    let mut found = true;
+    let mut k: u8 = 0;
+    while k < n && found {
+        let v = read_flagged();
+        found = v.found;
+        if k < 16 {
+            busy[k as usize] = v.flag;
+            turns[k as usize] = v.number;
+        }
+        k += 1;
+    }
+    Turns {
+        found,
+        count: n,
+        busy,
+        turns,
+    }
+}
+
+// A count and so many turn records.
+fn read_counted() -> Turns {
+    let mut count = [0u8; 1];
+    let whole = take(&mut count);
+    let mut g = read_turns(count[0]);
+    g.found = g.found && whole;
+    g
+}
+
 // 32 register values and 8 places.
 fn read_registers() -> Handed {
     let mut value = [0u32; 32];
-    let mut unknown = [false; 32];
+    let mut unknown = [0u32; 32];
     let mut places = [0u8; 8];
     let mut found = true;
     let mut r = 0;
@@ -367,8 +436,8 @@ fn do_list(sheet: &[u8]) -> bool {
 
 // `D`: the state.
 fn do_save(st: State) -> bool {
-    let mut bytes = [0u8; 689];
-    state::save(st, &mut bytes);
+    let mut bytes = [0u8; 1025];
+    saved::save(st, &mut bytes);
     say(b"state ");
     say_state(&bytes);
     say(b"\n");
@@ -407,16 +476,16 @@ fn store(words: &mut [u16], meant: bool, i: usize, w: u16) {
     }
 }
 
-// `W`: stores one word. The record has the form of a value: a flag, the low half an index, the high half a word.
+// `W`: stores one word. Behind the table, a flag, stand an index and a word: a number's low and high half.
 fn do_word(nodes: &mut [u16], rows: &mut [u16]) -> bool {
-    let v = read_input();
+    let v = read_flagged();
     if !v.found {
         return broken();
     }
-    let i = (v.value % 65536) as usize;
-    let w = (v.value / 65536 % 65536) as u16;
-    store(nodes, !v.unknown, i, w);
-    store(rows, v.unknown, i, w);
+    let i = (v.number % 65536) as usize;
+    let w = (v.number / 65536 % 65536) as u16;
+    store(nodes, !v.flag, i, w);
+    store(rows, v.flag, i, w);
     say(b"word\n");
     true
 }
@@ -472,18 +541,17 @@ fn dispatch_first(busy: &[bool], turns: &mut [u32], n: usize, last: u8) -> Dispa
     dispatch::slices::dispatch_planes(&busy[..n], &mut turns[..n], last)
 }
 
-// `B`: the dispatcher. A turn record has the form of a value: busy is its flag, turns its number.
+// `B`: the dispatcher.
 fn do_dispatch() -> bool {
-    let g = read_given();
+    let g = read_counted();
     let mut last = [0u8; 1];
     let whole = take(&mut last);
-    let given = g.inputs;
-    let n = given.count as usize;
+    let n = g.count as usize;
     if !g.found || !whole || n > 16 {
         return broken();
     }
-    let busy = given.unknown;
-    let mut turns = given.value;
+    let busy = g.busy;
+    let mut turns = g.turns;
     let answer = dispatch_first(&busy, &mut turns, n, last[0]);
     say(b"dispatch ");
     say_number(dispatch::number_of(answer) as u64);
@@ -653,12 +721,12 @@ fn do_instant(sheet: &[u8], st: State) -> Next {
 
 // `L`: the state becomes this one, unjudged.
 fn do_load(st: State) -> Next {
-    let mut bytes = [0u8; 689];
-    bytes[0] = 3;
+    let mut bytes = [0u8; 1025];
+    bytes[0] = 4;
     if !take(&mut bytes[1..]) {
         return bad(st);
     }
-    let l = state::load(&bytes);
+    let l = saved::load(&bytes);
     if !l.found {
         return bad(st);
     }
@@ -670,7 +738,7 @@ fn do_load(st: State) -> Next {
     }
 }
 
-// `M`: a saved state of any form is brought over, after the sheet's own numbers; the state becomes it, unless refused.
+// `M`: a saved state of any form is brought over by the sheet; the state becomes it, unless refused.
 fn do_bring(sheet: &[u8], st: State) -> Next {
     let mut count = [0u8; 2];
     let mut bytes = [0u8; 65536];
@@ -683,12 +751,8 @@ fn do_bring(sheet: &[u8], st: State) -> Next {
     if got < n || !a.found {
         return bad(st);
     }
-    let r = sheet::read(sheet);
-    if r.number != 0 {
-        return kept(b"bring ", r.number, st);
-    }
     let allowances = a.allowances;
-    brought(state::bring_over(&bytes[..got], allowances), st)
+    brought(saved::bring_over(sheet, &bytes[..got], allowances), st)
 }
 
 // The line of what was brought over, and the state from there on.
@@ -747,9 +811,9 @@ fn record(sheet: &[u8], st: State, nodes: &mut [u16], rows: &mut [u16]) -> Next 
 fn zero() -> State {
     State {
         value: [0u32; 80],
-        unknown: [false; 80],
+        unknown: [0u32; 80],
         pending: [0u32; 32],
-        unsure: [false; 32],
+        unsure: [0u32; 32],
         held: [false; 32],
         places: [0u8; 8],
         due: [false; 32],
@@ -778,11 +842,11 @@ fn records(sheet: &[u8]) {
     }
 }
 
-// The head: the form, 3, the sheet's length and the sheet.
+// The head: the form, 4, the sheet's length and the sheet.
 fn main() {
     let mut head = [0u8; 3];
     let mut sheet = [0u8; 65536];
-    if !take(&mut head) || head[0] != 3 {
+    if !take(&mut head) || head[0] != 4 {
         say(b"bad script\n");
         return;
     }

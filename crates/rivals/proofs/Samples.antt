@@ -4,9 +4,8 @@ use mathlib.Core.List.{List, [], _∷_, _++_}
 use mathlib.Core.Bool.{true, false}
 use Prim.Native.Nat.{ℕ}
 use lib.ListN.{replicate}
-use Rattle.values.specs.declared.Value.the-variants.{Known}
-use Rattle.values.specs.Values.{same}
-use Rattle.cells.specs.Cells.{valueOf, cellAt}
+use Rattle.values.specs.Values.{known, same}
+use Rattle.values.specs.Cells.{numberIn, marksIn, valueOf, cellAt}
 use Rattle.trace_row.specs.TraceRow.{placeIn, rowOf}
 use Rattle.options.specs.declared.Outcome.the-variants.{Done, Refused, Different, Mistaken}
 use Rattle.stimulus.specs.Counting.{counted, firstFrom}
@@ -50,15 +49,15 @@ cycle low high = (0 ∷ low ∷ replicate 86 0) ++ (1 ∷ high ∷ replicate 86 
 -- Two cycles, the first behind three others: in the second the order of seed 1 differs. The rows before the rise do not matter.
 differ :
     judged counts (Agreed 3) 2 (cycle 0 4 ++ cycle 4 5) (cycle 9 4 ++ cycle 4 6) (cycle 0 4 ++ cycle 4 5) (cycle 0 4 ++ cycle 4 5)
-    ≡ Differs 4 1 (Variable 1 (Known 6) (Known 5))
+    ≡ Differs 4 1 (Variable 1 (known 6) (known 5))
 unfolding judged found findings cyclesIn comparable lesser rowOf finding findingFrom differs difference firstFrom valuesDiffer
-    placesDiffer cellAt valueOf placeIn same after afterAll counted
+    placesDiffer known cellAt valueOf numberIn marksIn placeIn same after afterAll counted
 differ = refl
 
 -- A trace that lacks its second cycle: one cycle is judged.
 short : judged counts (Agreed 3) 2 (cycle 0 4 ++ cycle 4 5) (cycle 0 4) (cycle 0 4 ++ cycle 4 5) (cycle 0 4 ++ cycle 4 5) ≡ Agreed 4
 unfolding judged found findings cyclesIn comparable lesser rowOf finding findingFrom differs difference firstFrom valuesDiffer
-    placesDiffer cellAt valueOf placeIn same after afterAll counted
+    placesDiffer known cellAt valueOf numberIn marksIn placeIn same after afterAll counted
 short = refl
 
 -- A run that was refused ends the comparison, but not where a difference was found before it; nothing compared is a mistake.
@@ -87,9 +86,9 @@ first-stops = refl
 -- The same cycle, done by all: they differ, which ends the comparison.
 all-rest :
     met counts (Agreed 3) (endings Rested Rested) (cycle 0 4) (cycle 0 5) (cycle 0 4) (cycle 0 4)
-    ≡ record { on = false; ending = Rested; verdict = Differs 3 1 (Variable 1 (Known 5) (Known 4)) }
+    ≡ record { on = false; ending = Rested; verdict = Differs 3 1 (Variable 1 (known 5) (known 4)) }
 unfolding met firstEnding endingAt progressOf doneOf goesOn isAgreed halted judged found findings cyclesIn comparable lesser rowOf finding
-    findingFrom differs difference firstFrom valuesDiffer placesDiffer cellAt valueOf placeIn same after afterAll counted
+    findingFrom differs difference firstFrom valuesDiffer placesDiffer known cellAt valueOf numberIn marksIn placeIn same after afterAll counted
 all-rest = refl
 
 -- What is said: of no cycle that there was none, of a difference the verdict, behind a refused run else nothing.

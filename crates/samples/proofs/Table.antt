@@ -4,15 +4,16 @@ use Prim.Native.Nat.{ℕ}
 use mathlib.Core.Bool.{true}
 use mathlib.Core.List.{map}
 use lib.ListN.{replicate}
-use Rattle.values.specs.Values.{fits, same}
+use Rattle.values.specs.Values.{known, ones, allUnknown, fits, same}
 use Rattle.values.specs.Edges.{level, moves, fires}
-use Rattle.values.specs.Planes.{valueAt, numberOf, isUnknown}
+use Rattle.values.specs.Planes.{valueAt, numberOf, marksOf}
 use Rattle.values.proofs.Samples as values
 use Rattle.sheet.specs.Expression.{Expr}
 use Rattle.sheet.specs.Statement.{assign, later, ifElse, size}
 use Rattle.evaluation.specs.Evaluation.{eval, reads}
 use Rattle.pseudocode.specs.Translation.{translate, threadCode}
 use Rattle.text.proofs.Samples as text
+use Rattle.state.specs.Rows.{listOf}
 use Rattle.state.specs.State.{countOf, allowanceOf, withPlanes, withSlots, withPlaces, withMarks, withCounters, valueOf, withValue, pendingOf, withPending, withoutPending, placeOf, withPlace, isDue, withDue}
 use Rattle.events.specs.Cycle.{variables, codeOf, instrAt, current, wireExpr, wireVariable, anyBelow, allBelow, isWait, threadEnabled, items, enabled, anyEnabled, isSome, anyPending, quiet, changed, termsFire, waitFires, fireBelow, touched, markBelow, react, runInstr, runThread, runWire, storeOne, storePending, commit, storeInputs, feed}
 use Rattle.events.specs.Calls.{dueBelow, started, widthOf, answer, spendTime, spend, byUser, countedBy, counted, timed, refusal, performed, chooseIn, onward, runIn, inputOf, inputsFit, instantRefusal, instantIn}
@@ -32,12 +33,12 @@ if-else e x y a b = (refl, refl, refl, refl)
 
 -- The thread that assigns 5 is past the assignment.
 went-on : placeOf (runIn events.fives 0 again (events.begun 1) .state) 0 ≡ 1
-unfolding same level moves fires valueAt numberOf isUnknown size eval reads translate threadCode withPlanes withSlots withPlaces withMarks withCounters valueOf withValue pendingOf withPending withoutPending placeOf withPlace isDue withDue variables codeOf instrAt current wireExpr wireVariable anyBelow isWait threadEnabled items enabled anyEnabled isSome anyPending changed termsFire waitFires fireBelow touched markBelow react runInstr runThread runWire storeOne storePending commit dueBelow started countOf allowanceOf answer spendTime spend byUser countedBy counted refusal performed chooseIn onward runIn
+unfolding same level moves fires valueAt numberOf marksOf known ones allUnknown size eval reads translate threadCode withPlanes withSlots withPlaces withMarks withCounters valueOf withValue pendingOf withPending withoutPending placeOf withPlace isDue withDue variables codeOf instrAt current wireExpr wireVariable anyBelow isWait threadEnabled items enabled anyEnabled isSome anyPending changed termsFire waitFires fireBelow touched markBelow react runInstr runThread runWire storeOne storePending commit dueBelow listOf started countOf allowanceOf answer spendTime spend byUser countedBy counted refusal performed chooseIn onward runIn
 went-on = refl
 
 -- After the commit nothing is enabled and nothing pending.
 at-rest : (x y : ℕ) → map (quiet events.swapping) (swaps x y) ≡ replicate 6 true
-unfolding branches reached fits same level moves fires valueAt numberOf isUnknown size eval reads translate threadCode withPlanes withSlots withPlaces withMarks withCounters valueOf withValue pendingOf withPending withoutPending placeOf withPlace isDue withDue variables codeOf instrAt current wireExpr wireVariable anyBelow allBelow isWait threadEnabled items enabled anyEnabled isSome anyPending quiet changed termsFire waitFires fireBelow touched markBelow react runInstr runThread runWire storeOne storePending commit storeInputs feed dueBelow started widthOf countOf allowanceOf answer spendTime spend byUser countedBy counted timed refusal performed chooseIn onward runIn inputOf inputsFit instantRefusal instantIn
+unfolding branches reached fits same level moves fires valueAt numberOf marksOf known ones allUnknown size eval reads translate threadCode withPlanes withSlots withPlaces withMarks withCounters valueOf withValue pendingOf withPending withoutPending placeOf withPlace isDue withDue variables codeOf instrAt current wireExpr wireVariable anyBelow allBelow isWait threadEnabled items enabled anyEnabled isSome anyPending quiet changed termsFire waitFires fireBelow touched markBelow react runInstr runThread runWire storeOne storePending commit storeInputs feed dueBelow listOf started widthOf countOf allowanceOf answer spendTime spend byUser countedBy counted timed refusal performed chooseIn onward runIn inputOf inputsFit instantRefusal instantIn
 at-rest x y = refl
 
 pub table : Table

@@ -6,9 +6,8 @@ use mathlib.Core.Bool.{true, false}
 use mathlib.Core.List.{List, [], _∷_, map}
 use lib.ListN.{replicate}
 use Rattle.values.specs.declared.Value.{Value}
-use Rattle.values.specs.declared.Value.the-variants.{Known, Unknown}
 use Rattle.values.specs.declared.Edge.the-variants.{Posedge}
-use Rattle.values.specs.Values.{holds}
+use Rattle.values.specs.Values.{known, allUnknown, holds}
 use Rattle.values.specs.Operators.{binary}
 use Rattle.values.specs.Edges.{fires}
 use Rattle.sheet.specs.Reading.{no}
@@ -34,17 +33,17 @@ swaps x y = events.reached events.swapping 5 (events.risen x y)
 
 pub record Table : Type 0 where
   -- "Width 4: 15 + 1 = 0; 0 - 1 = 15."
-  pub sum : binary 6 4 (Known 15) (Known 1) ≡ Known 0
-  pub difference : binary 7 4 (Known 0) (Known 1) ≡ Known 15
-  -- "8-bit x & 0 is x."
-  pub x-and-0 : binary 3 8 Unknown (Known 0) ≡ Unknown
+  pub sum : binary 6 4 (known 15) (known 1) ≡ known 0
+  pub difference : binary 7 4 (known 0) (known 1) ≡ known 15
+  -- "8-bit x & 0 is x." By document 02, request [4], "0 & x is 0, in 01's sample too".
+  pub x-and-0 : binary 3 8 (allUnknown 8) (known 0) ≡ known 0
   -- "If on 2 holds; on x fails."
-  pub if-2 : holds (Known 2) ≡ true
-  pub if-x : holds Unknown ≡ false
+  pub if-2 : holds (known 2) ≡ true
+  pub if-x : holds (allUnknown 8) ≡ false
   -- "x to 1 fires posedge; 1 to 1 doesn't; 0 to x doesn't." The last is document 02's, request [2]: it does.
-  pub x-to-1 : fires Posedge Unknown (Known 1) ≡ true
-  pub 1-to-1 : fires Posedge (Known 1) (Known 1) ≡ false
-  pub 0-to-x : fires Posedge (Known 0) Unknown ≡ true
+  pub x-to-1 : fires Posedge (allUnknown 1) (known 1) ≡ true
+  pub 1-to-1 : fires Posedge (known 1) (known 1) ≡ false
+  pub 0-to-x : fires Posedge (known 0) (allUnknown 1) ≡ true
   -- "If-else of two assignments: size 4.", plain and non-blocking
   pub if-else :
       (e x y : Expr) (a b : ℕ) →
@@ -57,14 +56,14 @@ pub record Table : Type 0 where
   -- Of the second, every choice is accepted, the register holds 5, the assigning thread went on, the other is still at its wait.
   pub five-again :
       (runIn events.fives 0 again (events.begun 1) .accepted ≡ 6)
-      × (valueOf (runIn events.fives 0 again (events.begun 1) .state) 1 ≡ Known 5)
+      × (valueOf (runIn events.fives 0 again (events.begun 1) .state) 1 ≡ known 5)
       × (placeOf (runIn events.fives 0 again (events.begun 1) .state) 0 ≡ 1)
       × (placeOf (runIn events.fives 0 again (events.begun 1) .state) 1 ≡ 0)
   -- "Two threads `a <= b`, `b <= a`: swapped in any order." In each of the six orders a and b are swapped, the state is quiet, and
   -- no choice is left.
   pub swapped :
       (x y : ℕ) →
-      (map {B = Value × Value} (λ s. (valueOf s 1, valueOf s 2)) (swaps x y) ≡ replicate 6 (Known y, Known x))
+      (map {B = Value × Value} (λ s. (valueOf s 1, valueOf s 2)) (swaps x y) ≡ replicate 6 (known y, known x))
       × (map (quiet events.swapping) (swaps x y) ≡ replicate 6 true)
       × (events.reached events.swapping 6 (events.risen x y) ≡ [])
   -- "With plain assignment: 14." The same two threads by `a = b`, `b = a`, a sheet that extraction refuses.
@@ -72,7 +71,7 @@ pub record Table : Type 0 where
   -- "Two pending values for one register: the second stands." All three choices are accepted.
   pub second-stands :
       (runIn events.twice 0 (0 ∷ 0 ∷ 255 ∷ []) (events.begun 0) .accepted ≡ 3)
-      × (valueOf (runIn events.twice 0 (0 ∷ 0 ∷ 255 ∷ []) (events.begun 0) .state) 1 ≡ Known 5)
+      × (valueOf (runIn events.twice 0 (0 ∷ 0 ∷ 255 ∷ []) (events.begun 0) .state) 1 ≡ known 5)
   -- "Flip-flop sheet (hex): `02 01 00 01 01 08 08 0C 10 01 01 00 23 02 02 01`." and what the listing program prints
   pub flip-flop :
       output

@@ -120,9 +120,10 @@ settles-instant m old new a s H k b =
     holds-marked m old new k (s .reacted .wires k) (s .others (wireVariable m k) (λ e. omega arith)) (H k b)
 
 -- At the start every wire is due.
-pub settles-start : (m : Module Expr) → Sound m → (allowances : List ℕ) → Settles m (started (length (m .wires)) allowances)
+pub settles-start : (m : Module Expr) → Sound m → (allowances : List ℕ) → Settles m (started (m .scope .widths) (length (m .wires)) allowances)
 settles-start m w allowances k b d =
-    absurd-bool (lt-ltb k (length (m .wires)) b) (sym (due-started (length (m .wires)) allowances k (w .wires-most)) ∙ d)
+    absurd-bool (lt-ltb k (length (m .wires)) b)
+    (sym (due-started (m .scope .widths) (length (m .wires)) allowances k (w .wires-most)) ∙ d)
 
 -- Where no wire is due, all are settled.
 pub settled-quiet :

@@ -11,8 +11,7 @@ use lib.ListN.{length, getD}
 use lib.Dec.{ltb}
 use borrow.Author.Tests.{ltb-true, lt-ltb, eq-eqb, ne-eqb}
 use Rattle.values.specs.declared.Value.{Value}
-use Rattle.values.specs.declared.Value.the-variants.{Unknown}
-use Rattle.values.specs.Values.{pick, fits}
+use Rattle.values.specs.Values.{pick, allUnknown, fits}
 use Rattle.values.proofs.Values.{fits-unknown}
 use Rattle.sheet.specs.Expression.{Expr}
 use Rattle.sheet.specs.Module.{Module}
@@ -159,20 +158,20 @@ clock-apart m w R f h same v d l =
 -- ---- settled values fit
 
 -- The values below n, and x from n on.
-cut : ℕ → (ℕ → Value) → ℕ → Value
-cut n f v = pick (ltb v n) (f v) Unknown
+cut : Module Expr → ℕ → (ℕ → Value) → ℕ → Value
+cut m n f v = pick (ltb v n) (f v) (allUnknown (getD (m .scope .widths) v 0))
 
-cut-below : (n : ℕ) (f : ℕ → Value) (v : ℕ) → v < n → cut n f v ≡ f v
+cut-below : (m : Module Expr) (n : ℕ) (f : ℕ → Value) (v : ℕ) → v < n → cut m n f v ≡ f v
 unfolding cut
-cut-below n f v l = rw (lt-ltb v n l)
+cut-below m n f v l = rw (lt-ltb v n l)
 
 cut-fits :
     (m : Module Expr) (n : ℕ) (f : ℕ → Value) → ((v : ℕ) → v < n → fits (getD (m .scope .widths) v 0) (f v) ≡ true) →
-    Fitting (m .scope) (cut n f)
+    Fitting (m .scope) (cut m n f)
 unfolding cut
 cut-fits m n f h v l = by (ltb v n) refl
   where
-    by : (t : Bool) → ltb v n ≡ t → fits (getD (m .scope .widths) v 0) (pick t (f v) Unknown) ≡ true
+    by : (t : Bool) → ltb v n ≡ t → fits (getD (m .scope .widths) v 0) (pick t (f v) (allUnknown (getD (m .scope .widths) v 0))) ≡ true
     by true e = h v (ltb-true v n e)
     by false e = fits-unknown (getD (m .scope .widths) v 0)
 
@@ -190,8 +189,8 @@ fits-wires m w R f F h (suc n) s v l = by (ℕ-discrete v x) (fits-wires m w R f
     by : Dec (v ≡ x) → ((u : ℕ) → u < x → fits (getD (m .scope .widths) u 0) (f u) ≡ true) →
         fits (getD (m .scope .widths) v 0) (f v) ≡ true
     by (yes e) below =
-        let same = eval-same (cut x f) f (wireExpr m n) (λ u r. cut-below x f u (reads-lower m R n u r)) in
-        let whole = w .wire n (omega arith) .fits-width (cut x f) (cut-fits m x f below) in
+        let same = eval-same (cut m x f) f (wireExpr m n) (λ u r. cut-below m x f u (reads-lower m R n u r)) in
+        let whole = w .wire n (omega arith) .fits-width (cut m x f) (cut-fits m x f below) in
         rw (e, F n (omega arith)) (rw same at whole)
     by (no q) below = below v (let y : v ≢ m .scope .inputs + m .scope .registers + n = q in omega arith)
 

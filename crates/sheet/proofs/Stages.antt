@@ -9,7 +9,7 @@ use lib.Dec.{ltb, leb, eqb}
 use borrow.Author.Tests.{le-leb, lt-leb, leb-true, leb-false, eq-eqb, ne-eqb, eqb-true, eqb-false}
 use Rattle.sheet.specs.Reading.{Res, ok, no, _>>=_, _>>_, check, within, wordOf, wordAt}
 use Rattle.values.specs.Values.{pick, fits}
-use Rattle.values.specs.declared.Value.the-variants.{Known}
+use Rattle.values.specs.Values.{known}
 use Rattle.sheet.specs.Expression.{Expr, constant, Parsed, aConstant, node, located}
 use Rattle.sheet.specs.Statement.{Stmt}
 use Rattle.sheet.specs.Module.{Listed, Head, readWidths, readHead, readWires, readThreads, readSheet}
@@ -50,12 +50,12 @@ module _ (place next : ℕ) {width : ByteRead.ByteRead} (value : WordRead.WordRe
     constant-no-value f = rw (e, f)
 
     module _ {v : ℕ} (f : value ≡ WordRead.the-variants.Word v) where
-      pub constant-fits : fits w (Known v) ≡ true → ExprRead.the-variants.Read next w ≡ constantFrom place next width value
-      unfolding constantFrom fits
+      pub constant-fits : ltb v (2 ^ w) ≡ true → ExprRead.the-variants.Read next w ≡ constantFrom place next width value
+      unfolding constantFrom
       constant-fits t = rw (e, f, t)
 
-      pub constant-wide : fits w (Known v) ≡ false → ExprRead.the-variants.Refused 6 place ≡ constantFrom place next width value
-      unfolding constantFrom fits
+      pub constant-wide : ltb v (2 ^ w) ≡ false → ExprRead.the-variants.Refused 6 place ≡ constantFrom place next width value
+      unfolding constantFrom
       constant-wide t = rw (e, f, t)
 
 -- A width and a value are the constant.

@@ -6,7 +6,6 @@ use super::bytes::byte_at;
 use super::bytes::read_name;
 use super::bytes::read_within;
 use super::scan;
-use values::Value;
 ghost use mathlib.Core.Path.{_≡_};
 ghost use Prim.Native.Nat.{_<_};
 ghost use lib.ListN.{length};
@@ -45,7 +44,7 @@ fn constant_from(place: usize, next: usize, width: ByteRead, value: WordRead) ->
             return ExprRead::Refused { number, place: at };
         }
     };
-    if values::fits(bits, Value::Known(known)) {
+    if values::below(bits, known) {
         ExprRead::Read { next, width: bits }
     } else {
         ExprRead::Refused { number: 6, place }

@@ -2,23 +2,25 @@
 use mathlib.Core.Path.{_≡_, refl, sym, ap, _∙_}
 use mathlib.Core.Bool.{Bool, true, false}
 use mathlib.Core.List.{List, [], _∷_}
-use Prim.Native.Nat.{ℕ, _^_}
+use Prim.Native.Nat.{ℕ, _<_}
 use native.Mathlib.Omega.{arith}
 use borrow.Author.Needs.{needs}
-use borrow.Author.Tests.{lt-ltb, ne-eqb}
+use borrow.Author.Tests.{ne-eqb}
 use mir.Syntax.{w32}
 use mir.Val.{Fits}
 use denote.Laws.{Is}
 use denote.Struct.Laws.{val}
 use lib.Dec.{ltb}
 use lib.ListN.{length, getD, replicate, length-replicate, getD-replicate}
-use Rattle.values.specs.declared.Value.the-variants.{Known, Unknown}
-use Rattle.values.specs.Values.{pick, fits}
+use Rattle.values.specs.Values.{pick}
 use Rattle.values.specs.Planes.{valueAt}
+use Rattle.values.specs.Cells.{small}
+use Rattle.values.proofs.Operators.{is-small}
 use Rattle.sheet.specs.Expression.{Expr}
 use Rattle.sheet.specs.Module.{Module, read}
 use Rattle.state.specs.declared.State.{State}
 use Rattle.state.specs.State.{users}
+use Rattle.state.specs.Rows.{listOf}
 use Rattle.state.proofs.Accessors.{Good, shaped-good, bounded-good}
 use Rattle.events.specs.declared.Inputs.{Inputs}
 use Rattle.events.specs.declared.Ran.{Ran}
@@ -31,36 +33,35 @@ use Rattle.events.proofs.Inputs.Laws.{the-laws}
 use Rattle.plan.specs.Sections.{countPlace}
 use Rattle.plan.specs.Plan.{planOf}
 use Rattle.prepared.specs.declared.Prepared.{Prepared}
-use Rattle.prepared.specs.Prepared.{readOf, preparedPlan, startAt}
+use Rattle.prepared.specs.Prepared.{readOf, preparedPlan, widthsOf, startAt}
 use Rattle.prepared.specs.Claims.{Same, OnTheSheet}
 use Rattle.prepared.proofs.Answered.{Answered, accepted, refused, answered}
 use Rattle.prepared.proofs.Claims.{on-the-sheet}
 
--- ---- inputs passed by value are numbers of 32 bits
+-- ---- inputs passed by value are numbers of 32 bits, and so are their marks
 
 abbrev pub GoodInputs : Inputs → Type 0
 GoodInputs a = Is the-row a (val the-type the-laws a ∷ [])
 
-pub inputs-small : (a : Inputs) → GoodInputs a → (v : ℕ) → fits 32 (inputOf a v) ≡ true
-unfolding inputOf valueAt fits
-inputs-small a g v = by (ltb v (length (a .value))) (getD (a .unknown) v true)
-  where
-    small : Fits w32 (getD (a .value) v 0)
-    small = search needs
+pub inputs-small : (a : Inputs) → GoodInputs a → (v : ℕ) → small (inputOf a v) ≡ true
+unfolding inputOf valueAt
+inputs-small a g v =
+    let n : Fits w32 (getD (a .value) v 0) = search needs in
+    let u : Fits w32 (getD (a .unknown) v 0) = search needs in
+    is-small _ (n .fits) (u .fits)
 
-    by : (t u : Bool) → fits 32 (pick t (pick u Unknown (Known (getD (a .value) v 0))) Unknown) ≡ true
-    by true true = refl
-    by true false = lt-ltb (getD (a .value) v 0) (2 ^ 32) (small .fits)
-    by false u = refl
-
--- ---- start: a plan of zeros has no wires
+-- ---- start: a plan of zeros has no variables and no wires
 
 abbrev zeros : List ℕ
 zeros = replicate 25212 0
 
-start-zeros : (allowances : List ℕ) → startAt (planOf zeros) allowances ≡ started 0 allowances
-unfolding startAt
-start-zeros allowances = rw (getD-replicate {A = ℕ} 25212 (countPlace 2) 0 0 (omega arith))
+no-count : (k : ℕ) → k < 4 → getD zeros (countPlace k) 0 ≡ 0
+no-count k h = getD-replicate {A = ℕ} 25212 (countPlace k) 0 0 (omega arith)
+
+start-zeros : (allowances : List ℕ) → startAt (planOf zeros) allowances ≡ started [] 0 allowances
+unfolding startAt widthsOf listOf
+start-zeros allowances =
+    rw (no-count 0 (omega arith), no-count 1 (omega arith), no-count 2 (omega arith)) refl
 
 module _ (s : List ℕ) (allowances : List ℕ) where
   -- what lies in the plan after `prepare`

@@ -12,7 +12,8 @@ ghost use Rattle.events.specs.Calls.{start, choose, runList, runPlain, instant}
 
 // ---- start
 
-// The state at the start, with each user's allowance. Where the sheet is refused, that of a sheet without wires: so says a plan of zeros.
+// The state at the start, with each user's allowance. Where the sheet is refused, that of no variables and no wires: so says a plan of
+// zeros.
 pub fn start(sheet: &[u8], allowances: [u32; 4]) -> Chosen
     ensures { λ r. ⌜ r ≡ start (now (sheet .entry)) allowances ⌝ }
 {

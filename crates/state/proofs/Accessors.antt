@@ -15,7 +15,7 @@ use denote.Struct.Laws.{val}
 use lib.ListN.{length, getD, length-set}
 use lib.Seq.{getD-set-same, getD-set-other}
 use Rattle.values.specs.declared.Value.{Value}
-use Rattle.values.specs.Planes.{numberOf, isUnknown}
+use Rattle.values.specs.Planes.{numberOf, marksOf}
 use Rattle.values.proofs.Planes.{valueAt-set-same, valueAt-set-other}
 use Rattle.state.specs.declared.Counters.{Counters}
 use Rattle.state.specs.declared.State.{State}
@@ -52,7 +52,9 @@ pub bounded-good : (st : State) → Good st → Bounded st
 bounded-good st g =
     record {
       value = λ v. below w32 (search needs);
+      unknown = λ v. below w32 (search needs);
       pending = λ r. below w32 (search needs);
+      unsure = λ r. below w32 (search needs);
       places = λ i. below w8 (search needs);
       time = search needs;
       counts = λ u. below w64 (search needs);
@@ -88,7 +90,7 @@ module _ (st : State) (v : ℕ) (a : Value) where
   pub value-withValue-other : (u : ℕ) → v ≢ u → valueOf (withValue st v a) u ≡ valueOf st u
   unfolding valueOf withValue withPlanes
   value-withValue-other u h =
-      valueAt-set-other (st .value) (st .unknown) u v (numberOf a) (isUnknown a) (λ e. h (sym e))
+      valueAt-set-other (st .value) (st .unknown) u v (numberOf a) (marksOf a) (λ e. h (sym e))
 
 module _ (st : State) (r : ℕ) (a : Value) where
   pub pending-withPending-same : Shaped st → r < 32 → pendingOf (withPending st r a) r ≡ some a
@@ -102,7 +104,7 @@ module _ (st : State) (r : ℕ) (a : Value) where
   pending-withPending-other q h =
       let h′ : q ≢ r = λ e. h (sym e) in
       let f = getD-set-other (st .held) r q true false h′ in
-      rw (f, valueAt-set-other (st .pending) (st .unsure) q r (numberOf a) (isUnknown a) h′)
+      rw (f, valueAt-set-other (st .pending) (st .unsure) q r (numberOf a) (marksOf a) h′)
 
 module _ (st : State) (r : ℕ) where
   pub pending-withoutPending-same : Shaped st → r < 32 → pendingOf (withoutPending st r) r ≡ none
@@ -133,20 +135,20 @@ module _ (st : State) (k : ℕ) (b : Bool) where
 
 -- ---- what each setter leaves alone
 
-module _ (st : State) (ns : List ℕ) (xs : List Bool) where
-  pub pending-withPlanes : (q : ℕ) → pendingOf (withPlanes st ns xs) q ≡ pendingOf st q
+module _ (st : State) (ns us : List ℕ) where
+  pub pending-withPlanes : (q : ℕ) → pendingOf (withPlanes st ns us) q ≡ pendingOf st q
   unfolding pendingOf withPlanes
   pending-withPlanes q = refl
 
-  pub place-withPlanes : (j : ℕ) → placeOf (withPlanes st ns xs) j ≡ placeOf st j
+  pub place-withPlanes : (j : ℕ) → placeOf (withPlanes st ns us) j ≡ placeOf st j
   unfolding placeOf withPlanes
   place-withPlanes j = refl
 
-  pub due-withPlanes : (l : ℕ) → isDue (withPlanes st ns xs) l ≡ isDue st l
+  pub due-withPlanes : (l : ℕ) → isDue (withPlanes st ns us) l ≡ isDue st l
   unfolding isDue withPlanes
   due-withPlanes l = refl
 
-  pub counters-withPlanes : withPlanes st ns xs .counters ≡ st .counters
+  pub counters-withPlanes : withPlanes st ns us .counters ≡ st .counters
   unfolding withPlanes
   counters-withPlanes = refl
 
@@ -167,20 +169,20 @@ module _ (st : State) (v : ℕ) (a : Value) where
   unfolding withValue withPlanes
   counters-withValue = refl
 
-module _ (st : State) (ns : List ℕ) (xs hs : List Bool) where
-  pub value-withSlots : (u : ℕ) → valueOf (withSlots st ns xs hs) u ≡ valueOf st u
+module _ (st : State) (ns us : List ℕ) (hs : List Bool) where
+  pub value-withSlots : (u : ℕ) → valueOf (withSlots st ns us hs) u ≡ valueOf st u
   unfolding valueOf withSlots
   value-withSlots u = refl
 
-  pub place-withSlots : (j : ℕ) → placeOf (withSlots st ns xs hs) j ≡ placeOf st j
+  pub place-withSlots : (j : ℕ) → placeOf (withSlots st ns us hs) j ≡ placeOf st j
   unfolding placeOf withSlots
   place-withSlots j = refl
 
-  pub due-withSlots : (l : ℕ) → isDue (withSlots st ns xs hs) l ≡ isDue st l
+  pub due-withSlots : (l : ℕ) → isDue (withSlots st ns us hs) l ≡ isDue st l
   unfolding isDue withSlots
   due-withSlots l = refl
 
-  pub counters-withSlots : withSlots st ns xs hs .counters ≡ st .counters
+  pub counters-withSlots : withSlots st ns us hs .counters ≡ st .counters
   unfolding withSlots
   counters-withSlots = refl
 
@@ -327,8 +329,8 @@ module _ (s t : State) (e : s .counters ≡ t .counters) where
 
 -- ---- each setter keeps the lengths
 
-module _ (st : State) (ns : List ℕ) (xs : List Bool) where
-  pub shaped-withPlanes : Shaped st → length ns ≡ 80 → length xs ≡ 80 → Shaped (withPlanes st ns xs)
+module _ (st : State) (ns us : List ℕ) where
+  pub shaped-withPlanes : Shaped st → length ns ≡ 80 → length us ≡ 80 → Shaped (withPlanes st ns us)
   unfolding withPlanes
   shaped-withPlanes s p q =
       record {
@@ -349,7 +351,7 @@ module _ (st : State) (v : ℕ) (a : Value) where
   shaped-withValue s =
       record {
         value = length-set (st .value) v (numberOf a) ∙ s .value;
-        unknown = length-set (st .unknown) v (isUnknown a) ∙ s .unknown;
+        unknown = length-set (st .unknown) v (marksOf a) ∙ s .unknown;
         pending = s .pending;
         unsure = s .unsure;
         held = s .held;
@@ -359,8 +361,8 @@ module _ (st : State) (v : ℕ) (a : Value) where
         allowances = s .allowances;
       }
 
-module _ (st : State) (ns : List ℕ) (xs hs : List Bool) where
-  pub shaped-withSlots : Shaped st → length ns ≡ 32 → length xs ≡ 32 → length hs ≡ 32 → Shaped (withSlots st ns xs hs)
+module _ (st : State) (ns us : List ℕ) (hs : List Bool) where
+  pub shaped-withSlots : Shaped st → length ns ≡ 32 → length us ≡ 32 → length hs ≡ 32 → Shaped (withSlots st ns us hs)
   unfolding withSlots
   shaped-withSlots s p q o =
       record {
@@ -383,7 +385,7 @@ module _ (st : State) (r : ℕ) (a : Value) where
         value = s .value;
         unknown = s .unknown;
         pending = length-set (st .pending) r (numberOf a) ∙ s .pending;
-        unsure = length-set (st .unsure) r (isUnknown a) ∙ s .unsure;
+        unsure = length-set (st .unsure) r (marksOf a) ∙ s .unsure;
         held = length-set (st .held) r true ∙ s .held;
         places = s .places;
         due = s .due;

@@ -11,7 +11,7 @@ use lib.Dec.{ltb}
 use lib.ListN.{length, getD, set, length-append, List·getD-append, List·getD-eq-default, drop-of-length-le}
 use lib.Seq.{sets, sets-eq, getD-at, getD-append-add, ext-getD}
 use borrow.Author.Tests.{ltb-true, ltb-false}
-use Rattle.state.specs.Saved.{rows, listOf, allBelow}
+use Rattle.state.specs.Rows.{rows, listOf, allBelow}
 
 -- ---- sets: a run of stores
 

@@ -1,3 +1,2 @@
 pub mod State
-pub mod Saved
-pub mod Claims
+pub mod Rows

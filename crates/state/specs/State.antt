@@ -7,7 +7,7 @@ use mathlib.Core.Option.{Option, none, some}
 use lib.ListN.{length, getD, set}
 use Rattle.values.specs.declared.Value.{Value}
 use Rattle.values.specs.Values.{pick}
-use Rattle.values.specs.Planes.{valueAt, numberOf, isUnknown}
+use Rattle.values.specs.Planes.{valueAt, numberOf, marksOf}
 use Rattle.state.specs.declared.Counters.{Counters}
 use Rattle.state.specs.declared.State.{State}
 
@@ -26,7 +26,9 @@ pub record Shaped (st : State) : Type 0 where
 
 pub record Bounded (st : State) : Type 0 where
   pub value : (v : ℕ) → getD (st .value) v 0 < 2 ^ 32
+  pub unknown : (v : ℕ) → getD (st .unknown) v 0 < 2 ^ 32
   pub pending : (r : ℕ) → getD (st .pending) r 0 < 2 ^ 32
+  pub unsure : (r : ℕ) → getD (st .unsure) r 0 < 2 ^ 32
   pub places : (i : ℕ) → getD (st .places) i 0 < 2 ^ 8
   pub time : st .counters .time < 2 ^ 64
   pub counts : (u : ℕ) → getD (st .counters .counts) u 0 < 2 ^ 64
@@ -54,11 +56,11 @@ allowanceOf st u = getD (st .counters .allowances) u 0
 
 -- ---- the parts of a state, set anew
 
-unfoldable pub withPlanes : State → List ℕ → List Bool → State
-withPlanes st ns xs =
+unfoldable pub withPlanes : State → List ℕ → List ℕ → State
+withPlanes st ns us =
     record {
       value = ns;
-      unknown = xs;
+      unknown = us;
       pending = st .pending;
       unsure = st .unsure;
       held = st .held;
@@ -67,13 +69,13 @@ withPlanes st ns xs =
       counters = st .counters;
     }
 
-unfoldable pub withSlots : State → List ℕ → List Bool → List Bool → State
-withSlots st ns xs hs =
+unfoldable pub withSlots : State → List ℕ → List ℕ → List Bool → State
+withSlots st ns us hs =
     record {
       value = st .value;
       unknown = st .unknown;
       pending = ns;
-      unsure = xs;
+      unsure = us;
       held = hs;
       places = st .places;
       due = st .due;
@@ -125,7 +127,7 @@ unfoldable pub valueOf : State → ℕ → Value
 valueOf st v = valueAt (st .value) (st .unknown) v
 
 unfoldable pub withValue : State → ℕ → Value → State
-withValue st v a = withPlanes st (set (st .value) v (numberOf a)) (set (st .unknown) v (isUnknown a))
+withValue st v a = withPlanes st (set (st .value) v (numberOf a)) (set (st .unknown) v (marksOf a))
 
 -- ---- pending values, by register
 
@@ -135,7 +137,7 @@ pendingOf st r = pick (getD (st .held) r false) (some (valueAt (st .pending) (st
 -- "A new pending value for a register replaces the old."
 unfoldable pub withPending : State → ℕ → Value → State
 withPending st r a =
-    withSlots st (set (st .pending) r (numberOf a)) (set (st .unsure) r (isUnknown a)) (set (st .held) r true)
+    withSlots st (set (st .pending) r (numberOf a)) (set (st .unsure) r (marksOf a)) (set (st .held) r true)
 
 -- The register has no pending value any more; what its slot holds is left as it stands.
 unfoldable pub withoutPending : State → ℕ → State

@@ -1,7 +1,7 @@
 -- THE LAW of accepted lines: where the error is 0, every slot up to the inputs' number is filled, and its value fits the width of its
 -- input: such a row is never refused with 25. Assumes nothing.
 use mathlib.Core.Path.{_≡_, refl, _∙_}
-use mathlib.Core.Bool.{Bool, true, false, _&&_}
+use mathlib.Core.Bool.{Bool, true, false}
 use mathlib.Core.List.{List}
 use Prim.Native.Nat.{ℕ, zero, suc, _+_, _-_, _<_, _≤_}
 use native.Mathlib.Nat.{add-zero}
@@ -9,95 +9,113 @@ use native.Mathlib.Omega.{arith}
 use borrow.Author.Count.{below-more}
 use borrow.Author.Tests.{eqb-true, eqb-false}
 use lib.Dec.{ltb, eqb}
-use lib.ListN.{length, getD, set, length-set, replicate}
+use lib.ListN.{length, getD, set, drop, length-set, replicate}
 use lib.Pow.{pow-pos}
-use lib.Seq.{getD-set-same}
-use Rattle.values.specs.declared.Value.the-variants.{Known}
-use Rattle.values.specs.Values.{fits}
-use Rattle.values.specs.Planes.{valueAt}
+use Rattle.values.specs.declared.Value.{Value}
+use Rattle.values.specs.Values.{pick, known, allUnknown, fits}
+use Rattle.values.specs.Planes.{valueAt, numberOf as numberIn, marksOf}
 use Rattle.values.proofs.Values.{fits-known, fits-unknown}
-use Rattle.values.proofs.Planes.{valueAt-unknown, valueAt-known, valueAt-set-other}
+use Rattle.values.proofs.Planes.{valueAt-set-same, valueAt-set-other}
 use Rattle.stimulus.specs.declared.Class.the-variants.{Blank}
 use Rattle.stimulus.specs.declared.Number.{Number}
+use Rattle.stimulus.specs.declared.Bits.{Bits}
+use Rattle.stimulus.specs.declared.Entry.{Entry}
+use Rattle.stimulus.specs.declared.Taken.{Taken}
 use Rattle.stimulus.specs.declared.Line.{Line}
 use Rattle.stimulus.specs.Words.{runEnd, ended}
-use Rattle.stimulus.specs.Numbers.{isX, isHex}
-use Rattle.stimulus.specs.Lines.{fitted, entryOf, cellAt, taken, slots, valuesFrom, valuesOf, firstPlace, lineOf}
+use Rattle.stimulus.specs.Numbers.{numberOf, isX, isHex, isBits, isSized, bitsOf}
+use Rattle.stimulus.specs.Lines.{entry, admitted, fitted, cut, sized, quoted, quotedOf, entryOf}
+use Rattle.stimulus.specs.Lines.{cellAt, taken, slots, valuesFrom, valuesOf, firstPlace, lineOf}
 use Rattle.stimulus.proofs.Lines.{slots-few}
 
 -- ---- a word
 
-and-second : (x y : Bool) → (x && y) ≡ true → y ≡ true
-and-second true y e = e
-and-second false y e = cc
+-- What an entry stands for.
+abbrev held : Entry → Value
+held e = record { number = e .number; unknown = e .unknown }
 
-fitted-fits : (w : ℕ) (a : Number) → fitted w a .error ≡ 0 → fits w (Known (fitted w a .number)) ≡ true
+admitted-fits : (w : ℕ) (a : Value) → admitted w a .error ≡ 0 → fits w (held (admitted w a)) ≡ true
+unfolding admitted numberIn marksOf
+admitted-fits w a z = by (fits w a) refl z
+  where
+    by : (x : Bool) → fits w a ≡ x → pick x (entry 0 (a .unknown) (a .number)) (entry 3 0 0) .error ≡ 0 →
+        fits w (held (pick x (entry 0 (a .unknown) (a .number)) (entry 3 0 0))) ≡ true
+    by true p z = p
+    by false p z = absurd (omega arith)
+
+-- One entry or another, each of which fits.
+pick-fits : (w : ℕ) (t : Bool) (d e : Entry) → (d .error ≡ 0 → fits w (held d) ≡ true) → (e .error ≡ 0 → fits w (held e) ≡ true) →
+    pick t d e .error ≡ 0 → fits w (held (pick t d e)) ≡ true
+pick-fits w true d e f g z = f z
+pick-fits w false d e f g z = g z
+
+fitted-fits : (w : ℕ) (a : Number) → fitted w a .error ≡ 0 → fits w (held (fitted w a)) ≡ true
 unfolding fitted
-fitted-fits w a z = by (a .good) (ltb (a .n) 4294967296 && fits w (Known (a .n))) refl refl z
-  where
-    by : (x y : Bool) → a .good ≡ x → (ltb (a .n) 4294967296 && fits w (Known (a .n))) ≡ y → fitted w a .error ≡ 0 →
-        fits w (Known (fitted w a .number)) ≡ true
-    by true true p q z = rw (p, q) (and-second (ltb (a .n) 4294967296) (fits w (Known (a .n))) q)
-    by true false p q z = let g = rw (p, q) at z in absurd (omega arith)
-    by false y p q z = let g = rw p at z in absurd (omega arith)
+fitted-fits w a =
+    pick-fits w (a .good) _ (entry 2 0 0)
+    (pick-fits w (ltb (a .n) 4294967296) (admitted w (known (a .n))) (entry 3 0 0) (admitted-fits w (known (a .n))) (λ z. absurd (omega arith)))
+    (λ z. absurd (omega arith))
 
-entry-fits :
-    (w : ℕ) (word : List ℕ) → entryOf w word .error ≡ 0 → entryOf w word .unknown ≡ false →
-    fits w (Known (entryOf w word .number)) ≡ true
-unfolding entryOf
-entry-fits w word z u = by (isX word) (isHex word) refl refl z u
-  where
-    by : (x y : Bool) → isX word ≡ x → isHex word ≡ y → entryOf w word .error ≡ 0 → entryOf w word .unknown ≡ false →
-        fits w (Known (entryOf w word .number)) ≡ true
-    by true y p q z u = let g = rw p at u in cc
-    by false true p q z u = rw (p, q) (fitted-fits w _ (rw (p, q) at z))
-    by false false p q z u = rw (p, q) (fitted-fits w _ (rw (p, q) at z))
+sized-fits : (w v k : ℕ) (a : Bits) → sized w v k a .error ≡ 0 → fits w (held (sized w v k a)) ≡ true
+unfolding sized
+sized-fits w v k a =
+    pick-fits w (a .good) _ (entry 2 0 0)
+    (pick-fits w (ltb v k) (entry 3 0 0) (admitted w (cut v a)) (λ z. absurd (omega arith)) (admitted-fits w (cut v a)))
+    (λ z. absurd (omega arith))
+
+quoted-fits : (w : ℕ) (v : Number) (k : ℕ) (a : Bits) → quoted w v k a .error ≡ 0 → fits w (held (quoted w v k a)) ≡ true
+unfolding quoted
+quoted-fits w v k a =
+    pick-fits w (v .good) _ (entry 2 0 0)
+    (pick-fits w (ltb (v .n) 33) (sized w (v .n) k a) (entry 3 0 0) (sized-fits w (v .n) k a) (λ z. absurd (omega arith)))
+    (λ z. absurd (omega arith))
+
+x-fits : (w : ℕ) → fits w (record { number = 0; unknown = marksOf (allUnknown w) }) ≡ true
+unfolding allUnknown marksOf
+x-fits w = fits-unknown w
+
+entry-fits : (w : ℕ) (word : List ℕ) → entryOf w word .error ≡ 0 → fits w (held (entryOf w word)) ≡ true
+unfolding entryOf quotedOf
+entry-fits w word =
+    pick-fits w (isX word) (entry 0 (marksOf (allUnknown w)) 0) _ (λ z. x-fits w)
+    (pick-fits w (isHex word) (fitted w (numberOf true (drop 2 word))) _ (fitted-fits w _)
+    (pick-fits w (isBits word) (sized w w (length word - 1) (bitsOf (drop 1 word))) _ (sized-fits w w _ _)
+    (pick-fits w (isSized word) (quoted w _ _ _) (fitted w (numberOf false (drop 0 word))) (quoted-fits w _ _ _) (fitted-fits w _))))
 
 module _ (line : List ℕ) (p w : ℕ) where
-  taken-fits : taken line p w .error ≡ 0 → taken line p w .unknown ≡ false → fits w (Known (taken line p w .number)) ≡ true
+  abbrev value : Taken → Value
+  value t = record { number = t .number; unknown = t .unknown }
+
+  taken-fits : taken line p w .error ≡ 0 → fits w (value (taken line p w)) ≡ true
   unfolding taken
-  taken-fits z u = by (ended line p) (eqb (getD line p 0) 44) refl refl z u
+  taken-fits z = by (ended line p) (eqb (getD line p 0) 44) refl refl z
     where
-      by : (s t : Bool) → ended line p ≡ s → eqb (getD line p 0) 44 ≡ t → taken line p w .error ≡ 0 → taken line p w .unknown ≡ false →
-          fits w (Known (taken line p w .number)) ≡ true
-      by true t d e z u = let g = rw d at z in absurd (omega arith)
-      by false true d e z u = let g = rw (d, e) at z in absurd (omega arith)
-      by false false d e z u = rw (d, e) (entry-fits w _ (rw (d, e) at z) (rw (d, e) at u))
-
--- ---- a slot
-
-module _ (ns : List ℕ) (xs : List Bool) (k w m : ℕ) (i : k < length ns) (j : k < length xs) where
-  slot-fits : (x : Bool) → (x ≡ false → fits w (Known m) ≡ true) → fits w (valueAt (set ns k m) (set xs k x) k) ≡ true
-  slot-fits true f =
-      rw (valueAt-unknown (set ns k m) (set xs k true) k (rw (length-set xs k true) j) (getD-set-same xs k true false j)) (fits-unknown w)
-  slot-fits false f =
-      rw (
-        valueAt-known (set ns k m) (set xs k false) k (rw (length-set ns k m) i) (rw (length-set xs k false) j)
-            (getD-set-same xs k false false j),
-        getD-set-same ns k m 0 i,
-      )
-      (f refl)
+      by : (s t : Bool) → ended line p ≡ s → eqb (getD line p 0) 44 ≡ t → taken line p w .error ≡ 0 → fits w (value (taken line p w)) ≡ true
+      by true t d e z = let g = rw d at z in absurd (omega arith)
+      by false true d e z = let g = rw (d, e) at z in absurd (omega arith)
+      by false false d e z = rw (d, e) (entry-fits w _ (rw (d, e) at z))
 
 -- ---- the values
 
 module _ (line widths : List ℕ) where
   -- The slots below k hold values that fit.
-  abbrev Fit : List ℕ → List Bool → ℕ → Type 0
+  abbrev Fit : List ℕ → List ℕ → ℕ → Type 0
   Fit ns xs k = (j : ℕ) → j < k → fits (getD widths j 0) (valueAt ns xs j) ≡ true
 
   abbrev Filled : ℕ → Line → Type 0
   Filled k r = Fit (r .value) (r .unknown) k × (r .count ≡ k)
 
   fit-more :
-      (ns : List ℕ) (xs : List Bool) (k m : ℕ) (x : Bool) → length ns ≡ 16 → length xs ≡ 16 → k < 16 →
-      (x ≡ false → fits (getD widths k 0) (Known m) ≡ true) → Fit ns xs k → Fit (set ns k m) (set xs k x) (k + 1)
+      (ns xs : List ℕ) (k m x : ℕ) → length ns ≡ 16 → length xs ≡ 16 → k < 16 →
+      fits (getD widths k 0) (record { number = m; unknown = x }) ≡ true → Fit ns xs k → Fit (set ns k m) (set xs k x) (k + 1)
+  unfolding numberIn marksOf
   fit-more ns xs k m x a b l f h =
       below-more (λ (j : ℕ). fits (getD widths j 0) (valueAt (set ns k m) (set xs k x) j) ≡ true) k
       (λ j i. rw (valueAt-set-other ns xs j k m x (λ e. omega arith)) (h j i))
-      (slot-fits ns xs k (getD widths k 0) m (omega arith) (omega arith) x f)
+      (rw (valueAt-set-same ns xs k (record { number = m; unknown = x }) (omega arith) (omega arith)) f)
 
   values-filled :
-      (n k at : ℕ) (ns : List ℕ) (xs : List Bool) → length ns ≡ 16 → length xs ≡ 16 → k + n ≤ 16 → Fit ns xs k →
+      (n k at : ℕ) (ns xs : List ℕ) → length ns ≡ 16 → length xs ≡ 16 → k + n ≤ 16 → Fit ns xs k →
       valuesFrom line widths n k at ns xs .error ≡ 0 → Filled (k + n) (valuesFrom line widths n k at ns xs)
   unfolding valuesFrom
   values-filled zero k at ns xs a b l h z = rw (add-zero k) (h, refl)
@@ -122,14 +140,14 @@ module _ (line widths : List ℕ) where
           rw (p, e)
           (r
           (fit-more ns xs k _ (taken line (cellAt line k at) (getD widths k 0) .unknown) a b (omega arith)
-          (λ u. taken-fits line (cellAt line k at) (getD widths k 0) c u) h)
+          (taken-fits line (cellAt line k at) (getD widths k 0) c) h)
           (rw p at z))
       by false p z r = absurd (eqb-false (taken line (cellAt line k at) (getD widths k 0) .error) 0 p (rw p at z))
 
   -- ---- THE LAW
 
-  none-fit : Fit (replicate 16 0) (replicate 16 false) 1
-  unfolding valueAt
+  none-fit : Fit (replicate 16 0) (replicate 16 0) 1
+  unfolding valueAt known
   none-fit zero l = fits-known (getD widths 0 0) 0 (pow-pos (getD widths 0 0))
   none-fit (suc j) l = absurd (omega arith)
 
@@ -145,5 +163,5 @@ module _ (line widths : List ℕ) where
           let e : 1 + (slots inputs - 1) ≡ slots inputs = omega arith in
           rw p
           (rw e at
-          (values-filled (slots inputs - 1) 1 (firstPlace line inputs (runEnd Blank line 0)) (replicate 16 0) (replicate 16 false) refl refl
+          (values-filled (slots inputs - 1) 1 (firstPlace line inputs (runEnd Blank line 0)) (replicate 16 0) (replicate 16 0) refl refl
           (omega arith) none-fit (rw p at z)))

@@ -7,15 +7,18 @@ use native.Mathlib.Omega.{arith}
 use borrow.Author.Tests.{ltb-true, ltb-false, lt-ltb, le-ltb, eq-eqb, ne-eqb, eqb-true}
 use lib.Dec.{ltb, eqb}
 use lib.ListN.{length, getD, set, drop, replicate, List·getD-eq-default}
-use Rattle.values.specs.declared.Value.the-variants.{Known}
-use Rattle.values.specs.Values.{pick, fits}
+use Rattle.values.specs.declared.Value.{Value}
+use Rattle.values.specs.Values.{pick, known, allUnknown, fits}
+use Rattle.values.specs.Planes.{numberOf as numberIn, marksOf}
 use Rattle.stimulus.specs.declared.Class.the-variants.{Blank, Word}
 use Rattle.stimulus.specs.declared.Number.{Number}
+use Rattle.stimulus.specs.declared.Bits.{Bits}
 use Rattle.stimulus.specs.declared.Entry.{Entry}
 use Rattle.stimulus.specs.declared.Taken.{Taken}
 use Rattle.stimulus.specs.Words.{runEnd, ended}
-use Rattle.stimulus.specs.Numbers.{numberOf, isX, isHex}
-use Rattle.stimulus.specs.Lines.{entry, fitted, entryOf, took, wordAt, cellAt, taken, slots, surplus, lineWith, valuesFrom, valuesOf, firstPlace, lineOf}
+use Rattle.stimulus.specs.Numbers.{numberOf, isX, isHex, isBits, isSized, bitsOf}
+use Rattle.stimulus.specs.Lines.{entry, admitted, fitted, cut, sized, quoted, quotedOf, entryOf, took, wordAt, cellAt, taken}
+use Rattle.stimulus.specs.Lines.{slots, surplus, lineWith, valuesFrom, valuesOf, firstPlace, lineOf}
 use Rattle.stimulus.proofs.Runs.{run-inside}
 
 -- ---- slots
@@ -28,38 +31,81 @@ slots-few inputs = by (ltb inputs 16) refl
     by true e = let h = ltb-true inputs 16 e in rw e (omega arith)
     by false e = rw e (omega arith)
 
--- ---- fitted, entryOf, by row
+-- ---- admitted, fitted, sized, quoted, entryOf, by row
+
+module _ (w : ℕ) (a : Value) where
+  pub admitted-wide : fits w a ≡ false → entry 3 0 0 ≡ admitted w a
+  unfolding admitted
+  admitted-wide f = rw f
+
+  pub admitted-is : fits w a ≡ true → entry 0 (marksOf a) (numberIn a) ≡ admitted w a
+  unfolding admitted
+  admitted-is f = rw f
 
 module _ (w : ℕ) (a : Number) where
-  pub fitted-bad : a .good ≡ false → entry 2 false 0 ≡ fitted w a
+  pub fitted-bad : a .good ≡ false → entry 2 0 0 ≡ fitted w a
   unfolding fitted
   fitted-bad e = rw e
 
   module _ (e : a .good ≡ true) where
-    pub fitted-long : 4294967296 ≤ a .n → entry 3 false 0 ≡ fitted w a
+    pub fitted-long : 4294967296 ≤ a .n → entry 3 0 0 ≡ fitted w a
     unfolding fitted
     fitted-long h = rw (e, le-ltb (a .n) 4294967296 h)
 
-    pub fitted-wide : a .n < 4294967296 → fits w (Known (a .n)) ≡ false → entry 3 false 0 ≡ fitted w a
+    pub fitted-is : a .n < 4294967296 → admitted w (known (a .n)) ≡ fitted w a
     unfolding fitted
-    fitted-wide h f = rw (e, lt-ltb (a .n) 4294967296 h, f)
+    fitted-is h = rw (e, lt-ltb (a .n) 4294967296 h)
 
-    pub fitted-is : a .n < 4294967296 → fits w (Known (a .n)) ≡ true → entry 0 false (a .n) ≡ fitted w a
-    unfolding fitted
-    fitted-is h f = rw (e, lt-ltb (a .n) 4294967296 h, f)
+module _ (w v k : ℕ) (a : Bits) where
+  pub sized-bad : a .good ≡ false → entry 2 0 0 ≡ sized w v k a
+  unfolding sized
+  sized-bad e = rw e
+
+  module _ (e : a .good ≡ true) where
+    pub sized-long : v < k → entry 3 0 0 ≡ sized w v k a
+    unfolding sized
+    sized-long h = rw (e, lt-ltb v k h)
+
+    pub sized-is : k ≤ v → admitted w (cut v a) ≡ sized w v k a
+    unfolding sized
+    sized-is h = rw (e, le-ltb v k h)
+
+module _ (w : ℕ) (v : Number) (k : ℕ) (a : Bits) where
+  pub quoted-bad : v .good ≡ false → entry 2 0 0 ≡ quoted w v k a
+  unfolding quoted
+  quoted-bad e = rw e
+
+  module _ (e : v .good ≡ true) where
+    pub quoted-wide : 33 ≤ v .n → entry 3 0 0 ≡ quoted w v k a
+    unfolding quoted
+    quoted-wide h = rw (e, le-ltb (v .n) 33 h)
+
+    pub quoted-is : v .n < 33 → sized w (v .n) k a ≡ quoted w v k a
+    unfolding quoted
+    quoted-is h = rw (e, lt-ltb (v .n) 33 h)
 
 module _ (w : ℕ) (word : List ℕ) where
-  pub entry-x : isX word ≡ true → entry 0 true 0 ≡ entryOf w word
+  pub entry-x : isX word ≡ true → entry 0 (marksOf (allUnknown w)) 0 ≡ entryOf w word
   unfolding entryOf
   entry-x e = rw e
 
-  pub entry-hex : isX word ≡ false → isHex word ≡ true → fitted w (numberOf true (drop 2 word)) ≡ entryOf w word
-  unfolding entryOf
-  entry-hex e f = rw (e, f)
+  module _ (e : isX word ≡ false) where
+    pub entry-hex : isHex word ≡ true → fitted w (numberOf true (drop 2 word)) ≡ entryOf w word
+    unfolding entryOf
+    entry-hex f = rw (e, f)
 
-  pub entry-decimal : isX word ≡ false → isHex word ≡ false → fitted w (numberOf false (drop 0 word)) ≡ entryOf w word
-  unfolding entryOf
-  entry-decimal e f = rw (e, f)
+    module _ (f : isHex word ≡ false) where
+      pub entry-bits : isBits word ≡ true → sized w w (length word - 1) (bitsOf (drop 1 word)) ≡ entryOf w word
+      unfolding entryOf
+      entry-bits g = rw (e, f, g)
+
+      pub entry-sized : isBits word ≡ false → isSized word ≡ true → quotedOf w word ≡ entryOf w word
+      unfolding entryOf
+      entry-sized g h = rw (e, f, g, h)
+
+      pub entry-decimal : isBits word ≡ false → isSized word ≡ false → fitted w (numberOf false (drop 0 word)) ≡ entryOf w word
+      unfolding entryOf
+      entry-decimal g h = rw (e, f, g, h)
 
 -- ---- cellAt
 
@@ -99,12 +145,12 @@ cell-inside line k at h = by (ltb k 2) (eqb (getD line (runEnd Blank line at) 0)
 -- ---- taken
 
 module _ (line : List ℕ) (p w : ℕ) where
-  pub taken-none : ended line p ≡ true → took p p (entry 4 false 0) ≡ taken line p w
+  pub taken-none : ended line p ≡ true → took p p (entry 4 0 0) ≡ taken line p w
   unfolding taken
   taken-none e = rw e
 
   module _ (e : ended line p ≡ false) where
-    pub taken-empty : getD line p 0 ≡ 44 → took p p (entry 6 false 0) ≡ taken line p w
+    pub taken-empty : getD line p 0 ≡ 44 → took p p (entry 6 0 0) ≡ taken line p w
     unfolding taken
     taken-empty f = rw (e, eq-eqb (getD line p 0) 44 f)
 
@@ -124,7 +170,7 @@ taken-inside line p w h = by (ended line p) (eqb (getD line p 0) 44) refl refl
 
 -- ---- valuesFrom
 
-module _ (line widths : List ℕ) (n k at : ℕ) (ns : List ℕ) (xs : List Bool) where
+module _ (line widths : List ℕ) (n k at : ℕ) (ns xs : List ℕ) where
   -- One value more is taken, or one that cannot be.
   module _ (t : Taken) (e : t ≡ taken line (cellAt line k at) (getD widths k 0)) (l : k < n) where
     pub values-turn :
@@ -150,7 +196,7 @@ module _ (line widths : List ℕ) (n k at : ℕ) (ns : List ℕ) (xs : List Bool
 
 module _ (line widths : List ℕ) (inputs p : ℕ) (r : p ≡ runEnd Blank line 0) where
   pub line-none :
-      ended line p ≡ true → lineWith 1 (p + 1) 1 (replicate 16 0) (replicate 16 false) ≡ lineOf line widths inputs
+      ended line p ≡ true → lineWith 1 (p + 1) 1 (replicate 16 0) (replicate 16 0) ≡ lineOf line widths inputs
   unfolding lineOf
   line-none e = rw (← r, e)
 

@@ -5,9 +5,13 @@ mod numbers;
 mod pieces;
 mod words;
 
+use numbers::bits_of;
+use numbers::is_bits;
 use numbers::is_hex;
+use numbers::is_sized;
 use numbers::is_x;
 pub use numbers::number_of;
+use numbers::quote_at;
 pub use pieces::find_line;
 pub use pieces::line_end;
 use values::Value;
@@ -16,10 +20,12 @@ use words::byte_at;
 use words::place;
 use words::run_end;
 ghost use mathlib.Core.Path.{_≡_};
-ghost use mathlib.Core.Bool.{false};
+ghost use mathlib.Core.Bool.{true};
 ghost use lib.ListN.{length};
 ghost use Prim.Native.Nat.{_+_, _<_, _≤_};
-ghost use Rattle.stimulus.specs.Lines.{entry, took, fitted, entryOf, cellAt, taken, slots, surplus, firstPlace, valuesOf, lineOf};
+ghost use Rattle.stimulus.specs.Numbers.{isSized};
+ghost use Rattle.stimulus.specs.Lines.{entry, took, admitted, fitted, cut, sized, quoted, quotedOf, entryOf};
+ghost use Rattle.stimulus.specs.Lines.{cellAt, taken, slots, surplus, firstPlace, valuesOf, lineOf};
 ghost use Rattle.stimulus.specs.Names.{nameOf};
 ghost use Rattle.stimulus.specs.Counting.{counted};
 
@@ -42,13 +48,13 @@ pub enum Waiting {
 // What a line of inputs holds. error: 0 a value for each input, 1 no cycle (blank, or a comment), 2 a value that is no number,
 // 3 one too wide for its input, 4 too few values, 5 too many, 6 an empty cell; column, from 1: of the value concerned, for 4 of the
 // line's end, for 6 of the comma.
-// Input k's value stands in slot k, the clock's slot 0 is 0; count: the slots that are filled, the clock's with them.
+// Input k's value stands in slot k, number and marks of unknown bits, the clock's slot 0 is 0; count: the slots that are filled, the clock's with them.
 pub struct Line {
     pub error: u8,
     pub column: usize,
     pub count: u8,
     pub value: [u32; 16],
-    pub unknown: [bool; 16],
+    pub unknown: [u32; 16],
 }
 
 // What a line of the names file holds. error: 0 a variable and its name, line[from..to]; 1 none (blank, or a comment); 2 no such
@@ -67,10 +73,17 @@ pub struct Number {
     pub n: u64,
 }
 
-// A word read as a value: the error, 0, 2 or 3; is it x; the number, 0 under x.
+// Binary digits that were read: was each 0, 1 or x; 32 bits of their number, and the marks of the x among them.
+pub struct Bits {
+    pub good: bool,
+    pub number: u32,
+    pub marks: u32,
+}
+
+// A word read as a value: the error, 0, 2 or 3; the marks of its unknown bits; the number, 0 under each mark.
 pub struct Entry {
     pub error: u8,
-    pub unknown: bool,
+    pub unknown: u32,
     pub number: u32,
 }
 
@@ -79,7 +92,7 @@ pub struct Taken {
     pub error: u8,
     pub column: usize,
     pub to: usize,
-    pub unknown: bool,
+    pub unknown: u32,
     pub number: u32,
 }
 
@@ -92,38 +105,93 @@ pub fn counted(n: usize) -> usize
 
 // ---- values
 
+// What is no value: error 2 or 3.
+fn faulty(error: u8) -> Entry
+    ensures { λ r. ⌜ r ≡ entry error 0 0 ⌝ }
+{
+    Entry {
+        error,
+        unknown: 0,
+        number: 0,
+    }
+}
+
+// A value as one of a width.
+fn admitted(width: u8, a: Value) -> Entry
+    ensures { λ r. ⌜ r ≡ admitted width a ⌝ }
+{
+    if !values::fits(width, a) {
+        return faulty(3);
+    }
+    Entry {
+        error: 0,
+        unknown: values::marks_of(a),
+        number: values::number_of(a),
+    }
+}
+
 // A number as a value of a width.
 fn fitted(width: u8, a: Number) -> Entry
     ensures { λ r. ⌜ r ≡ fitted width a ⌝ }
 {
     if !a.good {
-        return Entry {
-            error: 2,
-            unknown: false,
-            number: 0,
-        };
+        return faulty(2);
     }
     let n = a.n;
     if 4294967296 <= n {
-        return Entry {
-            error: 3,
-            unknown: false,
-            number: 0,
-        };
+        return faulty(3);
     }
-    let number = n as u32;
-    if !values::fits(width, Value::Known(number)) {
-        return Entry {
-            error: 3,
-            unknown: false,
-            number: 0,
-        };
+    admitted(width, values::known(n as u32))
+}
+
+// Digits as a value of so many bits.
+fn cut(size: u8, a: Bits) -> Value
+    ensures { λ r. ⌜ r ≡ cut size a ⌝ }
+{
+    let mask = values::marks_of(values::all_unknown(size));
+    Value {
+        number: a.number & mask,
+        unknown: a.marks & mask,
     }
-    Entry {
-        error: 0,
-        unknown: false,
-        number,
+}
+
+// So many digits as a value of `size` bits, for an input of a width.
+fn sized(width: u8, size: u8, count: usize, a: Bits) -> Entry
+    ensures { λ r. ⌜ r ≡ sized width size count a ⌝ }
+{
+    if !a.good {
+        return faulty(2);
     }
+    if (size as usize) < count {
+        return faulty(3);
+    }
+    admitted(width, cut(size, a))
+}
+
+// So many digits behind a width and a quote.
+fn quoted(width: u8, size: Number, count: usize, a: Bits) -> Entry
+    ensures { λ r. ⌜ r ≡ quoted width size count a ⌝ }
+{
+    if !size.good {
+        return faulty(2);
+    }
+    let n = size.n;
+    if 33 <= n {
+        return faulty(3);
+    }
+    sized(width, n as u8, count, a)
+}
+
+// A word with a quote as a value of a width.
+fn quoted_of(width: u8, word: &[u8]) -> Entry
+    requires { ⌜ isSized (now word) ≡ true ⌝ }
+    ensures { λ r. ⌜ r ≡ quotedOf width (now (word .entry)) ⌝ }
+{
+    let q = quote_at(word);
+    let front = &word[0..q];
+    let size = number_of(false, front, 0);
+    let a = bits_of(word, q + 2);
+    quoted(width, size, word.len() - (q + 2), a)
 }
 
 // A word as a value of a width.
@@ -133,13 +201,20 @@ fn entry_of(width: u8, word: &[u8]) -> Entry
     if is_x(word) {
         return Entry {
             error: 0,
-            unknown: true,
+            unknown: values::marks_of(values::all_unknown(width)),
             number: 0,
         };
     }
     if is_hex(word) {
         let a = number_of(true, word, 2);
         return fitted(width, a);
+    }
+    if is_bits(word) {
+        let a = bits_of(word, 1);
+        return sized(width, width, word.len() - 1, a);
+    }
+    if is_sized(word) {
+        return quoted_of(width, word);
     }
     let a = number_of(false, word, 0);
     fitted(width, a)
@@ -163,13 +238,13 @@ fn cell_at(line: &[u8], k: u8, at: usize) -> usize
 // No value at a place.
 fn no_value(error: u8, p: usize) -> Taken
     requires { ⌜ p + 1 < 18446744073709551616 ⌝ }
-    ensures { λ r. ⌜ r ≡ took p p (entry error false 0) ⌝ }
+    ensures { λ r. ⌜ r ≡ took p p (entry error 0 0) ⌝ }
 {
     Taken {
         error,
         column: p + 1,
         to: p,
-        unknown: false,
+        unknown: 0,
         number: 0,
     }
 }
@@ -220,7 +295,7 @@ fn read_values(line: &[u8], widths: &[u8], inputs: u8, from: usize) -> Line
 {
     let n = slots(inputs);
     let mut value = [0u32; 16];
-    let mut unknown = [false; 16];
+    let mut unknown = [0u32; 16];
     let mut at = from;
     let mut k: u8 = 1;
     while k < n {
@@ -282,7 +357,7 @@ pub fn parse(line: &[u8], widths: &[u8], inputs: u8) -> Line
             column: p + 1,
             count: 1,
             value: [0u32; 16],
-            unknown: [false; 16],
+            unknown: [0u32; 16],
         };
     }
     let from = first_place(line, inputs, p);

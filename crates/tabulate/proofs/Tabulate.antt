@@ -2,21 +2,20 @@
 -- Assumes nothing.
 use mathlib.Core.Path.{_≡_, refl, sym, ap, _∙_}
 use mathlib.Core.Logic.{_≢_}
-use mathlib.Core.Bool.{Bool, true, false}
+use mathlib.Core.Bool.{Bool, true, false, _||_}
 use mathlib.Core.List.{List, [], _∷_, _++_}
-use Prim.Native.Nat.{ℕ, zero, suc, _+_, _-_, _*_, _/_, _%_, _^_, _≤_, _<_}
-use native.Mathlib.Nat.{one-mul}
+use Prim.Native.Nat.{ℕ, zero, suc, _+_, _-_, _/_, _%_, _^_, _≤_, _<_}
+use native.Mathlib.Nat.{pow-suc}
 use native.Mathlib.Numerals.{add-one}
 use native.Mathlib.Omega.{arith}
-use borrow.Author.Tests.{lt-ltb, le-ltb, ltb-true, ltb-false}
-use lib.Dec.{ltb, eqb, lit<}
+use borrow.Author.Tests.{lt-ltb, le-ltb, ltb-true, ltb-false, eqb-false}
+use lib.Dec.{ltb, eqb}
 use lib.ListN.{length, getD, drop, replicate, length-append, length-replicate, drop-of-length-le}
-use lib.Pow.{shl-exact}
 use lib.Seq.{drop-cons}
 use Rattle.values.specs.declared.Value.{Value}
-use Rattle.values.specs.declared.Value.the-variants.{Known, Unknown}
-use Rattle.values.specs.Values.{pick, fits}
-use Rattle.values.proofs.Values.{fits→<}
+use Rattle.values.specs.Values.{pick, ones, allUnknown, fits}
+use Rattle.values.specs.Planes.{numberOf, marksOf}
+use Rattle.values.proofs.Values.{fits-is}
 use Rattle.writing.specs.Ascii.{ascii, byte}
 use Rattle.writing.specs.Numbers.{digit, digits, decimal}
 use Rattle.writing.specs.Buffer.{Text, puts}
@@ -24,22 +23,10 @@ use Rattle.writing.proofs.Buffer.{puts-nil, puts-append}
 use Rattle.writing.proofs.Numbers.{decimal-less, decimal-more}
 use Rattle.naming.specs.Naming.{nameOf}
 use Rattle.tabulate.specs.declared.Form.{Form}
-use Rattle.tabulate.specs.Tabulate.{figure, figures, figured, shown, shownIn, largest, longer, places, columnWidth}
+use Rattle.binary_text.specs.BinaryText.{bits, bitsOf, isKnown, isX}
+use Rattle.binary_text.proofs.BinaryText.{length-bits, length-bits-of}
+use Rattle.tabulate.specs.Tabulate.{figure, figures, numbered, lead, shown, longer, places, columnWidth}
 use Rattle.tabulate.specs.Tabulate.{gap, cell, title, entry, columns}
-
--- ---- largest
-
--- 2 ^ w as the code has it: 1 shifted left by w, in 64 bits
-pub shifted : (w : ℕ) → w < 32 → 1 * 2 ^ w % 2 ^ 64 ≡ 2 ^ w
-shifted w h = shl-exact 1 w 64 (lit< tt) (omega arith) ∙ one-mul (2 ^ w)
-
-pub largest-less : (w : ℕ) → w < 32 → largest w ≡ 2 ^ w - 1
-unfolding largest
-largest-less w h = rw (lt-ltb w 32 h)
-
-pub largest-all : (w : ℕ) → 32 ≤ w → largest w ≡ 4294967295
-unfolding largest
-largest-all w h = rw (le-ltb w 32 h)
 
 -- ---- longer
 
@@ -50,6 +37,18 @@ longer-second a b h = rw (lt-ltb a b h)
 pub longer-first : (a b : ℕ) → b ≤ a → longer a b ≡ a
 unfolding longer
 longer-first a b h = rw (le-ltb a b h)
+
+longer-≥ : (a b : ℕ) → (a ≤ longer a b) × (b ≤ longer a b)
+unfolding longer
+longer-≥ a b = by (ltb a b) refl
+  where
+    by : (x : Bool) → ltb a b ≡ x → (a ≤ pick x b a) × (b ≤ pick x b a)
+    by true q = let h = ltb-true a b q in (omega arith, omega arith)
+    by false q = let h = ltb-false a b q in (omega arith, omega arith)
+
+longer-suc : (v : ℕ) → longer 1 (suc v) ≡ suc v
+longer-suc zero = longer-first 1 1 (omega arith)
+longer-suc (suc v) = longer-second 1 (suc (suc v)) (omega arith)
 
 -- ---- how many digits
 
@@ -79,7 +78,6 @@ digits-some f n = by (ltb n 10)
     by true = omega arith
     by false = rw length-append (omega arith)
 
--- A larger number has no fewer digits.
 digits-mono : (f m n : ℕ) → m ≤ n → length (digits f m) ≤ length (digits f n)
 digits-mono zero m n h = omega (arith, digits-none m)
 digits-mono (suc f) m n h = by (ltb m 10) refl (ltb n 10) refl (digits-mono f (m / 10) (n / 10) (omega arith))
@@ -107,24 +105,24 @@ decimal-some n = digits-some 19 n
 
 -- ---- figures
 
-module _ (base k n : ℕ) where
-  pub figures-none : k ≡ 0 → figures base k n ≡ []
+module _ (k n : ℕ) where
+  pub figures-none : k ≡ 0 → figures k n ≡ []
   unfolding figures
   figures-none e = rw e refl
 
-  pub figures-more : k ≢ 0 → figures base k n ≡ figures base (k - 1) (n / base) ++ (figure (n % base) ∷ [])
+  pub figures-more : k ≢ 0 → figures k n ≡ figures (k - 1) (n / 16) ++ (figure (n % 16) ∷ [])
   unfolding figures
   figures-more h = by k refl
     where
-      by : (j : ℕ) → k ≡ j → figures base j n ≡ figures base (j - 1) (n / base) ++ (figure (n % base) ∷ [])
+      by : (j : ℕ) → k ≡ j → figures j n ≡ figures (j - 1) (n / 16) ++ (figure (n % 16) ∷ [])
       by zero e = absurd (h e)
       by (suc j) e = let z : suc j - 1 ≡ j = omega arith in rw z refl
 
-pub length-figures : (base k n : ℕ) → length (figures base k n) ≡ k
+pub length-figures : (k n : ℕ) → length (figures k n) ≡ k
 unfolding figures
-length-figures base zero n = refl
-length-figures base (suc k) n =
-    length-append (figures base k (n / base)) (figure (n % base) ∷ []) ∙ rw (length-figures base k (n / base)) (omega arith)
+length-figures zero n = refl
+length-figures (suc k) n =
+    length-append (figures k (n / 16)) (figure (n % 16) ∷ []) ∙ rw (length-figures k (n / 16)) (omega arith)
 
 pub figure-digit : (n : ℕ) → n < 10 → figure n ≡ 48 + n
 unfolding figure
@@ -158,54 +156,61 @@ length-cell n t h =
 
 -- ---- columnWidth: no name and no value that fits is longer
 
-longer-≥ : (a b : ℕ) → (a ≤ longer a b) × (b ≤ longer a b)
-unfolding longer
-longer-≥ a b = by (ltb a b) refl
-  where
-    by : (x : Bool) → ltb a b ≡ x → (a ≤ pick x b a) × (b ≤ pick x b a)
-    by true q = let h = ltb-true a b q in (omega arith, omega arith)
-    by false q = let h = ltb-false a b q in (omega arith, omega arith)
-
 pub name-fits : (base : ℕ) (widths names : List ℕ) (v : ℕ) → length (nameOf names v) ≤ columnWidth base widths names v
 unfolding columnWidth
 name-fits base widths names v = longer-≥ (length (nameOf names v)) (places base (getD widths v 0)) .0
 
-below-largest : (w n : ℕ) → w ≤ 32 → n < 2 ^ w → n ≤ largest w
-below-largest w n h l = by (ltb w 32) refl
+below-ones : (w n : ℕ) → w ≤ 32 → n < 2 ^ w → n ≤ ones w
+unfolding ones
+below-ones w n h l = by (ltb w 32) refl
   where
-    by : (x : Bool) → ltb w 32 ≡ x → n ≤ largest w
-    by true q = rw (largest-less w (ltb-true w 32 q)) (omega arith)
+    by : (x : Bool) → ltb w 32 ≡ x → n ≤ pick x (2 ^ w - 1) (2 ^ 32 - 1)
+    by true q = omega arith
     by false q =
         let k = ltb-false w 32 q in
         let e : w ≡ 32 = omega arith in
-        rw (largest-all w k) (let g = rw e at l in omega (arith, g))
+        let g = rw e at l in
+        omega (arith, g)
 
-decimal-fits : (w : ℕ) (a : Value) → w ≤ 32 → fits w a ≡ true → length (shown a) ≤ length (decimal (largest w))
-unfolding shown
-decimal-fits w (Known n) h f = decimal-mono n (largest w) (below-largest w n h (fits→< w n f))
-decimal-fits w Unknown h f = decimal-some (largest w)
-
-figured-fits : (base k : ℕ) (a : Value) → length (figured base k a) ≤ longer 1 k
-unfolding figured
-figured-fits base k (Known n) = omega (arith, length-figures base k n, longer-≥ 1 k .1)
-figured-fits base k Unknown = longer-≥ 1 k .0
-
-shown-fits : (base w : ℕ) (a : Value) → w ≤ 32 → fits w a ≡ true → length (shownIn base w a) ≤ places base w
-unfolding shownIn places
-shown-fits base w a h f = by (eqb base 16) (eqb base 2)
+-- A number that fits.
+numbered-fits : (base w n : ℕ) → w ≤ 32 → n < 2 ^ w → length (numbered base w n) ≤ places base w
+unfolding numbered places
+numbered-fits base w n h l = by (eqb base 16) (eqb base 2)
   where
-    by : (x y : Bool)
-        → length (pick x (figured 16 ((w + 3) / 4) a) (pick y (figured 2 w a) (shown a)))
-        ≤ pick x (longer 1 ((w + 3) / 4)) (pick y (longer 1 w) (length (decimal (largest w))))
-    by true y = figured-fits 16 ((w + 3) / 4) a
-    by false true = figured-fits 2 w a
-    by false false = decimal-fits w a h f
+    by : (x y : Bool) → length (pick x (figures ((w + 3) / 4) n) (pick y (bits w n 0) (decimal n)))
+        ≤ pick x (longer 1 ((w + 3) / 4)) (pick y (longer 1 w) (length (decimal (ones w))))
+    by true y = omega (arith, length-figures ((w + 3) / 4) n, longer-≥ 1 ((w + 3) / 4) .1)
+    by false true = omega (arith, length-bits w n 0, longer-≥ 1 w .1)
+    by false false = decimal-mono n (ones w) (below-ones w n h l)
+
+places-some : (base w : ℕ) → 1 ≤ places base w
+unfolding places
+places-some base w = by (eqb base 16) (eqb base 2)
+  where
+    by : (x y : Bool) → 1 ≤ pick x (longer 1 ((w + 3) / 4)) (pick y (longer 1 w) (length (decimal (ones w))))
+    by true y = longer-≥ 1 ((w + 3) / 4) .0
+    by false true = longer-≥ 1 w .0
+    by false false = decimal-some (ones w)
+
+-- Known as a whole, or unknown as a whole.
+abbrev pub Whole : ℕ → Value → Type 0
+Whole w a = (isKnown a || isX w a) ≡ true
+
+shown-fits : (base w : ℕ) (a : Value) → w ≤ 32 → fits w a ≡ true → Whole w a → length (shown base w a) ≤ places base w
+unfolding shown numberOf
+shown-fits base w a h f e = by (isKnown a) (isX w a) e
+  where
+    by : (x y : Bool) → (x || y) ≡ true
+        → length (pick x (numbered base w (a .number)) (pick y (byte "x" ∷ []) (lead base ++ bitsOf w a))) ≤ places base w
+    by true y e = numbered-fits base w (a .number) h (fits-is {w = w} {a = a} f .number)
+    by false true e = places-some base w
+    by false false e = let z : _≡_ {A = ℕ} 0 1 = cc e in absurd (omega arith)
 
 pub value-fits : (base : ℕ) (widths names : List ℕ) (a : Value) (v : ℕ) → getD widths v 0 ≤ 32 → fits (getD widths v 0) a ≡ true
-    → length (shownIn base (getD widths v 0) a) ≤ columnWidth base widths names v
+    → Whole (getD widths v 0) a → length (shown base (getD widths v 0) a) ≤ columnWidth base widths names v
 unfolding columnWidth
-value-fits base widths names a v h f =
-    let l = shown-fits base (getD widths v 0) a h f in
+value-fits base widths names a v h f e =
+    let l = shown-fits base (getD widths v 0) a h f e in
     let k = longer-≥ (length (nameOf names v)) (places base (getD widths v 0)) .1 in
     omega arith
 
@@ -217,14 +222,15 @@ length-columns f g [] same = refl
 length-columns f g (v ∷ vs) same =
     length-append (f v) (columns f vs) ∙ rw (same v, length-columns f g vs same) (sym (length-append (g v) (columns g vs)))
 
--- In a table without commas the values that fit are as long as the titles: every column stands under its title, in every base.
+-- In a table without commas values that are known or unknown as a whole are as long as the titles: every column stands under its title,
+-- in every base.
 pub columns-align : (form : Form) (widths names : List ℕ) (new : ℕ → Value) (vs : List ℕ) → form .csv ≡ false
-    → ((v : ℕ) → getD widths v 0 ≤ 32) → ((v : ℕ) → fits (getD widths v 0) (new v) ≡ true)
+    → ((v : ℕ) → getD widths v 0 ≤ 32) → ((v : ℕ) → fits (getD widths v 0) (new v) ≡ true) → ((v : ℕ) → Whole (getD widths v 0) (new v))
     → length (columns (entry form widths names new) vs) ≡ length (columns (title form widths names) vs)
 unfolding title entry
-columns-align form widths names new vs plain narrow fit =
-    length-columns (λ v. cell (form .csv) (columnWidth (form .base) widths names v) (shownIn (form .base) (getD widths v 0) (new v)))
+columns-align form widths names new vs plain most fit whole =
+    length-columns (λ v. cell (form .csv) (columnWidth (form .base) widths names v) (shown (form .base) (getD widths v 0) (new v)))
     (λ v. cell (form .csv) (columnWidth (form .base) widths names v) (nameOf names v)) vs
-    (λ v. rw plain (length-cell (columnWidth (form .base) widths names v) (shownIn (form .base) (getD widths v 0) (new v))
-    (value-fits (form .base) widths names (new v) v (narrow v) (fit v))
+    (λ v. rw plain (length-cell (columnWidth (form .base) widths names v) (shown (form .base) (getD widths v 0) (new v))
+    (value-fits (form .base) widths names (new v) v (most v) (fit v) (whole v))
     ∙ sym (length-cell (columnWidth (form .base) widths names v) (nameOf names v) (name-fits (form .base) widths names v))))

@@ -1,50 +1,48 @@
 -- A run as a table of text: a line a cycle, a column a variable. The columns are right-aligned with two blanks before each, or stand
 -- behind commas.
-use Prim.Native.Nat.{ℕ, zero, suc, _+_, _-_, _/_, _%_, _^_}
+use Prim.Native.Nat.{ℕ, zero, suc, _+_, _-_, _/_, _%_}
 use mathlib.Core.Bool.{Bool, true, false}
 use mathlib.Core.List.{List, [], _∷_, _++_}
 use lib.ListN.{length, getD, replicate}
 use lib.Dec.{ltb, eqb}
 use Rattle.values.specs.declared.Value.{Value}
-use Rattle.values.specs.declared.Value.the-variants.{Known, Unknown}
-use Rattle.values.specs.Values.{pick, _is_then_else_}
+use Rattle.values.specs.Values.{pick, _is_then_else_, ones}
+use Rattle.values.specs.Planes.{numberOf}
 use Rattle.writing.specs.Ascii.{ascii, byte}
 use Rattle.writing.specs.Numbers.{decimal}
 use Rattle.naming.specs.Naming.{nameOf}
+use Rattle.binary_text.specs.BinaryText.{bits, bitsOf, isKnown, isX}
 use Rattle.tabulate.specs.declared.Form.{Form}
 
--- ---- shown: a number in decimal, x as x
-
-unfoldable pub shown : Value → List ℕ
-shown (Known n) = decimal n
-shown Unknown = byte "x" ∷ []
-
--- ---- shownIn: in base 16 and in base 2 all figures of a variable of so many bits, zeros in front; else in decimal
+-- ---- numbered: a number; in base 16 and in base 2 with all figures of so many bits, zeros in front, else in decimal
 
 -- 0 to 9, a to f.
 unfoldable pub figure : ℕ → ℕ
 figure n = pick (ltb n 10) (byte "0" + n) (87 + n)
 
--- The last k figures of a number.
-unfoldable pub figures : ℕ → ℕ → ℕ → List ℕ
-figures base zero n = []
-figures base (suc k) n = figures base k (n / base) ++ (figure (n % base) ∷ [])
+-- The last k figures of a number in base 16.
+unfoldable pub figures : ℕ → ℕ → List ℕ
+figures zero n = []
+figures (suc k) n = figures k (n / 16) ++ (figure (n % 16) ∷ [])
 
-unfoldable pub figured : ℕ → ℕ → Value → List ℕ
-figured base k (Known n) = figures base k n
-figured base k Unknown = byte "x" ∷ []
+unfoldable pub numbered : ℕ → ℕ → ℕ → List ℕ
+numbered base w n =
+    base is 16 then figures ((w + 3) / 4) n else
+    base is 2 then bits w n 0 else
+    decimal n
 
-unfoldable pub shownIn : ℕ → ℕ → Value → List ℕ
-shownIn base w a =
-    base is 16 then figured 16 ((w + 3) / 4) a else
-    base is 2 then figured 2 w a else
-    shown a
+-- ---- shown: a value of w bits: its number where it is known, x where no bit is, else its bits, in base 10 and 16 behind a b
 
--- ---- columnWidth: the longer of the name and the largest value that fits; x takes one place
+unfoldable pub lead : ℕ → List ℕ
+lead base = base is 2 then [] else (byte "b" ∷ [])
 
--- The largest number of a width; widths end at 32.
-unfoldable pub largest : ℕ → ℕ
-largest w = pick (ltb w 32) (2 ^ w - 1) (2 ^ 32 - 1)
+unfoldable pub shown : ℕ → ℕ → Value → List ℕ
+shown base w a =
+    pick (isKnown a) (numbered base w (numberOf a))
+    (pick (isX w a) (byte "x" ∷ []) (lead base ++ bitsOf w a))
+
+-- ---- columnWidth: the longer of the name and the largest number that fits; x takes one place. A value with some unknown bits is rare
+-- and can take more: then it stands as it is.
 
 unfoldable pub longer : ℕ → ℕ → ℕ
 longer a b = pick (ltb a b) b a
@@ -53,7 +51,7 @@ unfoldable pub places : ℕ → ℕ → ℕ
 places base w =
     base is 16 then longer 1 ((w + 3) / 4) else
     base is 2 then longer 1 w else
-    length (decimal (largest w))
+    length (decimal (ones w))
 
 unfoldable pub columnWidth : ℕ → List ℕ → List ℕ → ℕ → ℕ
 columnWidth base widths names v = longer (length (nameOf names v)) (places base (getD widths v 0))
@@ -85,7 +83,7 @@ title form widths names v = cell (form .csv) (columnWidth (form .base) widths na
 
 unfoldable pub entry : Form → List ℕ → List ℕ → (ℕ → Value) → ℕ → List ℕ
 entry form widths names new v =
-    cell (form .csv) (columnWidth (form .base) widths names v) (shownIn (form .base) (getD widths v 0) (new v))
+    cell (form .csv) (columnWidth (form .base) widths names v) (shown (form .base) (getD widths v 0) (new v))
 
 unfoldable pub columns : (ℕ → List ℕ) → List ℕ → List ℕ
 columns column [] = []

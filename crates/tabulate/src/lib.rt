@@ -1,4 +1,7 @@
 // A run as a table of text, put into a lent buffer line by line: titles, cycles and values.
+use binary_text::is_known;
+use binary_text::is_x;
+use binary_text::put_bits;
 use sheet::byte_at;
 use trace_row::value_in;
 use values::Value;
@@ -7,12 +10,12 @@ use writing::put_decimal;
 use writing::put_many;
 use writing::put_word;
 ghost use mathlib.Core.Path.{_≡_};
-ghost use Prim.Native.Nat.{_-_, _<_, _≤_};
+ghost use Prim.Native.Nat.{_-_, _<_};
 ghost use lib.ListN.{length, getD};
-ghost use Rattle.cells.specs.Cells.{cellAt};
+ghost use Rattle.values.specs.Cells.{cellAt};
 ghost use Rattle.writing.specs.Numbers.{decimal};
 ghost use Rattle.writing.specs.Buffer.{filled, puts};
-ghost use Rattle.tabulate.specs.Tabulate.{shown, figure, figures, figured, shownIn, largest, longer, places, columnWidth};
+ghost use Rattle.tabulate.specs.Tabulate.{figure, figures, numbered, lead, shown, longer, places, columnWidth};
 ghost use Rattle.tabulate.specs.Tabulate.{gap, cell, cycleTitle, cycleCell, title, entry, columns, headLine, line, isChosen};
 
 // How a table is written: the base of its numbers (16, 2, else 10), and commas in place of columns.
@@ -50,17 +53,6 @@ fn digit_count(n: usize) -> usize
     count
 }
 
-// The largest number of a width.
-fn largest(width: u8) -> usize
-    ensures { λ r. ⌜ r ≡ largest width ⌝ }
-{
-    if width < 32 {
-        (1usize << width) - 1
-    } else {
-        4294967295
-    }
-}
-
 // The longer of two lengths.
 fn longer(a: usize, b: usize) -> usize
     ensures { λ r. ⌜ r ≡ longer a b ⌝ }
@@ -78,7 +70,8 @@ fn places(base: u8, width: u8) -> usize
     if base == 2 {
         return longer(1, width as usize);
     }
-    digit_count(largest(width))
+    let all = values::all_unknown(width);
+    digit_count(values::marks_of(all) as usize)
 }
 
 // The width of a variable's column.
@@ -100,83 +93,86 @@ fn figure(n: u8) -> u8
     if n < 10 { 48 + n } else { 87 + n }
 }
 
-// The last so many figures of a number, in base 16 or 2.
-fn put_figures(base: u32, count: usize, n: u32, text: &mut [u8; 65536], pos: usize) -> usize
-    requires { ⌜ (2 ≤ base) × (base ≤ 16) ⌝ }
-    ensures { λ r. ⌜ filled (now (text .exit)) r ≡ puts (filled (now (text .entry)) pos) (figures base count n) ⌝ }
+// The last so many figures of a number, in base 16.
+fn put_figures(count: usize, n: u32, text: &mut [u8; 65536], pos: usize) -> usize
+    ensures { λ r. ⌜ filled (now (text .exit)) r ≡ puts (filled (now (text .entry)) pos) (figures count n) ⌝ }
 {
     if count == 0 {
         return pos;
     }
-    let p = put_figures(base, count - 1, n / base, text, pos);
-    put_byte(figure((n % base) as u8), text, p)
+    let p = put_figures(count - 1, n / 16, text, pos);
+    put_byte(figure((n % 16) as u8), text, p)
 }
 
-// A value by so many figures.
-fn put_figured(base: u32, count: usize, a: Value, text: &mut [u8; 65536], pos: usize) -> usize
-    requires { ⌜ (2 ≤ base) × (base ≤ 16) ⌝ }
-    ensures { λ r. ⌜ filled (now (text .exit)) r ≡ puts (filled (now (text .entry)) pos) (figured base count a) ⌝ }
-{
-    match a {
-        Value::Known(n) => put_figures(base, count, n, text, pos),
-        Value::Unknown => put_byte(b'x', text, pos),
-    }
-}
-
-// A value in decimal.
-pub fn put_shown(a: Value, text: &mut [u8; 65536], pos: usize) -> usize
-    ensures { λ r. ⌜ filled (now (text .exit)) r ≡ puts (filled (now (text .entry)) pos) (shown a) ⌝ }
-{
-    match a {
-        Value::Known(n) => put_decimal(n as usize, text, pos),
-        Value::Unknown => put_byte(b'x', text, pos),
-    }
-}
-
-// A value in a base.
-fn put_value(base: u8, width: u8, a: Value, text: &mut [u8; 65536], pos: usize) -> usize
-    ensures { λ r. ⌜ filled (now (text .exit)) r ≡ puts (filled (now (text .entry)) pos) (shownIn base width a) ⌝ }
+// A number of so many bits.
+fn put_number(base: u8, width: u8, n: u32, text: &mut [u8; 65536], pos: usize) -> usize
+    ensures { λ r. ⌜ filled (now (text .exit)) r ≡ puts (filled (now (text .entry)) pos) (numbered base width n) ⌝ }
 {
     if base == 16 {
-        return put_figured(16, (width as usize + 3) / 4, a, text, pos);
+        return put_figures((width as usize + 3) / 4, n, text, pos);
     }
     if base == 2 {
-        return put_figured(2, width as usize, a, text, pos);
+        return put_bits(width, n, 0, text, pos);
     }
-    put_shown(a, text, pos)
+    put_decimal(n as usize, text, pos)
 }
 
-// How long a value is in decimal.
-fn shown_length(a: Value) -> usize
-    ensures { λ r. ⌜ r ≡ length (shown a) ⌝ }
+// What stands in front of bits.
+fn put_lead(base: u8, text: &mut [u8; 65536], pos: usize) -> usize
+    ensures { λ r. ⌜ filled (now (text .exit)) r ≡ puts (filled (now (text .entry)) pos) (lead base) ⌝ }
 {
-    match a {
-        Value::Known(n) => digit_count(n as usize),
-        Value::Unknown => 1,
+    if base == 2 {
+        return pos;
     }
+    put_byte(b'b', text, pos)
 }
 
-// How long a value of so many figures is.
-fn figured_length(base: u8, count: usize, a: Value) -> usize
-    ensures { λ r. ⌜ r ≡ length (figured base count a) ⌝ }
+// A value of so many bits.
+pub fn put_shown(base: u8, width: u8, a: Value, text: &mut [u8; 65536], pos: usize) -> usize
+    ensures { λ r. ⌜ filled (now (text .exit)) r ≡ puts (filled (now (text .entry)) pos) (shown base width a) ⌝ }
 {
-    match a {
-        Value::Known(_) => count,
-        Value::Unknown => 1,
+    if is_known(a) {
+        return put_number(base, width, values::number_of(a), text, pos);
     }
+    if is_x(width, a) {
+        return put_byte(b'x', text, pos);
+    }
+    let p = put_lead(base, text, pos);
+    binary_text::put_value(width, a, text, p)
 }
 
-// How long a value is in a base.
-fn value_length(base: u8, width: u8, a: Value) -> usize
-    ensures { λ r. ⌜ r ≡ length (shownIn base width a) ⌝ }
+// How long a number of so many bits is.
+fn number_length(base: u8, width: u8, n: u32) -> usize
+    ensures { λ r. ⌜ r ≡ length (numbered base width n) ⌝ }
 {
     if base == 16 {
-        return figured_length(16, (width as usize + 3) / 4, a);
+        return (width as usize + 3) / 4;
     }
     if base == 2 {
-        return figured_length(2, width as usize, a);
+        return wide(width);
     }
-    shown_length(a)
+    digit_count(n as usize)
+}
+
+// How long it is what stands in front of bits.
+fn lead_length(base: u8) -> usize
+    ensures { λ r. ⌜ r ≡ length (lead base) ⌝ }
+    ensures { λ r. ⌜ r < 2 ⌝ }
+{
+    if base == 2 { 0 } else { 1 }
+}
+
+// How long a value of so many bits is.
+fn shown_length(base: u8, width: u8, a: Value) -> usize
+    ensures { λ r. ⌜ r ≡ length (shown base width a) ⌝ }
+{
+    if is_known(a) {
+        return number_length(base, width, values::number_of(a));
+    }
+    if is_x(width, a) {
+        return 1;
+    }
+    lead_length(base) + wide(width)
 }
 
 // ---- cells
@@ -222,13 +218,13 @@ fn put_entry(
 ) -> usize
     ensures { λ r. ⌜ filled (now (text .exit)) r ≡ puts (filled (now (text .entry)) pos)
         (cell (form .csv) (columnWidth (form .base) (now (widths .entry)) (now (names .entry)) v)
-        (shownIn (form .base) (getD (now (widths .entry)) v 0) a)) ⌝ }
+        (shown (form .base) (getD (now (widths .entry)) v 0) a)) ⌝ }
 {
     let width = column_width(form.base, widths, names, v);
     let bits = byte_at(widths, v);
-    let n = value_length(form.base, bits, a);
+    let n = shown_length(form.base, bits, a);
     let p = put_gap(form.csv, width, n, text, pos);
-    put_value(form.base, bits, a, text, p)
+    put_shown(form.base, bits, a, text, p)
 }
 
 // ---- lines

@@ -1,5 +1,5 @@
 -- A row of a trace has 88 words: the cells of the 80 variables, in the sheet's numbering, and behind them the places of the eight
--- threads. A word past a row's end counts as 0: a variable there has the number 0 (`cellAt` of cells), a thread there place 0.
+-- threads. A word past a row's end counts as 0: a variable there has the number 0 (`cellAt` of values), a thread there place 0.
 use mathlib.Core.List.{List}
 use Prim.Native.Nat.{ℕ, _+_, _*_}
 use lib.ListN.{getD, take, drop}

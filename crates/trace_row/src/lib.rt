@@ -3,7 +3,7 @@
 use values::Value;
 ghost use mathlib.Core.Path.{_≡_};
 ghost use lib.ListN.{getD};
-ghost use Rattle.cells.specs.Cells.{cellAt};
+ghost use Rattle.values.specs.Cells.{cellAt};
 ghost use Rattle.trace_row.specs.TraceRow.{placeIn, rowOf};
 
 // The word at a place of a row, past its end 0.
@@ -17,7 +17,7 @@ fn word_at(row: &[u64], i: usize) -> u64
 pub fn value_in(row: &[u64], v: usize) -> Value
     ensures { λ r. ⌜ r ≡ cellAt (now (row .entry)) v ⌝ }
 {
-    cells::load(word_at(row, v))
+    values::load(word_at(row, v))
 }
 
 // The place of a thread.

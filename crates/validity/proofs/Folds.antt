@@ -8,7 +8,7 @@ use native.Mathlib.Omega.{arith}
 use lib.ListN.{length, getD, length-append, List·getD-append}
 use lib.Seq.{getD-append-seam}
 use Rattle.values.specs.declared.Value.{Value}
-use Rattle.values.specs.declared.Value.the-variants.{Unknown}
+use Rattle.values.specs.Values.{nowhere}
 use Rattle.sheet.specs.Expression.{Expr}
 use Rattle.sheet.specs.Module.{Module}
 use Rattle.nextstate.specs.Nodes.{Node, nodeWidth, nodeValue, Worked, workOut, worked}
@@ -137,20 +137,20 @@ module _ (ws : List ℕ) (f : ℕ → Value) where
   work-length [] w = omega arith
   work-length (n ∷ t) w = omega (arith, work-length t (onward w n), snoc-length (w .values) (nodeValue (w .widths) f (w .values) n))
 
-  work-old : (t : List Node) (w : Worked) (n : ℕ) → n < length (w .values) → getD (workOut ws f t w .values) n Unknown ≡ getD (w .values) n Unknown
+  work-old : (t : List Node) (w : Worked) (n : ℕ) → n < length (w .values) → getD (workOut ws f t w .values) n nowhere ≡ getD (w .values) n nowhere
   unfolding workOut
   work-old [] w n h = refl
   work-old (k ∷ t) w n h =
       let a = nodeValue (w .widths) f (w .values) k in
-      work-old t (onward w k) n (omega (arith, snoc-length (w .values) a)) ∙ snoc-old (w .values) a Unknown n h
+      work-old t (onward w k) n (omega (arith, snoc-length (w .values) a)) ∙ snoc-old (w .values) a nowhere n h
 
   pub worked-length : (t : List Node) → length (worked ws f t .values) ≡ length t
   unfolding worked
   worked-length t = omega (arith, work-length t (record { widths = []; values = [] }))
 
-  pub worked-grow : (t u : List Node) (n : ℕ) → n < length t → getD (worked ws f (t ++ u) .values) n Unknown ≡ getD (worked ws f t .values) n Unknown
+  pub worked-grow : (t u : List Node) (n : ℕ) → n < length t → getD (worked ws f (t ++ u) .values) n nowhere ≡ getD (worked ws f t .values) n nowhere
   unfolding worked
   worked-grow t u n h =
       let w : Worked = record { widths = []; values = [] } in
-      ap (λ (l : Worked). getD (l .values) n Unknown) (work-append t u w)
+      ap (λ (l : Worked). getD (l .values) n nowhere) (work-append t u w)
       ∙ work-old u (workOut ws f t w) n (omega (arith, work-length t w))

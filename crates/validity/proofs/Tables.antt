@@ -14,7 +14,7 @@ use Rattle.sheet.specs.Expression.{Expr}
 use Rattle.sheet.specs.Module.{Module}
 use Rattle.sheet.proofs.Reading.{ok-injective, bind-ok}
 use Rattle.pseudocode.specs.Translation.{Instr}
-use Rattle.state.specs.Saved.{listOf}
+use Rattle.state.specs.Rows.{listOf}
 use Rattle.state.proofs.Rows.{length-listOf, getD-listOf}
 use Rattle.soundness.specs.Soundness.{Sound, SoundInstr, sound-wait, sound-set, sound-later, sound-go, sound-ifnot}
 use Rattle.events.specs.Cycle.{variables, codeOf, instrAt, isWait}

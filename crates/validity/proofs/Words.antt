@@ -10,7 +10,7 @@ use lib.Seq.{getD-append-add, ext-getD}
 use Rattle.values.specs.declared.Value.{Value}
 use Rattle.sheet.specs.Expression.{Expr}
 use Rattle.sheet.specs.Module.{Module}
-use Rattle.state.specs.Saved.{listOf}
+use Rattle.state.specs.Rows.{listOf}
 use Rattle.state.proofs.Rows.{length-listOf, getD-listOf}
 use Rattle.nextstate.specs.Nodes.{Node, aVariable, aConstant, anUnknown, aUnary, aBinary, aConditional, aBranch, fourWords, nodeWords, allWords, padded, nodeFrom, nodeAt}
 use Rattle.nextstate.specs.Extraction.{Tables}

@@ -10,10 +10,9 @@ use mathlib.Core.List.{List, [], _∷_, map}
 use Prim.Native.Nat.{ℕ, zero, suc, _≤_, _<_}
 use native.Mathlib.Omega.{arith}
 use Rattle.values.specs.declared.Value.{Value}
-use Rattle.values.specs.declared.Value.the-variants.{Known, Unknown}
 use Rattle.values.specs.declared.Edge.{Edge}
 use Rattle.values.specs.declared.Edge.the-variants.{Change, Posedge, Negedge}
-use Rattle.values.specs.Values.{same}
+use Rattle.values.specs.Values.{known, ones, allUnknown, same}
 use Rattle.values.specs.Edges.{level, moves, fires, edgeOf, edgeNumber}
 use Rattle.values.specs.Charts.{posedges, negedges, Charts}
 use Rattle.values.proofs.Values.{same-refl, same→≡, ≡→same}
@@ -36,7 +35,7 @@ fires→≢ e a b h p = let z : _≡_ {A = ℕ} 0 1 = cc (fires-same e a b (≡�
 -- are the new values, 0, 1 and x.
 
 abbrev pub bits : List Value
-bits = Known 0 ∷ Known 1 ∷ Unknown ∷ []
+bits = known 0 ∷ known 1 ∷ allUnknown 1 ∷ []
 
 abbrev pub chart : Edge → List (List Bool)
 chart e = map (λ old. map (fires e old) bits) bits
@@ -46,7 +45,7 @@ pub change-chart :
     (false ∷ true ∷ true ∷ []) ∷
     (true ∷ false ∷ true ∷ []) ∷
     (true ∷ true ∷ false ∷ []) ∷ []
-unfolding fires moves level same
+unfolding fires moves level same known allUnknown ones
 change-chart = refl
 
 pub posedge-chart :
@@ -54,7 +53,7 @@ pub posedge-chart :
     (false ∷ true ∷ true ∷ []) ∷
     (false ∷ false ∷ false ∷ []) ∷
     (false ∷ true ∷ false ∷ []) ∷ []
-unfolding fires moves level same
+unfolding fires moves level same known allUnknown ones
 posedge-chart = refl
 
 pub negedge-chart :
@@ -62,7 +61,7 @@ pub negedge-chart :
     (false ∷ false ∷ false ∷ []) ∷
     (true ∷ false ∷ true ∷ []) ∷
     (true ∷ false ∷ false ∷ []) ∷ []
-unfolding fires moves level same
+unfolding fires moves level same known allUnknown ones
 negedge-chart = refl
 
 -- ---- fires: any change
@@ -73,16 +72,16 @@ fires-change a b = refl
 
 -- ---- fires: posedge
 
-pub posedge-0-1 : fires Posedge (Known 0) (Known 1) ≡ true
-unfolding fires moves level same
+pub posedge-0-1 : fires Posedge (known 0) (known 1) ≡ true
+unfolding fires moves level same known allUnknown ones
 posedge-0-1 = refl
 
-pub posedge-x-1 : fires Posedge Unknown (Known 1) ≡ true
-unfolding fires moves level same
+pub posedge-x-1 : fires Posedge (allUnknown 1) (known 1) ≡ true
+unfolding fires moves level same known allUnknown ones
 posedge-x-1 = refl
 
-pub posedge-0-x : fires Posedge (Known 0) Unknown ≡ true
-unfolding fires moves level
+pub posedge-0-x : fires Posedge (known 0) (allUnknown 1) ≡ true
+unfolding fires moves level known allUnknown ones
 posedge-0-x = refl
 
 -- Never to 0.
@@ -90,18 +89,18 @@ to-0 : (t : Bool) → (not t && (t || false)) ≡ false
 to-0 true = refl
 to-0 false = refl
 
-pub posedge-to-0 : (a : Value) → fires Posedge a (Known 0) ≡ false
-unfolding fires moves level
+pub posedge-to-0 : (a : Value) → fires Posedge a (known 0) ≡ false
+unfolding fires moves level known allUnknown ones
 posedge-to-0 a = to-0 (eqb (level a) 0)
 
 -- ---- fires: negedge
 
-pub negedge-1-0 : fires Negedge (Known 1) (Known 0) ≡ true
-unfolding fires moves level same
+pub negedge-1-0 : fires Negedge (known 1) (known 0) ≡ true
+unfolding fires moves level same known allUnknown ones
 negedge-1-0 = refl
 
-pub negedge-x-0 : fires Negedge Unknown (Known 0) ≡ true
-unfolding fires moves level same
+pub negedge-x-0 : fires Negedge (allUnknown 1) (known 0) ≡ true
+unfolding fires moves level same known allUnknown ones
 negedge-x-0 = refl
 
 -- ---- moves: exactly where the one level is left or the other comes

@@ -3,16 +3,14 @@ use mathlib.Core.Bool.{Bool, not, _&&_, _||_}
 use Prim.Native.Nat.{ℕ, _%_}
 use lib.Dec.{eqb}
 use Rattle.values.specs.declared.Value.{Value}
-use Rattle.values.specs.declared.Value.the-variants.{Known, Unknown}
 use Rattle.values.specs.declared.Edge.{Edge}
 use Rattle.values.specs.declared.Edge.the-variants.{Change, Posedge, Negedge}
-use Rattle.values.specs.Values.{same, _is_then_else_}
+use Rattle.values.specs.Values.{pick, same, _is_then_else_}
 
 -- ---- level: a value by its lowest bit: 0, 1, or 2 for unknown. Edges 1 and 2 are awaited on variables of one bit (else 8).
 
 unfoldable pub level : Value → ℕ
-level (Known n) = n % 2
-level Unknown = 2
+level a = pick (eqb (a .unknown % 2) 0) (a .number % 2) 2
 
 -- ---- moves: from one level on, or to the other
 

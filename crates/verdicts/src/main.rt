@@ -40,10 +40,11 @@ fn flush(text: &[u8; 65536], pos: usize) {
 
 // Writes a verdict in words, and its status.
 fn show(v: Verdict) {
+    let widths = [1u8, 4, 1];
     let mut names = [0u8; 2560];
     naming::fill_plain(1, 1, &mut names);
     let mut text = [0u8; 65536];
-    let pos = comparison::put_verdict(&names, v, &mut text, 0);
+    let pos = comparison::put_verdict(&widths, &names, v, &mut text, 0);
     flush(&text, pos);
     let status = options::status_of(comparison::outcome_of(v));
     io::print_decimal(STDOUT_FILENO, status as u64);
@@ -58,7 +59,8 @@ fn main() {
     show(begun);
     show(two);
     show(cycle(two, same, row_of(6, 0, 0), row_of(7, 1, 2)));
-    show(cycle(one, row_of(5, 4294967297, 0), same, same));
+    show(cycle(one, row_of(5, 4294967296, 0), same, same));
+    show(cycle(one, row_of(8589934596, 1, 2), same, same));
     let apart = cycle(begun, same, same, row_of(5, 1, 0));
     show(apart);
     show(cycle(apart, row_of(9, 1, 2), same, same));

@@ -14,8 +14,8 @@
 -- comparison is worked out at one bit, (a == b) + c with a one-bit c wraps at one bit, and !a of a wide a is one bit in a
 -- one-bit place. Every constant has its width and no sign, so < is unsigned.
 --
--- Unknown values. Document 01's x is x as a whole, Verilog's x stands bit by bit: x & 0 is x here and 0 there. A condition that
--- isn't known fails in both: if takes its second leg, while ends.
+-- Unknown values. x stands bit by bit, as in Verilog (document 02, request [4]): ~, &, |, ^ and ?: give the same bits, + - and < are
+-- all x on any unknown bit. A condition holds in both if some known bit is 1; else if takes its second leg, and while ends.
 --
 -- A thread that can come round without a wait is text that Icarus refuses or never leaves; extraction refuses it too (17).
 use Prim.Native.Nat.{ℕ, zero, suc, _+_, _-_, _*_}

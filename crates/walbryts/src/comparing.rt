@@ -259,9 +259,10 @@ fn turns(
 }
 
 // What was compared.
-fn tell(names: &[u8; 2560], verdict: Verdict) -> Outcome {
+fn tell(p: Plan, names: &[u8; 2560], verdict: Verdict) -> Outcome {
+    let widths = p.widths;
     let mut text = [0u8; 65536];
-    let pos = comparison::put_verdict(names, verdict, &mut text, 0);
+    let pos = comparison::put_verdict(&widths, names, verdict, &mut text, 0);
     show(&text, pos)
 }
 
@@ -276,7 +277,7 @@ fn conclude(p: Plan, names: &[u8; 2560], s: Sides) -> Outcome {
             report::wrong_with(p.index, b": no cycle to compare\n", 0);
             end
         }
-        Telling::Told => options::joined(tell(names, verdict), end),
+        Telling::Told => options::joined(tell(p, names, verdict), end),
     }
 }
 

@@ -5,6 +5,58 @@ use options::Shape;
 use tabulate::Form;
 use trace_row::row_of;
 
+// The rows of up to 32 cycles, two a cycle, and behind them the last row of the cycles before.
+pub type Trace = [u64; 5720];
+
+// The number of that last row.
+pub const FRONT: usize = 64;
+
+// The row in front of the kth cycle's.
+fn row_before(k: usize) -> usize {
+    if k == 0 {
+        return FRONT;
+    }
+    if k > 31 {
+        return FRONT;
+    }
+    2 * k - 1
+}
+
+// The second row of the kth cycle.
+pub fn second_row(k: usize) -> usize {
+    if k > 31 {
+        return FRONT;
+    }
+    2 * k + 1
+}
+
+// The second of two rows becomes the last one of the cycles before.
+pub fn put_front(trace: &mut Trace, rows: &[u64; 176]) {
+    let mut i = 0;
+    while i < 88 {
+        trace[5632 + i] = rows[88 + i];
+        i += 1;
+    }
+}
+
+// The last row of so many cycles becomes the last one of the cycles before.
+pub fn move_front(trace: &mut Trace, cycles: usize) {
+    if cycles == 0 {
+        return;
+    }
+    if cycles > 32 {
+        return;
+    }
+    let from = 176 * cycles - 88;
+    let mut i = 0;
+    while i < 88 {
+        if from < 5632 {
+            trace[5632 + i] = trace[from + i];
+        }
+        i += 1;
+    }
+}
+
 // How many variables there are.
 pub fn variables(p: Plan) -> usize {
     p.inputs as usize + p.registers as usize + p.wires as usize
@@ -131,28 +183,29 @@ fn put_line(
     )
 }
 
-// A cycle's line, from its second row.
+// A cycle's line, from a row of the trace.
 pub fn put_row(
     p: Plan,
     v: View,
     names: &[u8; 2560],
     cycle: usize,
-    rows: &[u64; 176],
+    trace: &Trace,
+    r: usize,
     text: &mut [u8; 65536],
     pos: usize,
 ) -> usize {
     let widths = p.widths;
     let places = v.places;
-    let row = row_of(rows, 1);
+    let row = row_of(trace, r);
     put_line(v, &widths, names, &places, cycle, row, text, pos)
 }
 
 // ---- the waveform
 
 // Its head, and every value at time 0.
-pub fn put_start(p: Plan, names: &[u8; 2560], rows: &[u64; 176], text: &mut [u8; 65536]) -> usize {
+pub fn put_start(p: Plan, names: &[u8; 2560], trace: &Trace, text: &mut [u8; 65536]) -> usize {
     let widths = p.widths;
-    let row = row_of(rows, 1);
+    let row = row_of(trace, FRONT);
     let m = waveform::Counts {
         inputs: p.inputs,
         registers: p.registers,
@@ -179,18 +232,21 @@ fn put_changes(
     waveform::print_changes(&widths, variables(p), old, new, text, q)
 }
 
-// The two halves of a cycle, behind the rows of the one before.
+// The two halves of a cycle, the kth of the trace.
 pub fn put_cycle(
     p: Plan,
     cycle: usize,
-    before: &[u64; 176],
-    rows: &[u64; 176],
+    trace: &Trace,
+    k: usize,
     text: &mut [u8; 65536],
     pos: usize,
 ) -> usize {
-    let a = row_of(before, 1);
-    let b = row_of(rows, 0);
-    let c = row_of(rows, 1);
+    if k > 31 {
+        return pos;
+    }
+    let a = row_of(trace, row_before(k));
+    let b = row_of(trace, 2 * k);
+    let c = row_of(trace, second_row(k));
     let q = put_changes(p, driving::time_of(cycle, 0), a, b, text, pos);
     put_changes(p, driving::time_of(cycle, 1), b, c, text, q)
 }

@@ -22,7 +22,7 @@ pub struct Row {
     pub column: usize,
     pub feed: Feed,
     pub value: [u32; 16],
-    pub unknown: [bool; 16],
+    pub unknown: [u32; 16],
 }
 
 pub fn over(index: usize, fd: i32) -> Feed {
@@ -108,7 +108,7 @@ fn no_row(feed: Feed, error: u8, column: usize) -> Row {
         column,
         feed,
         value: [0u32; 16],
-        unknown: [false; 16],
+        unknown: [0u32; 16],
     }
 }
 
@@ -149,6 +149,78 @@ pub fn next_row(f: Feed, buffer: &[u8; 65536], widths: &[u8; 80], inputs: u8) ->
             no_row(g, 7, 1)
         }
         Waiting::Nothing => no_row(f, 1, 0),
+    }
+}
+
+// ---- rows that wait, 32 at most
+
+// How many slots they fill, 16 a row; where that is none, the error of the line that waits first and its column; and what the file has
+// left behind them.
+pub struct Rows {
+    pub size: usize,
+    pub error: u8,
+    pub column: usize,
+    pub feed: Feed,
+}
+
+// A row's inputs from a slot on.
+fn put_inputs(row: Row, at: usize, value: &mut [u32; 512], unknown: &mut [u32; 512]) {
+    let numbers = row.value;
+    let marks = row.unknown;
+    let mut i = 0;
+    while i < 16 {
+        if at < 497 {
+            value[at + i] = numbers[i];
+            unknown[at + i] = marks[i];
+        }
+        i += 1;
+    }
+}
+
+// The rows up to a line that is none: that line is taken only where no row is in front of it.
+fn rows_up_to(size: usize, feed: Feed, row: Row) -> Rows {
+    if size > 0 {
+        return Rows {
+            size,
+            error: 0,
+            column: 0,
+            feed,
+        };
+    }
+    let behind = row.feed;
+    Rows {
+        size: 0,
+        error: row.error,
+        column: row.column,
+        feed: behind,
+    }
+}
+
+// The rows that wait in the buffer.
+pub fn next_rows(
+    f: Feed,
+    buffer: &[u8; 65536],
+    widths: &[u8; 80],
+    inputs: u8,
+    value: &mut [u32; 512],
+    unknown: &mut [u32; 512],
+) -> Rows {
+    let mut feed = f;
+    let mut size = 0;
+    while size < 512 {
+        let row = next_row(feed, buffer, widths, inputs);
+        if row.error != 0 {
+            return rows_up_to(size, feed, row);
+        }
+        put_inputs(row, size, value, unknown);
+        feed = row.feed;
+        size += 16;
+    }
+    Rows {
+        size,
+        error: 0,
+        column: 0,
+        feed,
     }
 }
 

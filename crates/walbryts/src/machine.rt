@@ -1,5 +1,5 @@
-// What a run goes by, its clock cycles, and what is said where one does not come to rest. A cycle is one row of a trace call: by events on a
-// plan that is prepared once (`driving`), or by the extracted expressions on tables that are prepared once (`clock_run`).
+// What a run goes by, its clock cycles, and what is said where one does not come to rest. A cycle is a row of inputs of a trace call: by
+// events on a plan that is prepared once (`driving`), or by the extracted expressions on tables that are prepared once (`clock_run`).
 use crate::feed::Row;
 use crate::files::byte_at;
 use crate::report;
@@ -89,22 +89,34 @@ pub fn say_unrest(index: usize, cycle: usize, e: Ending) {
     }
 }
 
-// A cycle by events.
-fn by_events(plan: &PlanTable, s: Stand, value: &[u32], unknown: &[bool]) -> Stand {
+// ---- cycles
+
+// What rows of inputs leave: how many cycles came to rest, whose rows are written, and where the run stands.
+pub struct Gone {
+    pub cycles: usize,
+    pub stand: Stand,
+}
+
+// Rows of inputs by events.
+fn by_events(plan: &PlanTable, s: Stand, value: &[u32], unknown: &[u32], out: &mut [u64]) -> Gone {
     let before = s.rest;
     let registers = s.registers;
-    let mut rows = [0u64; 176];
-    let t = driving::trace(plan, before, s.user, value, unknown, &mut rows);
+    let rows = s.rows;
+    let t = driving::trace(plan, before, s.user, value, unknown, out);
     let rest = t.rest;
-    Stand {
+    let stand = Stand {
         user: s.user,
         rest,
         registers,
         rows,
+    };
+    Gone {
+        cycles: t.phases / 2,
+        stand,
     }
 }
 
-// A cycle by the expressions.
+// Rows of inputs by the expressions.
 fn by_expressions(
     plan: &PlanTable,
     lent: &PlanTable,
@@ -112,21 +124,13 @@ fn by_expressions(
     numbers: &RowNumbers,
     s: Stand,
     value: &[u32],
-    unknown: &[bool],
-) -> Stand {
+    unknown: &[u32],
+    out: &mut [u64],
+) -> Gone {
     let before = s.registers;
     let old = s.rest;
-    let mut rows = [0u64; 176];
-    let r = clock_run::trace(
-        plan,
-        lent,
-        table,
-        numbers,
-        before,
-        value,
-        unknown,
-        &mut rows,
-    );
+    let rows = s.rows;
+    let r = clock_run::trace(plan, lent, table, numbers, before, value, unknown, out);
     let last = r.last;
     let value = last.value;
     let unknown = last.unknown;
@@ -137,15 +141,38 @@ fn by_expressions(
         places,
     };
     let rest = driving::after_expressions(old, r.number);
-    Stand {
+    let stand = Stand {
         user: s.user,
         rest,
         registers,
         rows,
+    };
+    Gone {
+        cycles: r.cycles,
+        stand,
     }
 }
 
-// A cycle by the way of the run.
+// Rows of inputs by the way of the run.
+pub fn many(
+    plan: &PlanTable,
+    lent: &PlanTable,
+    table: &RowTable,
+    numbers: &RowNumbers,
+    s: Stand,
+    value: &[u32],
+    unknown: &[u32],
+    out: &mut [u64],
+) -> Gone {
+    let rest = s.rest;
+    let way = rest.way;
+    if driving::is_expressed(way) {
+        return by_expressions(plan, lent, table, numbers, s, value, unknown, out);
+    }
+    by_events(plan, s, value, unknown, out)
+}
+
+// One cycle, with its rows.
 pub fn whole(
     plan: &PlanTable,
     lent: &PlanTable,
@@ -156,10 +183,9 @@ pub fn whole(
 ) -> Stand {
     let value = row.value;
     let unknown = row.unknown;
-    let rest = s.rest;
-    let way = rest.way;
-    if driving::is_expressed(way) {
-        return by_expressions(plan, lent, table, numbers, s, &value, &unknown);
-    }
-    by_events(plan, s, &value, &unknown)
+    let mut rows = [0u64; 176];
+    let g = many(plan, lent, table, numbers, s, &value, &unknown, &mut rows);
+    let mut stand = g.stand;
+    stand.rows = rows;
+    stand
 }

@@ -60,7 +60,8 @@ fn help() -> Outcome {
 FILE: Verilog text where its name ends in .v; else a sheet: bytes, or hexadecimal text with blanks,
 line ends and # comments; - is standard input.
 INPUTS: a line a cycle, the values of inputs 1 up with blanks or a comma between them: decimal,
-0x and hexadecimal, or x; - alone where the clock is the only input; # comments.
+0x and hexadecimal, bits with x among them (b1x0, 4'b1x0), or x; - alone where the clock is the
+only input; # comments.
 Status: 0 done; 1 refused, by extraction too, or different; 2 words or files that are wrong.
 ",
     )
@@ -195,7 +196,7 @@ fn carry_out(w: Words, c: Command) -> Outcome {
 fn answer(w: Words, r: Request) -> Outcome {
     match r {
         Request::Help => help(),
-        Request::Version => show_word(b"walbryts 0.2.0\n"),
+        Request::Version => show_word(b"walbryts 0.3.0\n"),
         Request::Short(missing) => {
             mistakes::short(missing);
             Outcome::Mistaken

@@ -1,12 +1,13 @@
 // `run`: clock cycles as a table, and as a waveform where one is asked for.
 use crate::display;
+use crate::display::Trace;
 use crate::display::View;
 use crate::display::Viewed;
 use crate::expecting;
 use crate::expecting::Expected;
 use crate::feed;
 use crate::feed::Feed;
-use crate::feed::Row;
+use crate::feed::Rows;
 use crate::files::flush;
 use crate::files::open_input;
 use crate::files::unshown;
@@ -31,48 +32,61 @@ use options::RunOptions;
 use plan::PlanTable;
 use sheet::Layout;
 
-// Where a run has come to: whether it goes on, how it ends, the cycles done, how much of the table waits, what the inputs have left, the
-// line that was wrong (its error, 0 for none, and its column), the waveform, what the table shows and what it is held to; a cycle that is to be shown or none, the
-// rows of the one before, and where the run stands.
+// Where a run has come to: whether it goes on, how it ends, what the inputs have left, how many slots of inputs wait to be run, the line
+// that was wrong (its error, 0 for none, and its column), what the table shows, how many cycles wait to be shown, the page, and where the
+// run stands.
 struct Course {
     on: bool,
     outcome: Outcome,
-    cycle: usize,
-    pos: usize,
     feed: Feed,
+    waiting: usize,
     error: u8,
     column: usize,
-    wave: Wave,
     view: View,
-    expected: Expected,
-    fresh: bool,
-    before: [u64; 176],
+    fresh: usize,
+    page: Page,
     stand: Stand,
+}
+
+// What was shown: whether it could be written, the cycles, how much of the table waits, the waveform, and what the table is held to.
+struct Page {
+    good: bool,
+    cycle: usize,
+    pos: usize,
+    wave: Wave,
+    expected: Expected,
 }
 
 // The run stops.
 fn stopped(c: Course, outcome: Outcome) -> Course {
     let feed = c.feed;
-    let before = c.before;
-    let stand = c.stand;
-    let wave = c.wave;
     let view = c.view;
-    let expected = c.expected;
+    let page = c.page;
+    let stand = c.stand;
     Course {
         on: false,
         outcome,
-        cycle: c.cycle,
-        pos: c.pos,
         feed,
+        waiting: c.waiting,
         error: c.error,
         column: c.column,
-        wave,
         view,
-        expected,
         fresh: c.fresh,
-        before,
+        page,
         stand,
     }
+}
+
+// The run with another page; where that could not be written, it stops.
+fn paged(c: Course, page: Page) -> Course {
+    let good = page.good;
+    let mut e = c;
+    e.page = page;
+    e.fresh = 0;
+    if good {
+        return e;
+    }
+    stopped(e, Outcome::Mistaken)
 }
 
 // ---- how far it has come
@@ -98,174 +112,228 @@ fn end_line(p: Plan, cycle: usize) {
 
 // ---- what waits to be written
 
-// The table so far goes out; where it cannot be written, the run stops.
-fn spill_table(c: Course, text: &[u8; 65536]) -> Course {
-    let good = flush(STDOUT_FILENO, text, c.pos);
-    let before = c.expected;
-    let expected = expecting::met(before, text, c.pos);
-    let mut e = c;
-    e.expected = expected;
-    e.pos = 0;
+// The table so far goes out.
+fn spill_table(g: Page, text: &[u8; 65536]) -> Page {
+    let good = flush(STDOUT_FILENO, text, g.pos);
+    let before = g.expected;
+    let expected = expecting::met(before, text, g.pos);
+    let mut h = g;
+    h.expected = expected;
+    h.pos = 0;
     if good {
-        return e;
+        return h;
     }
     unshown();
-    stopped(e, Outcome::Mistaken)
+    h.good = false;
+    h
 }
 
 // The waveform so far goes out, the table first.
-fn spill_wave(c: Course, path: &[u8], text: &[u8; 65536], waves: &[u8; 65536]) -> Course {
-    let d = spill_table(c, text);
-    let before = d.wave;
+fn spill_wave(g: Page, path: &[u8], text: &[u8; 65536], waves: &[u8; 65536]) -> Page {
+    let h = spill_table(g, text);
+    let before = h.wave;
     let w = wave::spilled(before, path, waves);
     let good = w.good;
-    let mut e = d;
-    e.wave = w;
+    let mut i = h;
+    i.wave = w;
     if good {
-        return e;
+        return i;
     }
-    stopped(e, Outcome::Mistaken)
+    i.good = false;
+    i
 }
 
 // Where a buffer is nearly full.
-fn spilled(c: Course, path: &[u8], text: &[u8; 65536], waves: &[u8; 65536]) -> Course {
-    let w = c.wave;
+fn spilled(g: Page, path: &[u8], text: &[u8; 65536], waves: &[u8; 65536]) -> Page {
+    let w = g.wave;
     if w.pos >= 50000 {
-        return spill_wave(c, path, text, waves);
+        return spill_wave(g, path, text, waves);
     }
-    if c.pos >= 60000 {
-        return spill_table(c, text);
+    if g.pos >= 60000 {
+        return spill_table(g, text);
     }
-    c
+    g
 }
 
-// ---- a cycle
+// ---- cycles
 
 // More of the inputs is read, behind what was shown of those before.
 fn fed(p: Plan, c: Course, text: &[u8; 65536], buffer: &mut [u8; 65536]) -> Course {
-    let d = spill_table(c, text);
+    let page = c.page;
+    let d = paged(c, spill_table(page, text));
     if !d.on {
         return d;
     }
     let f = d.feed;
     let g = feed::refilled(f, buffer);
     let good = g.good;
+    let shown = d.page;
     let mut e = d;
     e.feed = g;
     if good {
         return e;
     }
-    end_line(p, e.cycle);
+    end_line(p, shown.cycle);
     stopped(e, Outcome::Mistaken)
 }
 
 // A line that is wrong.
-fn mistaken(c: Course, row: Row) -> Course {
+fn mistaken(c: Course, rows: Rows) -> Course {
     let mut e = c;
-    e.error = row.error;
-    e.column = row.column;
-    stopped(e, driving::line_outcome(row.error))
+    e.error = rows.error;
+    e.column = rows.column;
+    stopped(e, driving::line_outcome(rows.error))
 }
 
-// A row's cycle: where it does not come to rest, the run stops.
+// The rows that wait to be run, or what the line is in place of one.
+fn lined(c: Course, rows: Rows) -> Course {
+    let feed = rows.feed;
+    let mut e = c;
+    e.feed = feed;
+    e.waiting = rows.size;
+    match driving::line_of(rows.error, feed::is_over(feed)) {
+        Line::Cycle => e,
+        Line::Passed => e,
+        Line::Last => stopped(e, driving::line_outcome(rows.error)),
+        Line::Wrong => mistaken(e, rows),
+    }
+}
+
+// The first slots of those of 32 rows.
+fn first_slots(slots: &[u32], to: usize) -> &[u32] {
+    if to <= slots.len() {
+        return &slots[..to];
+    }
+    slots
+}
+
+// The cycles of the rows that wait: where one does not come to rest, the run stops.
 fn cycled(
     plan: &PlanTable,
     lent: &PlanTable,
     table: &RowTable,
     numbers: &RowNumbers,
     c: Course,
-    row: Row,
+    value: &[u32; 512],
+    unknown: &[u32; 512],
+    trace: &mut Trace,
 ) -> Course {
+    let to = c.waiting;
+    if to == 0 {
+        return c;
+    }
     let old = c.stand;
-    let stand = machine::whole(plan, lent, table, numbers, old, row);
+    let numbers_in = first_slots(value, to);
+    let marks_in = first_slots(unknown, to);
+    let gone = machine::many(plan, lent, table, numbers, old, numbers_in, marks_in, trace);
+    let stand = gone.stand;
     let mut e = c;
     e.stand = stand;
+    e.waiting = 0;
+    e.fresh = gone.cycles;
     match machine::ending_of(stand) {
-        Ending::Rested => {
-            e.fresh = true;
-            e
-        }
+        Ending::Rested => e,
         Ending::Refused(_) => stopped(e, outcome_of(stand)),
         Ending::Restless(_) => stopped(e, outcome_of(stand)),
     }
 }
 
-// A row's cycle, or what its line is in place of one.
-fn turn(
-    plan: &PlanTable,
-    lent: &PlanTable,
-    table: &RowTable,
-    numbers: &RowNumbers,
-    c: Course,
-    row: Row,
-) -> Course {
-    let feed = row.feed;
-    let mut e = c;
-    e.feed = feed;
-    match driving::line_of(row.error, feed::is_over(feed)) {
-        Line::Cycle => cycled(plan, lent, table, numbers, e, row),
-        Line::Passed => e,
-        Line::Last => stopped(e, driving::line_outcome(row.error)),
-        Line::Wrong => mistaken(e, row),
-    }
-}
+// ---- what is shown of them
 
-// ---- what is shown of it
-
-// The part of the waveform of the cycle that was run.
-fn waved(p: Plan, c: Course, waves: &mut [u8; 65536]) -> Course {
+// The part of the waveform of the kth cycle.
+fn waved(p: Plan, g: Page, trace: &Trace, k: usize, waves: &mut [u8; 65536]) -> Page {
     if !p.waved {
-        return c;
+        return g;
     }
-    let before = c.before;
-    let stand = c.stand;
-    let rows = stand.rows;
-    let w = c.wave;
-    let pos = display::put_cycle(p, c.cycle, &before, &rows, waves, w.pos);
+    let w = g.wave;
+    let pos = display::put_cycle(p, g.cycle, trace, k, waves, w.pos);
     let mut v = w;
     v.pos = pos;
-    let mut e = c;
-    e.wave = v;
-    e
+    let mut h = g;
+    h.wave = v;
+    h
 }
 
 // Its line of the table.
-fn tabled(p: Plan, names: &[u8; 2560], c: Course, text: &mut [u8; 65536]) -> Course {
-    let stand = c.stand;
-    let rows = stand.rows;
-    let view = c.view;
-    let pos = if !p.last && display::is_chosen(view, c.cycle) {
-        display::put_row(p, view, names, c.cycle, &rows, text, c.pos)
+fn tabled(
+    p: Plan,
+    view: View,
+    names: &[u8; 2560],
+    g: Page,
+    trace: &Trace,
+    k: usize,
+    text: &mut [u8; 65536],
+) -> Page {
+    let pos = if !p.last && display::is_chosen(view, g.cycle) {
+        display::put_row(
+            p,
+            view,
+            names,
+            g.cycle,
+            trace,
+            display::second_row(k),
+            text,
+            g.pos,
+        )
     } else {
-        c.pos
+        g.pos
     };
-    let cycle = stimulus::counted(c.cycle);
+    let cycle = stimulus::counted(g.cycle);
     if cycle % 10000 == 0 {
         tell(p, cycle);
     }
-    let mut e = c;
-    e.cycle = cycle;
-    e.pos = pos;
-    e.before = rows;
-    e.fresh = false;
-    e
+    let mut h = g;
+    h.cycle = cycle;
+    h.pos = pos;
+    h
 }
 
-// What is shown of the cycle that was run, where one was.
+// What is shown of so many cycles.
+fn leafed(
+    p: Plan,
+    view: View,
+    names: &[u8; 2560],
+    path: &[u8],
+    c: Course,
+    trace: &Trace,
+    text: &mut [u8; 65536],
+    waves: &mut [u8; 65536],
+) -> Course {
+    let mut g = c.page;
+    let mut k = 0;
+    while k < 32 {
+        if k >= c.fresh {
+            return paged(c, g);
+        }
+        if !g.good {
+            return paged(c, g);
+        }
+        g = waved(p, g, trace, k, waves);
+        g = tabled(p, view, names, g, trace, k, text);
+        g = spilled(g, path, text, waves);
+        k += 1;
+    }
+    paged(c, g)
+}
+
+// What is shown of the cycles that were run, where some were.
 fn shown(
     p: Plan,
     names: &[u8; 2560],
     path: &[u8],
     c: Course,
+    trace: &mut Trace,
     text: &mut [u8; 65536],
     waves: &mut [u8; 65536],
 ) -> Course {
-    if !c.fresh {
+    let cycles = c.fresh;
+    if cycles == 0 {
         return c;
     }
-    let d = waved(p, c, waves);
-    let e = tabled(p, names, d, text);
-    spilled(e, path, text, waves)
+    let view = c.view;
+    let d = leafed(p, view, names, path, c, trace, text, waves);
+    display::move_front(trace, cycles);
+    d
 }
 
 // ---- the run
@@ -284,22 +352,26 @@ fn turns(
     let mut buffer = [0u8; 65536];
     let mut text = [0u8; 65536];
     let mut waves = [0u8; 65536];
+    let mut value = [0u32; 512];
+    let mut unknown = [0u32; 512];
+    let mut trace = [0u64; 5720];
     let widths = p.widths;
-    let mut c = opened(p, names, course, &mut text, &mut waves);
+    let mut c = opened(p, names, course, &mut trace, &mut text, &mut waves);
     let mut left = u64::MAX;
     while left > 0 && c.on {
         let f = c.feed;
         if feed::is_dry(f, &buffer) {
             c = fed(p, c, &text, &mut buffer);
         } else {
-            let row = feed::next_row(f, &buffer, &widths, p.inputs);
-            c = turn(plan, lent, table, numbers, c, row);
-            c = shown(p, names, path, c, &mut text, &mut waves);
+            let rows = feed::next_rows(f, &buffer, &widths, p.inputs, &mut value, &mut unknown);
+            c = lined(c, rows);
+            c = cycled(plan, lent, table, numbers, c, &value, &unknown, &mut trace);
+            c = shown(p, names, path, c, &mut trace, &mut text, &mut waves);
         }
         left -= 1;
     }
     let d = closing(p, c, &mut waves);
-    finish(p, names, path, d, &mut text, &waves)
+    finish(p, names, path, d, &trace, &mut text, &waves)
 }
 
 // The titles of the table, and the head of the waveform.
@@ -307,21 +379,23 @@ fn opened(
     p: Plan,
     names: &[u8; 2560],
     c: Course,
+    trace: &mut Trace,
     text: &mut [u8; 65536],
     waves: &mut [u8; 65536],
 ) -> Course {
     tell(p, 0);
-    let mut e = c;
+    let stand = c.stand;
+    let rows = stand.rows;
+    display::put_front(trace, &rows);
     let view = c.view;
-    e.pos = display::put_titles(p, view, names, text);
-    if !p.waved {
-        return e;
+    let mut g = c.page;
+    g.pos = display::put_titles(p, view, names, text);
+    if p.waved {
+        let mut w = g.wave;
+        w.pos = display::put_start(p, names, trace, waves);
+        g.wave = w;
     }
-    let before = c.before;
-    let mut w = c.wave;
-    w.pos = display::put_start(p, names, &before, waves);
-    e.wave = w;
-    e
+    paged(c, g)
 }
 
 // The waveform's end: the time at which the next cycle would begin.
@@ -329,10 +403,12 @@ fn closing(p: Plan, c: Course, waves: &mut [u8; 65536]) -> Course {
     if !p.waved {
         return c;
     }
-    let mut w = c.wave;
-    w.pos = display::put_close(c.cycle, waves, w.pos);
+    let mut g = c.page;
+    let mut w = g.wave;
+    w.pos = display::put_close(g.cycle, waves, w.pos);
+    g.wave = w;
     let mut e = c;
-    e.wave = w;
+    e.page = g;
     e
 }
 
@@ -342,25 +418,42 @@ fn finish(
     names: &[u8; 2560],
     path: &[u8],
     c: Course,
+    trace: &Trace,
     text: &mut [u8; 65536],
     waves: &[u8; 65536],
 ) -> Outcome {
-    let before = c.before;
-    let mut d = c;
-    if p.last && c.cycle > 0 {
+    let mut g = c.page;
+    if p.last && g.cycle > 0 {
         let view = c.view;
-        d.pos = display::put_row(p, view, names, c.cycle - 1, &before, text, c.pos);
+        g.pos = display::put_row(
+            p,
+            view,
+            names,
+            g.cycle - 1,
+            trace,
+            display::FRONT,
+            text,
+            g.pos,
+        );
     }
     let outcome = c.outcome;
-    let e = spill_wave(d, path, text, waves);
-    tell(p, e.cycle);
-    end_line(p, e.cycle);
+    let h = spill_wave(g, path, text, waves);
+    tell(p, h.cycle);
+    end_line(p, h.cycle);
     say_end(p, c);
-    let last = e.outcome;
-    let w = e.wave;
-    let x = e.expected;
+    let w = h.wave;
+    let x = h.expected;
     let met = expecting::ended(x);
+    let last = written(h);
     options::joined(wave::closed(w, path, options::joined(outcome, last)), met)
+}
+
+// How the command ends by what could be written.
+fn written(g: Page) -> Outcome {
+    if g.good {
+        return Outcome::Done;
+    }
+    Outcome::Mistaken
 }
 
 // What kept the run from its end: a line that is wrong, or a cycle that did not come to rest.
@@ -369,7 +462,8 @@ fn say_end(p: Plan, c: Course) {
         feed::say(c.feed, c.column, c.error);
     }
     let stand = c.stand;
-    machine::say_unrest(p.index, c.cycle, machine::ending_of(stand));
+    let page = c.page;
+    machine::say_unrest(p.index, page.cycle, machine::ending_of(stand));
 }
 
 // ---- its start
@@ -397,20 +491,23 @@ fn outcome_of(s: Stand) -> Outcome {
 
 // Before the first cycle.
 fn course_of(p: Plan, fd: i32, stand: Stand, wave: Wave, view: View, expected: Expected) -> Course {
-    let before = stand.rows;
+    let page = Page {
+        good: true,
+        cycle: 0,
+        pos: 0,
+        wave,
+        expected,
+    };
     Course {
         on: true,
         outcome: Outcome::Done,
-        cycle: 0,
-        pos: 0,
         feed: feed::over(p.index, fd),
+        waiting: 0,
         error: 0,
         column: 0,
-        wave,
         view,
-        expected,
-        fresh: false,
-        before,
+        fresh: 0,
+        page,
         stand,
     }
 }

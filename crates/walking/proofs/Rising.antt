@@ -8,8 +8,7 @@ use lib.ListN.{length}
 use lib.Dec.{ltb}
 use borrow.Author.Tests.{ltb-true}
 use Rattle.values.specs.declared.Value.{Value}
-use Rattle.values.specs.declared.Value.the-variants.{Known}
-use Rattle.values.specs.Values.{pick}
+use Rattle.values.specs.Values.{pick, known}
 use Rattle.values.specs.Planes.{numberOf}
 use Rattle.sheet.specs.Reading.{ok}
 use Rattle.sheet.specs.Expression.{Expr}
@@ -35,7 +34,7 @@ module _ (m : Module Expr) (sound : Sound m) (ruled : Ruled m) (T : Tables) (h :
   -- The nodes of the row of thread i's wait at p, of all nodes.
   pub row-has : (i p : ℕ) → i < length (m .threads) → p < length (codeOf m i) → isWait (instrAt (codeOf m i) p) ≡ true →
       (f : ℕ → Value) →
-      (Has (m .scope .widths) f (T .nodes) (entry m T i p 32) (Known (endOf m i f p .place)))
+      (Has (m .scope .widths) f (T .nodes) (entry m T i p 32) (known (endOf m i f p .place)))
       × ((r : ℕ) → r < m .scope .registers → writes m i (m .scope .inputs + r) ≡ true →
       Has (m .scope .widths) f (T .nodes) (entry m T i p r) (valueAfter m i f (endOf m i f p) (m .scope .inputs + r)))
   unfolding begin
@@ -54,7 +53,7 @@ module _ (m : Module Expr) (sound : Sound m) (ruled : Ruled m) (T : Tables) (h :
 
   pub row-of-wait : (i p : ℕ) → i < length (m .threads) → p < length (codeOf m i) → isWait (instrAt (codeOf m i) p) ≡ true →
       (f : ℕ → Value) →
-      (worth m T f (entry m T i p 32) ≡ Known (endOf m i f p .place))
+      (worth m T f (entry m T i p 32) ≡ known (endOf m i f p .place))
       × ((v : ℕ) → m .scope .inputs ≤ v → v < m .scope .inputs + m .scope .registers → writes m i v ≡ true →
       worth m T f (entry m T i p (v - m .scope .inputs)) ≡ valueAfter m i f (endOf m i f p) v)
   unfolding worth
@@ -92,7 +91,7 @@ module _ (m : Module Expr) (sound : Sound m) (ruled : Ruled m) (T : Tables) (h :
       by false e ih = rw e ih
 
   place-alone : (i : ℕ) → nextPlace m T b i ≡ placeAlone m b i
-  unfolding nextPlace placeAlone numberOf
+  unfolding nextPlace placeAlone numberOf known
   place-alone i = by (ltb i (length (m .threads))) refl
     where
       by : (t : Bool) → ltb i (length (m .threads)) ≡ t →

@@ -12,8 +12,7 @@ use lib.Seq.{getD-set-same, getD-set-other, getD-at}
 use lib.Dec.{ltb, leb}
 use borrow.Author.Tests.{leb-true, ltb-true, lt-ltb, le-leb, eq-eqb, ne-eqb}
 use Rattle.values.specs.declared.Value.{Value}
-use Rattle.values.specs.declared.Value.the-variants.{Known}
-use Rattle.values.specs.Values.{pick, holds}
+use Rattle.values.specs.Values.{pick, known, holds}
 use Rattle.sheet.specs.declared.EdgeTerm.{EdgeTerm}
 use Rattle.sheet.specs.Reading.{Res, ok}
 use Rattle.sheet.specs.Expression.{Expr}
@@ -23,7 +22,7 @@ use Rattle.sheet.proofs.Reading.{bind-ok}
 use Rattle.encoding.specs.WellFormed.{HasWidth}
 use Rattle.evaluation.specs.Evaluation.{eval}
 use Rattle.pseudocode.specs.Translation.{Instr, wait!, set!, later!, go, ifnot}
-use Rattle.state.specs.Saved.{listOf}
+use Rattle.state.specs.Rows.{listOf}
 use Rattle.state.proofs.Rows.{length-listOf, getD-listOf}
 use Rattle.soundness.specs.Soundness.{SoundExpr, SoundTarget, SoundInstr, sound-wait, sound-set, sound-later, sound-go, sound-ifnot, Sound}
 use Rattle.events.specs.Cycle.{variables, codeOf, instrAt, isWait}
@@ -177,7 +176,7 @@ module _ (m : Module Expr) (i : ℕ) (f : ℕ → Value) where
 
   -- What a walk leaves, where the thread ends as E.
   pub record Leaves (w : Walked) (E : Local) : Type 0 where
-    pub place : Has (m .scope .widths) f (w .nodes) (w .place) (Known (E .place))
+    pub place : Has (m .scope .widths) f (w .nodes) (w .place) (known (E .place))
     pub registers : (r : ℕ) → r < m .scope .registers → writes m i (m .scope .inputs + r) ≡ true →
         Has (m .scope .widths) f (w .nodes) (getD (w .registers) r 0) (valueAfter m i f E (m .scope .inputs + r))
 
@@ -302,7 +301,7 @@ module _ (m : Module Expr) (i : ℕ) (f : ℕ → Value) where
     joined : Sound m → (h : Held) (t : List Node) (e : Expr) (g : ℕ) {w : Walked} (b : Branches m i next (L .place) h t e g w)
         (hold : Bool) (d : Value) →
         Has (m .scope .widths) f (b .other .nodes) (b .condition .node) d → holds d ≡ hold →
-        Has (m .scope .widths) f (b .other .nodes) (pick hold (b .held .place) (b .other .place)) (Known (E .place)) →
+        Has (m .scope .widths) f (b .other .nodes) (pick hold (b .held .place) (b .other .place)) (known (E .place)) →
         ((r : ℕ) → r < m .scope .registers → writes m i (m .scope .inputs + r) ≡ true →
         Has (m .scope .widths) f (b .other .nodes) (pick hold (getD (b .held .registers) r 0) (getD (b .other .registers) r 0))
         (valueAfter m i f E (m .scope .inputs + r))) →

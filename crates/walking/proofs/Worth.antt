@@ -8,8 +8,7 @@ use native.Mathlib.Omega.{arith}
 use lib.ListN.{length, getD, length-append, List·getD-append}
 use lib.Seq.{getD-at}
 use Rattle.values.specs.declared.Value.{Value}
-use Rattle.values.specs.declared.Value.the-variants.{Known, Unknown}
-use Rattle.values.specs.Values.{pick, holds}
+use Rattle.values.specs.Values.{pick, known, nowhere, holds}
 use Rattle.values.specs.Operators.{choice}
 use Rattle.sheet.specs.Reading.{ok}
 use Rattle.sheet.specs.Expression.{Expr, variable, constant, unknown, unary, binary, conditional}
@@ -51,25 +50,25 @@ module _ (ws : List ℕ) (f : ℕ → Value) where
       workOut-width-old u _ n (omega (arith, length-append (x .widths) new)) ∙ List·getD-append (x .widths) new 0 n l
 
   workOut-value-old : (u : List Node) (x : Worked) (n : ℕ) → n < length (x .values) →
-      getD (workOut ws f u x .values) n Unknown ≡ getD (x .values) n Unknown
+      getD (workOut ws f u x .values) n nowhere ≡ getD (x .values) n nowhere
   unfolding workOut
   workOut-value-old [] x n l = refl
   workOut-value-old (k ∷ u) x n l =
       let new = nodeValue (x .widths) f (x .values) k ∷ [] in
-      workOut-value-old u _ n (omega (arith, length-append (x .values) new)) ∙ List·getD-append (x .values) new Unknown n l
+      workOut-value-old u _ n (omega (arith, length-append (x .values) new)) ∙ List·getD-append (x .values) new nowhere n l
 
   -- ---- one node's width and value
 
   -- Node n of t has the value a.
   pub record Has (t : List Node) (n : ℕ) (a : Value) : Type 0 where
     pub within : n < length t
-    pub value : getD (worked ws f t .values) n Unknown ≡ a
+    pub value : getD (worked ws f t .values) n nowhere ≡ a
 
   -- Node n of t has the width w and the value a.
   pub record Is (t : List Node) (n w : ℕ) (a : Value) : Type 0 where
     pub within : n < length t
     pub width : getD (worked ws f t .widths) n 0 ≡ w
-    pub value : getD (worked ws f t .values) n Unknown ≡ a
+    pub value : getD (worked ws f t .values) n nowhere ≡ a
 
   pub is-has : {t : List Node} {n w : ℕ} {a : Value} → Is t n w a → Has t n a
   is-has s = record { within = s .within; value = s .value }
@@ -77,12 +76,12 @@ module _ (ws : List ℕ) (f : ℕ → Value) where
   -- ---- more nodes behind it
 
   value-grows : (t u : List Node) (n : ℕ) → Grows t u → n < length t →
-      getD (worked ws f u .values) n Unknown ≡ getD (worked ws f t .values) n Unknown
+      getD (worked ws f u .values) n nowhere ≡ getD (worked ws f t .values) n nowhere
   unfolding worked
   value-grows t u n g l =
       let start : Worked = record { widths = []; values = [] } in
-      ap (λ (k : List Node). getD (workOut ws f k start .values) n Unknown) (g .is)
-      ∙ ap (λ (x : Worked). getD (x .values) n Unknown) (workOut-append t (g .more) start)
+      ap (λ (k : List Node). getD (workOut ws f k start .values) n nowhere) (g .is)
+      ∙ ap (λ (x : Worked). getD (x .values) n nowhere) (workOut-append t (g .more) start)
       ∙ workOut-value-old (g .more) (workOut ws f t start) n (omega (arith, workOut-values t start))
 
   width-grows : (t u : List Node) (n : ℕ) → Grows t u → n < length t →
@@ -117,12 +116,12 @@ module _ (ws : List ℕ) (f : ℕ → Value) where
       ∙ getD-at (workOut ws f t start .widths) _ [] 0 (length t) (workOut-widths t start ∙ omega arith)
 
   new-value : (t : List Node) (n : Node) →
-      getD (worked ws f (t ++ (n ∷ [])) .values) (length t) Unknown ≡ nodeValue (worked ws f t .widths) f (worked ws f t .values) n
+      getD (worked ws f (t ++ (n ∷ [])) .values) (length t) nowhere ≡ nodeValue (worked ws f t .widths) f (worked ws f t .values) n
   unfolding worked workOut
   new-value t n =
       let start : Worked = record { widths = []; values = [] } in
-      ap (λ (x : Worked). getD (x .values) (length t) Unknown) (workOut-append t (n ∷ []) start)
-      ∙ getD-at (workOut ws f t start .values) _ [] Unknown (length t) (workOut-values t start ∙ omega arith)
+      ap (λ (x : Worked). getD (x .values) (length t) nowhere) (workOut-append t (n ∷ []) start)
+      ∙ getD-at (workOut ws f t start .values) _ [] nowhere (length t) (workOut-values t start ∙ omega arith)
 
   new-has : (t : List Node) (n : Node) {a : Value} → nodeValue (worked ws f t .widths) f (worked ws f t .values) n ≡ a →
       Has (t ++ (n ∷ [])) (length t) a
@@ -136,7 +135,7 @@ module _ (ws : List ℕ) (f : ℕ → Value) where
   unfolding nodeWidth nodeValue
   new-variable t v = new-is t (aVariable v) refl refl
 
-  pub new-constant : (t : List Node) (w n : ℕ) → Is (t ++ (aConstant w n ∷ [])) (length t) w (Known n)
+  pub new-constant : (t : List Node) (w n : ℕ) → Is (t ++ (aConstant w n ∷ [])) (length t) w (known n)
   unfolding nodeWidth nodeValue
   new-constant t w n = new-is t (aConstant w n) refl refl
 

@@ -4,22 +4,24 @@ use mathlib.Core.Path.{_≡_, refl, sym, ap, _∙_}
 use mathlib.Core.Bool.{Bool, true, false}
 use mathlib.Core.Logic.{_≢_}
 use mathlib.Core.List.{List, [], _∷_, _++_, map, append-assoc}
-use Prim.Native.Nat.{ℕ, zero, suc, _+_, _-_, _*_, _/_, _%_, _^_, _≤_, _<_}
-use native.Mathlib.Nat.{pow-suc}
+use Prim.Native.Nat.{ℕ, zero, suc, _+_, _-_, _/_, _%_, _^_, _≤_, _<_}
 use native.Mathlib.Numerals.{add-one}
 use native.Mathlib.Omega.{arith}
-use borrow.Author.Tests.{lt-ltb, le-ltb, ltb-true, eq-eqb, ne-eqb}
-use lib.Dec.{ltb}
+use borrow.Author.Tests.{lt-ltb, le-ltb, ltb-true, ltb-false, eq-eqb, ne-eqb, eqb-true, eqb-false}
+use lib.Dec.{ltb, eqb}
 use lib.ListN.{length, getD, drop, length-append, drop-of-length-le, replicate}
 use lib.Seq.{drop-cons}
 use Rattle.values.specs.declared.Value.{Value}
-use Rattle.values.specs.Values.{pick}
+use Rattle.values.specs.Values.{pick, ones, allUnknown}
+use Rattle.values.specs.Planes.{numberOf, marksOf}
 use Rattle.writing.specs.Ascii.{ascii, byte}
 use Rattle.writing.specs.Numbers.{digit}
 use Rattle.writing.specs.Buffer.{Text, puts}
 use Rattle.writing.proofs.Buffer.{puts-nil, puts-append}
+use Rattle.binary_text.specs.BinaryText.{bit, bits, bitsOf, isKnown, isX}
+use Rattle.binary_text.proofs.BinaryText.{length-bits, bits-x, bits-zero, replicate-last}
 use Rattle.waveform.specs.Waveform.{ident, kindOf, commentByte, shortened, figures, valueLine}
-use Rattle.waveform.specs.Claims.{binary, number, LeftExtended, ReadsBack}
+use Rattle.waveform.specs.Claims.{extended, LeftExtended}
 
 -- ---- kindOf: inputs, registers, wires
 
@@ -81,51 +83,78 @@ module _ (w n : ℕ) where
       by zero e = absurd (h e)
       by (suc k) e = let z : suc k - 1 ≡ k = omega arith in rw (z, le-ltb n 2 l)
 
--- ---- the claims
+-- ---- the claim
 
-zeros : (w : ℕ) → binary w 0 ≡ replicate w (byte "0")
-unfolding binary
-zeros zero = refl
-zeros (suc w) = ap (λ l. l ++ (byte "0" ∷ [])) (zeros w) ∙ replicate-last w (byte "0")
-  where
-    replicate-last : (w b : ℕ) → replicate w b ++ (b ∷ []) ≡ replicate (suc w) b
-    replicate-last zero b = refl
-    replicate-last (suc w) b = ap (λ l. b ∷ l) (replicate-last w b)
-
-pub left-extended : LeftExtended
-unfolding shortened binary
-left-extended zero n = refl
-left-extended (suc w) n = by (ltb n 2) refl (left-extended w (n / 2))
+zeros-extended : (w n : ℕ) → replicate (w - length (shortened w n)) (byte "0") ++ shortened w n ≡ bits w n 0
+unfolding shortened bits bit
+zeros-extended zero n = refl
+zeros-extended (suc w) n = by (ltb n 2) refl (zeros-extended w (n / 2))
   where
     by : (x : Bool) → ltb n 2 ≡ x
-        → replicate (w - length (shortened w (n / 2))) (byte "0") ++ shortened w (n / 2) ≡ binary w (n / 2)
+        → replicate (w - length (shortened w (n / 2))) (byte "0") ++ shortened w (n / 2) ≡ bits w (n / 2) 0
         → replicate (suc w - length (pick x (digit n ∷ []) (shortened w (n / 2) ++ (digit (n % 2) ∷ [])))) (byte "0")
         ++ pick x (digit n ∷ []) (shortened w (n / 2) ++ (digit (n % 2) ∷ []))
-        ≡ binary w (n / 2) ++ (digit (n % 2) ∷ [])
+        ≡ bits w (n / 2) 0 ++ (digit (n % 2) ∷ [])
     by true q rest =
         let l = ltb-true n 2 q in
         let z : n / 2 ≡ 0 = omega arith in
         let o : n % 2 ≡ n = omega arith in
         let k : suc w - 1 ≡ w = omega arith in
-        rw (z, o, k, zeros w)
+        rw (z, o, k, bits-zero w)
     by false q rest =
         let s = shortened w (n / 2) in
         let d = digit (n % 2) ∷ [] in
         let k : suc w - length (s ++ d) ≡ w - length s = rw length-append (omega arith) in
         rw k (sym (append-assoc (replicate (w - length s) (byte "0")) s d) ∙ ap (λ l. l ++ d) rest)
 
-number-append : (a : ℕ) (ds es : List ℕ) → number a (ds ++ es) ≡ number (number a ds) es
-unfolding number
-number-append a [] es = refl
-number-append a (d ∷ ds) es = number-append (a * 2 + (d - byte "0")) ds es
+-- The first figure of a known value isn't x.
+first-append : (l : List ℕ) (d : ℕ) → getD l 0 0 < byte "x" → d < byte "x" → getD (l ++ (d ∷ [])) 0 0 < byte "x"
+first-append [] d h k = k
+first-append (x ∷ l) d h k = h
 
-pub reads-back : ReadsBack
-unfolding number binary
-reads-back zero n h = omega arith
-reads-back (suc w) n h =
-    number-append 0 (binary w (n / 2)) (digit (n % 2) ∷ [])
-    ∙ ap (λ x. number x (digit (n % 2) ∷ [])) (reads-back w (n / 2) (omega (arith, pow-suc 2 w)))
-    ∙ omega arith
+first-digit : (w n : ℕ) → getD (shortened w n) 0 0 < byte "x"
+unfolding shortened
+first-digit zero n = omega arith
+first-digit (suc w) n = by (ltb n 2) refl (first-append (shortened w (n / 2)) (digit (n % 2)) (first-digit w (n / 2)) (omega arith))
+  where
+    by : (x : Bool) → ltb n 2 ≡ x → getD (shortened w (n / 2) ++ (digit (n % 2) ∷ [])) 0 0 < byte "x"
+        → getD (pick x (digit n ∷ []) (shortened w (n / 2) ++ (digit (n % 2) ∷ []))) 0 0 < byte "x"
+    by true q rest = let l = ltb-true n 2 q in omega arith
+    by false q rest = rest
+
+ones-32 : (w : ℕ) → w ≤ 32 → ones w ≡ 2 ^ w - 1
+unfolding ones
+ones-32 w h = by (ltb w 32) refl
+  where
+    by : (x : Bool) → ltb w 32 ≡ x → pick x (2 ^ w - 1) (2 ^ 32 - 1) ≡ 2 ^ w - 1
+    by true q = refl
+    by false q =
+        let l = ltb-false w 32 q in
+        let e : w ≡ 32 = omega arith in
+        rw e refl
+
+x-extended : (w : ℕ) → w ≢ 0 → replicate (w - 1) (byte "x") ++ (byte "x" ∷ []) ≡ replicate w (byte "x")
+x-extended zero h = absurd (h refl)
+x-extended (suc w) h = let k : suc w - 1 ≡ w = omega arith in rw k (replicate-last w (byte "x"))
+
+pub left-extended : LeftExtended
+unfolding extended figures bitsOf isKnown isX marksOf numberOf allUnknown
+left-extended w a h = by (eqb (a .unknown) 0) refl (eqb (a .unknown) (ones w)) refl
+  where
+    by : (x : Bool) → eqb (a .unknown) 0 ≡ x → (y : Bool) → eqb (a .unknown) (ones w) ≡ y
+        → extended w (pick x (shortened w (a .number)) (pick y (byte "x" ∷ []) (bits w (a .number) (a .unknown))))
+        ≡ bits w (a .number) (a .unknown)
+    by true p y q =
+        let s = shortened w (a .number) in
+        let low = first-digit w (a .number) in
+        rw (eqb-true (a .unknown) 0 p, ne-eqb (getD s 0 0) (byte "x") (λ e. omega (arith, e, low))) (zeros-extended w (a .number))
+    by false p true q =
+        let some : a .unknown ≢ 0 = eqb-false (a .unknown) 0 p in
+        let all = eqb-true (a .unknown) (ones w) q ∙ ones-32 w h in
+        rw (all, bits-x w (a .number)) (x-extended w (λ e. some (all ∙ rw e refl)))
+    by false p false q =
+        let k : w - length (bits w (a .number) (a .unknown)) ≡ 0 = rw (length-bits w (a .number) (a .unknown)) (omega arith) in
+        rw k refl
 
 -- ---- valueLine: one bit, more bits
 

@@ -4,11 +4,12 @@ use mathlib.Core.List.{List, [], _∷_, _++_, map}
 use lib.ListN.{getD}
 use lib.Dec.{ltb, eqb}
 use Rattle.values.specs.declared.Value.{Value}
-use Rattle.values.specs.declared.Value.the-variants.{Known, Unknown}
 use Rattle.values.specs.Values.{pick, same}
+use Rattle.values.specs.Planes.{numberOf}
 use Rattle.writing.specs.Ascii.{ascii, byte}
 use Rattle.writing.specs.Numbers.{digit, decimal}
 use Rattle.naming.specs.Naming.{nameOf, within, texts}
+use Rattle.binary_text.specs.BinaryText.{bitsOf, isKnown, isX}
 use Rattle.waveform.specs.declared.Counts.{Counts}
 
 -- A variable's identifier code is one character: !, ", #, ..
@@ -57,8 +58,9 @@ header widths names m file =
 unfoldable pub timeLine : ℕ → List ℕ
 timeLine t = (byte "#" ∷ decimal t) ++ (byte "\n" ∷ [])
 
--- ---- a value: a bit is its figure and the code; more bits are b, the figures, most significant first, a space and the code. x
--- stands for every figure. Zeros in front are left out ("left-extended" by 0 when read), one figure stays.
+-- ---- a value: a bit is its figure and the code; more bits are b, the figures, most significant first, a space and the code. A known
+-- value is written without zeros in front ("left-extended" by 0 when read), one figure stays. One x stands for x in all bits
+-- ("left-extended" by x). Else there is a figure for each bit.
 
 -- At most so many figures of a number, the lowest where it has more.
 unfoldable pub shortened : ℕ → ℕ → List ℕ
@@ -66,8 +68,7 @@ shortened zero n = []
 shortened (suc w) n = pick (ltb n 2) (digit n ∷ []) (shortened w (n / 2) ++ (digit (n % 2) ∷ []))
 
 unfoldable pub figures : ℕ → Value → List ℕ
-figures w (Known n) = shortened w n
-figures w Unknown = byte "x" ∷ []
+figures w a = pick (isKnown a) (shortened w (numberOf a)) (pick (isX w a) (byte "x" ∷ []) (bitsOf w a))
 
 unfoldable pub valueLine : ℕ → ℕ → Value → List ℕ
 valueLine w v a =

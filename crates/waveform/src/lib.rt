@@ -1,4 +1,6 @@
 // A run as a value change dump (VCD, IEEE 1364), put into a lent buffer piece by piece.
+use binary_text::is_known;
+use binary_text::is_x;
 use sheet::byte_at;
 use trace_row::value_in;
 use values::Value;
@@ -9,7 +11,7 @@ ghost use mathlib.Core.Path.{_≡_};
 ghost use mathlib.Core.List.{_∷_, [], map};
 ghost use Prim.Native.Nat.{_+_, _<_};
 ghost use lib.ListN.{getD};
-ghost use Rattle.cells.specs.Cells.{cellAt};
+ghost use Rattle.values.specs.Cells.{cellAt};
 ghost use Rattle.values.specs.Values.{pick, same};
 ghost use Rattle.writing.specs.Ascii.{byte};
 ghost use Rattle.writing.specs.Buffer.{filled, puts};
@@ -188,10 +190,13 @@ fn put_shortened(width: u8, n: u32, text: &mut [u8; 65536], pos: usize) -> usize
 fn put_figures(width: u8, a: Value, text: &mut [u8; 65536], pos: usize) -> usize
     ensures { λ r. ⌜ filled (now (text .exit)) r ≡ puts (filled (now (text .entry)) pos) (figures width a) ⌝ }
 {
-    match a {
-        Value::Known(n) => put_shortened(width, n, text, pos),
-        Value::Unknown => put_byte(b'x', text, pos),
+    if is_known(a) {
+        return put_shortened(width, values::number_of(a), text, pos);
     }
+    if is_x(width, a) {
+        return put_byte(b'x', text, pos);
+    }
+    binary_text::put_value(width, a, text, pos)
 }
 
 // The identifier code and the line's end.

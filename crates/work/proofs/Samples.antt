@@ -2,13 +2,14 @@
 -- that has changed since before the commit. Counted from after the commit only the second does: the first reads the register alone.
 use mathlib.Core.Path.{_≡_, refl}
 use mathlib.Core.List.{[], _∷_}
-use Rattle.values.specs.Values.{same}
+use Rattle.values.specs.Values.{known, ones, allUnknown, same}
 use Rattle.values.specs.Edges.{level, moves, fires}
-use Rattle.values.specs.Planes.{valueAt, numberOf, isUnknown}
+use Rattle.values.specs.Planes.{valueAt, numberOf, marksOf}
 use Rattle.sheet.specs.Statement.{size}
 use Rattle.evaluation.specs.Evaluation.{eval, reads}
 use Rattle.pseudocode.specs.Translation.{translate, threadCode}
 use Rattle.state.specs.declared.State.{State}
+use Rattle.state.specs.Rows.{listOf}
 use Rattle.state.specs.State.{countOf, allowanceOf, withPlanes, withSlots, withPlaces, withMarks, withCounters, valueOf, withValue, pendingOf, withPending, withoutPending, placeOf, withPlace, isDue, withDue}
 use Rattle.events.specs.Cycle.{variables, codeOf, instrAt, current, wireExpr, wireVariable, anyBelow, isWait, threadEnabled, items, enabled, anyEnabled, isSome, anyPending, quiet, changed, termsFire, waitFires, fireBelow, touched, markBelow, react, runInstr, runThread, runWire, storeOne, storePending, commit}
 use Rattle.events.specs.Calls.{dueBelow, started, answer, spend, byUser, countedBy, counted, refusal, performed, chooseIn, resting, runBy, choicesBy, lowest, plainChoice}
@@ -18,7 +19,7 @@ use Rattle.work.proofs.Turns.{stored, end}
 
 -- What the samples compute with.
 unfoldable computing : Unit {0}
-unfolding same level moves fires valueAt numberOf isUnknown size eval reads translate threadCode withPlanes withSlots withPlaces withMarks withCounters valueOf withValue pendingOf withPending withoutPending placeOf withPlace isDue withDue variables codeOf instrAt current wireExpr wireVariable anyBelow isWait threadEnabled items enabled anyEnabled isSome anyPending quiet changed termsFire waitFires fireBelow touched markBelow react runInstr runThread runWire storeOne storePending commit dueBelow started countOf allowanceOf answer spend byUser countedBy counted refusal performed chooseIn resting runBy choicesBy lowest plainChoice upToCommit wiresOf readersBelow readers
+unfolding same level moves fires valueAt numberOf marksOf known ones allUnknown size eval reads translate threadCode withPlanes withSlots withPlaces withMarks withCounters valueOf withValue pendingOf withPending withoutPending placeOf withPlace isDue withDue variables codeOf instrAt current wireExpr wireVariable anyBelow isWait threadEnabled items enabled anyEnabled isSome anyPending quiet changed termsFire waitFires fireBelow touched markBelow react runInstr runThread runWire storeOne storePending commit dueBelow listOf started countOf allowanceOf answer spend byUser countedBy counted refusal performed chooseIn resting runBy choicesBy lowest plainChoice upToCommit wiresOf readersBelow readers
 computing = tt
 
 -- Two instructions and both wires have run; the commit is next.

@@ -3,7 +3,6 @@
 
 use crate::extraction::Extraction;
 use crate::module::Module;
-use crate::state::Slot;
 use crate::value::Value;
 use crate::values::Values;
 
@@ -26,11 +25,11 @@ impl<'a> Book<'a> {
     }
 
     /// An accepted instant with all inputs, the clock among them.
-    pub fn instant(&mut self, inputs: &[Slot]) {
+    pub fn instant(&mut self, inputs: &[Value]) {
         for (input, slot) in (0..).zip(inputs) {
-            self.values.set(input, slot.value());
+            self.values.set(input, *slot);
         }
-        if inputs[0].value() == Value::Known(1) {
+        if inputs[0] == Value::known(1) {
             self.rise();
         }
         self.values.settle();
@@ -47,9 +46,7 @@ impl<'a> Book<'a> {
                 let variable = self.module.inputs + register as u8;
                 self.values.set(variable, of(row.registers[register]));
             }
-            let Value::Known(next) = of(row.place) else {
-                unreachable!("a walk ends in a known place");
-            };
+            let next = of(row.place).as_known().expect("a walk ends in a known place");
             *place = next as u8;
         }
     }

@@ -3,7 +3,7 @@
 use crate::encode::encode;
 use crate::module::{Edge, Expr, Module, Operator, Stmt, Term};
 use crate::sheet::{Refusal, read};
-use crate::state::{MOST, Slot, State};
+use crate::state::{MOST, State};
 use crate::value::Value;
 
 pub const CLK: u8 = 0;
@@ -71,25 +71,22 @@ pub fn module(
     read(&sheet(inputs, registers, wires, threads))
 }
 
-/// The state in which the variables from 0 up have these values, nothing is due and all
+/// A module's state in which the variables from 0 up have these values, nothing is due and all
 /// places are 0.
-pub fn state(values: &[Option<u32>]) -> State {
-    let mut state = State::start(0, MOST);
+pub fn state(reading: &Result<Module, Refusal>, values: &[Option<u32>]) -> State {
+    let module = reading.as_ref().expect("read");
+    let mut state = State::start(&module.widths, 0, MOST);
     for (slot, &value) in state.values.iter_mut().zip(values) {
-        *slot = value.map_or(Slot::X, Slot::known);
+        *slot = value.map_or(*slot, Value::known);
     }
     state
 }
 
-pub fn known(numbers: &[u32]) -> Vec<Slot> {
-    numbers.iter().copied().map(Slot::known).collect()
+pub fn known(numbers: &[u32]) -> Vec<Value> {
+    numbers.iter().copied().map(Value::known).collect()
 }
 
-/// The values of the variables from 0 up, none for x.
+/// The values of the variables from 0 up, none where a bit is unknown.
 pub fn values(state: &State, count: usize) -> Vec<Option<u32>> {
-    let number = |slot: &Slot| match slot.value() {
-        Value::X => None,
-        Value::Known(number) => Some(number),
-    };
-    state.values[..count].iter().map(number).collect()
+    state.values[..count].iter().map(|value| value.as_known()).collect()
 }

@@ -5,7 +5,8 @@ use crate::machine::number;
 use crate::module::Module;
 use crate::sheet::Refusal;
 use crate::simulator::{PlainRun, Simulator, number_of};
-use crate::state::{Slot, State, USERS};
+use crate::state::{State, USERS};
+use crate::value::Value;
 
 /// Each gives its number, 0 where nothing was refused; the state becomes the one that the
 /// call hands back. A choice and a run have a user.
@@ -16,12 +17,12 @@ pub trait Calls {
     fn run(&self, state: &mut State, user: u8, choices: &[u8]) -> (usize, u8);
     fn run_plain(&self, state: &mut State, user: u8, limit: u16) -> PlainRun;
     /// All inputs, the clock first.
-    fn instant(&self, state: &mut State, inputs: &[Slot]) -> u8;
+    fn instant(&self, state: &mut State, inputs: &[Value]) -> u8;
 
     /// Clock cycles by events, the inputs from 1 up: for each row an instant with the clock low
     /// and one with the clock high, each with a plain run after it, up to the first that is refused
     /// or stopped; how many instants were done, and the number. 1 to 11, 31 and 46 come first.
-    fn run_cycles(&self, state: &mut State, user: u8, inputs: &[Vec<Slot>]) -> (usize, u8) {
+    fn run_cycles(&self, state: &mut State, user: u8, inputs: &[Vec<Value>]) -> (usize, u8) {
         let number = self.run_plain(state, user, 0).number;
         if number != 0 {
             return (0, number);
@@ -29,7 +30,7 @@ pub trait Calls {
         let mut done = 0;
         for row in inputs {
             for clock in [0, 1] {
-                let all = [&[Slot::known(clock)], &row[..]].concat();
+                let all = [&[Value::known(clock)], &row[..]].concat();
                 let number = match self.instant(state, &all) {
                     0 => self.run_plain(state, user, u16::MAX).number,
                     number => number,
@@ -45,7 +46,7 @@ pub trait Calls {
 
     fn extract(&self, nodes: &mut [u16], rows: &mut [u16]) -> u8;
     /// The inputs from 1 up. A refused one leaves registers, places and wires.
-    fn cycle(&self, nodes: &[u16], rows: &[u16], lane: &mut Lane, inputs: &[Slot]) -> u8;
+    fn cycle(&self, nodes: &[u16], rows: &[u16], lane: &mut Lane, inputs: &[Value]) -> u8;
 
     /// Cycle runs one after the other, up to the first that is refused; how many were
     /// accepted, and the number that stopped them. The lane becomes what the last accepted
@@ -55,11 +56,11 @@ pub trait Calls {
         nodes: &[u16],
         rows: &[u16],
         lane: &mut Lane,
-        inputs: &[Vec<Slot>],
+        inputs: &[Vec<Value>],
     ) -> (usize, u8) {
         if inputs.is_empty() {
             // Inputs are judged last, so with too many of them all else is judged.
-            let number = self.cycle(nodes, rows, &mut lane.clone(), &[Slot::ZERO; 17]);
+            let number = self.cycle(nodes, rows, &mut lane.clone(), &[Value::ZERO; 17]);
             return (0, if number == number::INPUTS { 0 } else { number });
         }
         for (accepted, inputs) in inputs.iter().enumerate() {
@@ -103,7 +104,7 @@ impl Calls for Reference<'_> {
         self.simulator.run_plain(state, user, limit)
     }
 
-    fn instant(&self, state: &mut State, inputs: &[Slot]) -> u8 {
+    fn instant(&self, state: &mut State, inputs: &[Value]) -> u8 {
         number_of(self.simulator.instant(state, inputs))
     }
 
@@ -111,8 +112,8 @@ impl Calls for Reference<'_> {
         number_of(self.compiler.extract(nodes, rows))
     }
 
-    fn cycle(&self, nodes: &[u16], rows: &[u16], lane: &mut Lane, inputs: &[Slot]) -> u8 {
-        // By value a refused cycle run gives x for all wires.
+    fn cycle(&self, nodes: &[u16], rows: &[u16], lane: &mut Lane, inputs: &[Value]) -> u8 {
+        // By value a refused cycle run gives 32 marks for each wire.
         let mut next = lane.clone();
         let number = number_of(self.compiler.cycle(nodes, rows, &mut next, inputs));
         if number == 0 {

@@ -7,13 +7,14 @@
 use crate::extraction::words::Tables;
 use crate::extraction::{self, Extraction, NODE_WORDS, REGISTERS, ROW_WORDS, number};
 use crate::module::Module;
-use crate::saved::write_slot;
+use crate::saved::write_value;
 use crate::sheet::Refusal;
-use crate::state::{MARKS, PLACES, Slot};
+use crate::state::{MARKS, PLACES};
 
 mod run;
 pub mod table;
 
+use crate::value::Value;
 use table::Table;
 
 /// A sheet to be compiled, or the number (1 to 21) that every call gives for it.
@@ -28,23 +29,23 @@ struct Compiled<'a> {
 }
 
 /// The bytes of a lane.
-pub const LANE_BYTES: usize = 5 * REGISTERS + PLACES + 5 * MARKS;
+pub const LANE_BYTES: usize = 8 * REGISTERS + PLACES + 8 * MARKS;
 
 /// What a cycle run is handed and gives: the wires are given only.
 #[derive(Clone, Debug, PartialEq, Eq)]
 pub struct Lane {
-    pub registers: [Slot; REGISTERS],
+    pub registers: [Value; REGISTERS],
     pub places: [u8; PLACES],
-    pub wires: [Slot; MARKS],
+    pub wires: [Value; MARKS],
 }
 
 impl Lane {
     /// Registers, places and wires as bytes.
     pub fn bytes(&self) -> Vec<u8> {
         let mut bytes = Vec::with_capacity(LANE_BYTES);
-        self.registers.iter().for_each(|register| write_slot(register, &mut bytes));
+        self.registers.iter().for_each(|register| write_value(register, &mut bytes));
         bytes.extend(self.places);
-        self.wires.iter().for_each(|wire| write_slot(wire, &mut bytes));
+        self.wires.iter().for_each(|wire| write_value(wire, &mut bytes));
         bytes
     }
 }
@@ -79,15 +80,15 @@ impl<'a> Compiler<'a> {
     }
 
     /// One clock cycle on lent tables, with the inputs from 1 up: 23, 1 to 21, 24, 31, 25.
-    /// A refused one leaves registers and places as they were and gives x for all wires.
+    /// A refused one leaves registers and places as they were and gives 32 marks for each wire.
     pub fn cycle(
         &self,
         nodes: &[u16],
         rows: &[u16],
         lane: &mut Lane,
-        inputs: &[Slot],
+        inputs: &[Value],
     ) -> Result<(), u8> {
-        lane.wires = [Slot::X; MARKS];
+        lane.wires = [Value::NOWHERE; MARKS];
         lent(nodes, rows)?;
         let Compiled { module, extraction, .. } = self.compiled()?;
         let threads = &extraction.threads;

@@ -1,7 +1,8 @@
 //! Many clock cycles in one call, by events.
 
 use crate::simulator::{Simulator, Verdict, number_of};
-use crate::state::{Slot, State};
+use crate::state::State;
+use crate::value::Value;
 
 /// What a run over rows of inputs gives beside the state reached.
 #[derive(Clone, Copy, Debug, PartialEq, Eq)]
@@ -31,7 +32,7 @@ impl Simulator<'_> {
     /// Runs to rest, then for each row of inputs, from input 1 up, an instant with the
     /// clock 0 and one with the clock 1, each followed by a plain run of at most 65,535
     /// choices of the user. Ends at the first refusal.
-    pub fn run_cycles(&self, state: &mut State, user: u8, rows: &[Vec<Slot>]) -> CyclesRun {
+    pub fn run_cycles(&self, state: &mut State, user: u8, rows: &[Vec<Value>]) -> CyclesRun {
         let mut run =
             CyclesRun { rows: 0, at: Step::First, number: 0, verdict: Verdict::Refused };
         run.number = number_of(self.take_rows(state, user, rows, &mut run));
@@ -42,14 +43,14 @@ impl Simulator<'_> {
         &self,
         state: &mut State,
         user: u8,
-        rows: &[Vec<Slot>],
+        rows: &[Vec<Value>],
         run: &mut CyclesRun,
     ) -> Result<(), u8> {
         self.rest(state, user, run)?;
         for (row, inputs) in rows.iter().enumerate() {
             for clock in [0, 1] {
                 run.at = Step::Instant { row, clock };
-                self.instant(state, &[&[Slot::known(clock)], &inputs[..]].concat())?;
+                self.instant(state, &[&[Value::known(clock)], &inputs[..]].concat())?;
                 run.at = Step::Rest { row, clock };
                 self.rest(state, user, run)?;
             }

@@ -64,8 +64,8 @@ fn field_difference(left: &str, right: &str) -> Option<String> {
 
 /// Fields: a name, how many there are, and the bytes of each.
 const STATE: [(&str, usize, usize); 7] = [
-    ("value", 80, 5),
-    ("pending", 32, 6),
+    ("value", 80, 8),
+    ("pending", 32, 9),
     ("place", 8, 1),
     ("mark", 32, 1),
     ("time", 1, 8),
@@ -73,7 +73,7 @@ const STATE: [(&str, usize, usize); 7] = [
     ("allowance", 4, 4),
 ];
 const CYCLE: [(&str, usize, usize); 3] =
-    [("register", 32, 5), ("place", 8, 1), ("wire", 32, 5)];
+    [("register", 32, 8), ("place", 8, 1), ("wire", 32, 8)];
 
 /// The field that a byte lies in: its name, first byte and length.
 fn field(fields: &[(&str, usize, usize)], byte: usize) -> Option<(String, usize, usize)> {

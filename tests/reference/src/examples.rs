@@ -4,6 +4,7 @@
 use crate::build::{CLK, add, any, at_clk, known, later, mux, num, set, sheet, state, v};
 use crate::module::Stmt;
 use crate::replay::{Record, Script};
+use crate::sheet::read;
 
 /// The values before, the inputs, and orders of choices, each from the same state.
 type Case<'a> = (&'a [Option<u32>], &'a [u32], &'a [&'a [u8]]);
@@ -23,10 +24,11 @@ pub fn scripts() -> Vec<Vec<u8>> {
 }
 
 fn script(sheet: &[u8], cases: &[Case]) -> Vec<u8> {
+    let reading = read(sheet);
     let mut records = vec![Record::Read, Record::List];
     for (values, inputs, orders) in cases {
         for order in *orders {
-            records.push(Record::Load(Box::new(state(values))));
+            records.push(Record::Load(Box::new(state(&reading, values))));
             records.push(Record::Instant(known(inputs)));
             records.push(Record::Dump);
             for &choice in *order {

@@ -267,10 +267,17 @@ impl<'a> Generator<'a> {
     }
 }
 
-/// An operator that can give the width.
+/// The operators that keep known bits beside unknown ones.
+const BITWISE: [Operator; 5] =
+    [Operator::Invert, Operator::And, Operator::Or, Operator::Xor, Operator::Conditional];
+
+/// An operator that can give the width, mostly a bitwise one.
 pub fn operator(width: u8, random: &mut Random) -> Operator {
     loop {
-        let operator = random.pick(&Operator::ALL);
+        let operator = match random.chance(1, 2) {
+            true => random.pick(&BITWISE),
+            false => random.pick(&Operator::ALL),
+        };
         let gives_one_bit =
             matches!(operator, Operator::Not | Operator::Equal | Operator::Less);
         if width == 1 || !gives_one_bit {

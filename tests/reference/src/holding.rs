@@ -7,10 +7,10 @@ use crate::lanes;
 use crate::random::Random;
 use crate::replay::UNWRITTEN;
 use crate::sheet::read;
-use crate::state::Slot;
 
 mod cycles;
 
+use crate::value::Value;
 use cycles::Both;
 
 /// Words behind the lent ones that no call may reach.
@@ -70,8 +70,8 @@ impl Holding {
             (Ok(module), Ok(extraction)) => both.accepted(module, extraction, random),
             _ => {
                 let right = (NODE_WORDS, ROW_WORDS);
-                both.cycle(right, &lanes::anything(random), &[Slot::X])?;
-                both.cycles(right, &lanes::anything(random), &[vec![Slot::X]])
+                both.cycle(right, &lanes::anything(random), &[Value::NOWHERE])?;
+                both.cycles(right, &lanes::anything(random), &[vec![Value::NOWHERE]])
             }
         }
     }

@@ -6,8 +6,8 @@ use std::path::Path;
 use std::process::Command;
 
 use crate::module::Module;
-use crate::stimulus::Rows;
-use crate::trace::{After, numbers};
+use crate::trace::After;
+use crate::value::Value;
 
 /// A module in Verilog: its name, its clock's port, its text.
 pub struct Text<'a> {
@@ -16,18 +16,16 @@ pub struct Text<'a> {
     pub verilog: String,
 }
 
-/// What each cycle comes to in Icarus; the files lie in the folder. Registers that have no number at
-/// the start are x.
+/// What each cycle comes to in Icarus, from the start on, where all is x; the files lie in the folder.
 pub fn trace(
     folder: &Path,
     module: &Module,
     text: &Text,
-    start: &[u32],
-    rows: &Rows,
+    rows: &[Vec<Value>],
 ) -> Result<Vec<After>, String> {
     let write = |name: &str, text: &str| fs::write(folder.join(name), text);
     let written = write("module.v", &text.verilog)
-        .and_then(|()| write("bench.v", &test_bench(module, text, start, rows)));
+        .and_then(|()| write("bench.v", &test_bench(module, text, rows)));
     written.map_err(|e| format!("{}: {e}", folder.display()))?;
     run(folder, "iverilog", &["-g2005", "-o", "bench.vvp", "bench.v", "module.v"])?;
     let out = run(folder, "vvp", &["-n", "bench.vvp"])?;
@@ -44,16 +42,43 @@ pub fn run(folder: &Path, program: &str, arguments: &[&str]) -> Result<String, S
     }
 }
 
-/// A line that the test bench prints; none with an x in it.
+/// A line that the test bench prints.
 fn after(line: &str) -> Option<After> {
-    let parts: Option<Vec<Vec<u32>>> = line.split('|').map(numbers).collect();
+    let values = |part: &str| part.split_whitespace().map(value).collect();
+    let parts: Option<Vec<Vec<Value>>> = line.split('|').map(values).collect();
     let [low, registers, wires] = parts?.try_into().ok()?;
     Some(After { low, registers, wires })
 }
 
-/// The registers set by an `initial`; then for each row the clock low with the row's inputs, and
-/// the clock high with nothing else changed.
-fn test_bench(module: &Module, text: &Text, start: &[u32], rows: &Rows) -> String {
+/// A value by its digits 0, 1 and x, the highest first.
+fn value(digits: &str) -> Option<Value> {
+    let mut value = Value::ZERO;
+    for digit in digits.chars() {
+        let (number, unknown) = match digit {
+            '0' => (0, 0),
+            '1' => (1, 0),
+            'x' => (0, 1),
+            _ => return None,
+        };
+        value =
+            Value { number: value.number << 1 | number, unknown: value.unknown << 1 | unknown };
+    }
+    Some(value)
+}
+
+/// The digits of a value.
+fn digits(value: Value, width: u8) -> String {
+    let digit = |bit: u8| match (value.unknown >> bit & 1, value.number >> bit & 1) {
+        (0, 0) => '0',
+        (0, _) => '1',
+        _ => 'x',
+    };
+    (0..width).rev().map(digit).collect()
+}
+
+/// For each row the clock low with the row's inputs, and the clock high with nothing else changed.
+/// Nothing sets a register but the module itself.
+fn test_bench(module: &Module, text: &Text, rows: &[Vec<Value>]) -> String {
     let widths = &module.widths;
     let mut bench = String::from("module bench;\n  reg clk;\n");
     let mut ports = format!(".{}(clk)", text.clock);
@@ -62,16 +87,13 @@ fn test_bench(module: &Module, text: &Text, start: &[u32], rows: &Rows) -> Strin
         write!(ports, ", .i{v}(i{v})").expect("text");
     }
     writeln!(bench, "  {} dut ({ports});\n  initial begin", text.name).expect("text");
-    for (r, number) in start.iter().enumerate() {
-        let width = widths[usize::from(module.inputs) + r];
-        writeln!(bench, "    dut.r{r} = {width}'d{number};").expect("text");
-    }
     let (registers, wires) =
         (shown('r', module.registers.into()), shown('w', module.wires.len()));
     for row in rows {
         write!(bench, "    #1 clk = 0;").expect("text");
-        for (v, number) in (1..).zip(row) {
-            write!(bench, " i{v} = {}'d{number};", widths[v]).expect("text");
+        for (v, &value) in (1..).zip(row) {
+            let width = widths[v];
+            write!(bench, " i{v} = {width}'b{};", digits(value, width)).expect("text");
         }
         writeln!(bench, "\n    #1 {wires} $write(\"|\"); clk = 1;").expect("text");
         writeln!(bench, "    #1 {registers} $write(\"|\"); {wires} $write(\"\\n\");")
@@ -81,11 +103,11 @@ fn test_bench(module: &Module, text: &Text, start: &[u32], rows: &Rows) -> Strin
     bench
 }
 
-/// Writes the variables of a letter, in hexadecimal.
+/// Writes the variables of a letter, bit by bit.
 fn shown(letter: char, count: usize) -> String {
     let names: Vec<String> = (0..count).map(|i| format!("dut.{letter}{i}")).collect();
     match count {
         0 => String::new(),
-        _ => format!("$write(\"{}\", {});", vec!["%0h"; count].join(" "), names.join(", ")),
+        _ => format!("$write(\"{}\", {});", vec!["%b"; count].join(" "), names.join(", ")),
     }
 }

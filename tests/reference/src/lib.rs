@@ -29,6 +29,7 @@ pub mod census;
 
 pub mod build;
 pub mod examples;
+pub mod operators;
 pub mod lively;
 pub mod extractable;
 pub mod refused;

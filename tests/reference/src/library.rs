@@ -6,7 +6,7 @@
 pub const TEXT: usize = 65_536;
 
 /// The bytes of a saved state, with the one that names its form.
-pub const SAVED: usize = 689;
+pub const SAVED: usize = 1_025;
 
 use crate::state::USERS;
 use crate::text::{Answer, Labels, VARIABLES};
@@ -39,9 +39,11 @@ unsafe extern "C" {
     /// number of a refusal, where the text stays.
     fn walbryts_list(sheet: *const u8, len: usize, text: *mut u8, length: *mut usize) -> u8;
 
-    /// A saved state of any form into the bytes of one, with these allowances where it has one
-    /// count; 31 where it is none or that count is above the first of them.
+    /// A saved state of any form into the bytes of one, of a sheet, with these allowances where it has
+    /// one count: 1 to 11; 31 where it is none or that count is above the first of them.
     fn walbryts_bring_over(
+        sheet: *const u8,
+        sheet_len: usize,
         old: *const u8,
         len: usize,
         allowances: *const u32,
@@ -72,14 +74,14 @@ unsafe extern "C" {
         choices_len: usize,
         accepted: *mut usize,
     ) -> u8;
-    /// 16 numbers and 16 flags; the count may be another.
+    /// 16 numbers and 16 marks; the count may be another.
     fn walbryts_instant(
         sheet: *const u8,
         len: usize,
         state: *mut u8,
         count: u8,
         value: *const u32,
-        unknown: *const bool,
+        unknown: *const u32,
     ) -> u8;
     fn walbryts_run_plain(
         sheet: *const u8,
@@ -97,7 +99,7 @@ unsafe extern "C" {
         user: u8,
         value: *const u32,
         values: usize,
-        unknown: *const bool,
+        unknown: *const u32,
         unknowns: usize,
         phases: *mut usize,
         running: *mut bool,
@@ -123,13 +125,13 @@ unsafe extern "C" {
         rows: *const u16,
         rows_len: usize,
         value: *mut u32,
-        unknown: *mut bool,
+        unknown: *mut u32,
         places: *mut u8,
         count: u8,
         inputs: *const u32,
-        inputs_unknown: *const bool,
+        inputs_unknown: *const u32,
         wire: *mut u32,
-        unsure: *mut bool,
+        unsure: *mut u32,
     ) -> u8;
 
     /// Cycle runs one after the other, one for each 16 inputs, the first of which is the clock's
@@ -143,15 +145,15 @@ unsafe extern "C" {
         rows: *const u16,
         rows_len: usize,
         value: *mut u32,
-        unknown: *mut bool,
+        unknown: *mut u32,
         places: *mut u8,
         inputs: *const u32,
         inputs_len: usize,
-        inputs_unknown: *const bool,
+        inputs_unknown: *const u32,
         unknowns: usize,
         cycles: *mut usize,
         wire: *mut u32,
-        unsure: *mut bool,
+        unsure: *mut u32,
     ) -> u8;
 }
 
@@ -191,10 +193,16 @@ pub fn list(sheet: &[u8], text: &mut [u8; TEXT]) -> (u8, usize) {
 }
 
 /// A saved state of any form, brought over; the number.
-pub fn bring_over(old: &[u8], allowances: [u32; USERS], state: &mut [u8; SAVED]) -> u8 {
-    let (at, len, state) = (old.as_ptr(), old.len(), state.as_mut_ptr());
+pub fn bring_over(
+    sheet: &[u8],
+    old: &[u8],
+    allowances: [u32; USERS],
+    state: &mut [u8; SAVED],
+) -> u8 {
+    let (at, len) = (sheet.as_ptr(), sheet.len());
+    let (old, old_len, state) = (old.as_ptr(), old.len(), state.as_mut_ptr());
     // Safety: as above, the state has the length of a saved one, and there are four allowances.
-    unsafe { walbryts_bring_over(at, len, allowances.as_ptr(), state) }
+    unsafe { walbryts_bring_over(at, len, old, old_len, allowances.as_ptr(), state) }
 }
 
 /// The start state, saved, and the number.
@@ -224,7 +232,7 @@ pub fn run(sheet: &[u8], state: &mut [u8; SAVED], user: u8, choices: &[u8]) -> (
 pub fn instant(sheet: &[u8], state: &mut [u8; SAVED], inputs: &Inputs) -> u8 {
     let Inputs { count, value, unknown } = inputs;
     let (at, len, state) = (sheet.as_ptr(), sheet.len(), state.as_mut_ptr());
-    // Safety: as above, and there are 16 numbers and flags.
+    // Safety: as above, and there are 16 numbers and marks.
     unsafe { walbryts_instant(at, len, state, *count, value.as_ptr(), unknown.as_ptr()) }
 }
 
@@ -245,7 +253,7 @@ pub fn run_cycles(
     state: &mut [u8; SAVED],
     user: u8,
     value: &[u32],
-    unknown: &[bool],
+    unknown: &[u32],
 ) -> (usize, u8) {
     let (mut phases, mut running) = (0, false);
     // Safety: as above, with the pointer and the length of each slice.
@@ -311,7 +319,7 @@ pub fn cycles(
     rows: &[u16],
     planes: &mut Planes,
     value: &[u32],
-    unknown: &[bool],
+    unknown: &[u32],
 ) -> (usize, u8) {
     let mut cycles = usize::MAX;
     // Safety: as above, with the pointer and the length of each slice.

@@ -62,7 +62,7 @@ impl<'a> Machine<'a> {
     }
 
     pub fn start(&self, allowances: [u32; USERS]) -> State {
-        State::start(self.module.wires.len(), allowances)
+        State::start(&self.module.widths, self.module.wires.len(), allowances)
     }
 
     /// How many items there are: threads, then wires.

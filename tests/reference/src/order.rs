@@ -9,7 +9,8 @@ use crate::machine::Machine;
 use crate::module::Module;
 use crate::random::Random;
 use crate::sheet::Refusal;
-use crate::state::{MOST, Slot, State, USERS};
+use crate::state::{MOST, State, USERS};
+use crate::value::Value;
 
 mod clauses;
 mod cycle;
@@ -64,7 +65,7 @@ pub fn check(
     let reference = Reference::new(reading);
     let module = reading.as_ref().map_err(|refusal| format!("{refusal:?}"))?;
     let extraction = reference.compiler.extraction().map_err(|n| format!("refused: {n}"))?;
-    let rows: Vec<Vec<Slot>> = (0..cycles).map(|_| lanes::inputs(module, random)).collect();
+    let rows: Vec<Vec<Value>> = (0..cycles).map(|_| lanes::inputs(module, random)).collect();
     let mut counts = Counts::NONE;
     counts.cycle_runs = cycle::check(calls, module, extraction, &rows)?;
     for order in Order::ALL {
@@ -135,11 +136,11 @@ impl<'a, C: Calls> List<'a, C> {
 
     /// By turns the clock low with new inputs and the clock high with nothing else changed.
     /// Where all four allowances are used up before the rest, the list ends there.
-    fn drive(&mut self, rows: &[Vec<Slot>]) -> Outcome {
+    fn drive(&mut self, rows: &[Vec<Value>]) -> Outcome {
         self.rest()?;
         for row in rows {
             for clock in [0, 1] {
-                let inputs = [&[Slot::known(clock)], &row[..]].concat();
+                let inputs = [&[Value::known(clock)], &row[..]].concat();
                 if !self.machine.quiet(&self.state) {
                     self.counts.used_up += 1;
                     return self.ends_here(&inputs);
@@ -152,7 +153,7 @@ impl<'a, C: Calls> List<'a, C> {
     }
 
     /// No user's choice is accepted any more, and no instant.
-    fn ends_here(&mut self, inputs: &[Slot]) -> Outcome {
+    fn ends_here(&mut self, inputs: &[Value]) -> Outcome {
         let choice = self.machine.lowest(&self.state);
         for user in 0..USERS as u8 {
             let number = self.calls.choose(&mut self.state.clone(), user, choice);
@@ -174,7 +175,7 @@ impl<'a, C: Calls> List<'a, C> {
     }
 
     /// An instant that is to be accepted.
-    fn instant(&mut self, inputs: &[Slot]) -> Outcome {
+    fn instant(&mut self, inputs: &[Value]) -> Outcome {
         self.counts.calls += 1;
         self.last = format!("instant {}", self.counts.instants);
         let number = self.calls.instant(&mut self.state, inputs);

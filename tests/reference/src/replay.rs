@@ -3,9 +3,10 @@
 use std::io::{self, Write};
 
 use crate::compiler::Compiler;
+use crate::dispatch::{Answer, dispatch};
 use crate::module::Module;
 use crate::pseudocode;
-use crate::saved::{bring_over, write_state};
+use crate::saved::{bring_over, write_state, write_turns};
 use crate::sheet::{self, Refusal};
 use crate::simulator::{Simulator, number_of};
 use crate::state::State;
@@ -81,8 +82,9 @@ impl<'a> Session<'a> {
                 "load".into()
             }
             Record::Bring(saved, allowances) => {
-                let read = simulator.machine().map(|_| ());
-                let brought = read.and_then(|()| bring_over(saved, *allowances));
+                let machine = simulator.machine();
+                let brought = machine
+                    .and_then(|machine| bring_over(machine.module(), saved, *allowances));
                 format!("bring {}", number_of(brought.map(|brought| *state = brought)))
             }
             Record::Dump => {
@@ -109,6 +111,17 @@ impl<'a> Session<'a> {
                 let mut buffer = vec![0xAA; BUFFER.into()];
                 let answer = read_text(text, &mut buffer[..usize::from(*lent)]);
                 format!("text {} {} {}", answer.number, answer.length, hex(&buffer))
+            }
+            Record::Dispatch(turns, last) => {
+                let mut turns = turns.clone();
+                let (number, picked) = match dispatch(&mut turns, *last) {
+                    Answer::Picked(picked) => (0, picked.to_string()),
+                    Answer::Nobody => (0, "none".into()),
+                    Answer::Refused(number) => (number, "none".into()),
+                };
+                let mut bytes = Vec::new();
+                write_turns(&turns, &mut bytes);
+                format!("dispatch {number} {picked} {}", hex(&bytes))
             }
         }
     }

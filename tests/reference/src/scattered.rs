@@ -3,15 +3,17 @@
 use crate::machine::Machine;
 use crate::pseudocode::Instruction;
 use crate::random::Random;
-use crate::state::{MOST, Pending, Slot, State};
-use crate::states::fitting_slot;
+use crate::state::{MOST, Pending, State};
+use crate::states::fitting_value;
+use crate::value::Value;
 
 /// Values that fit, each thread at any of its instructions, wires due or not, nothing pending.
 pub fn anywhere(machine: &Machine, random: &mut Random) -> State {
     let module = machine.module();
     let mut state = State { allowances: MOST, ..State::ZERO };
     for (slot, &width) in state.values.iter_mut().zip(&module.widths) {
-        *slot = if random.chance(1, 8) { Slot::X } else { fitting_slot(width, random) };
+        *slot =
+            if random.chance(1, 8) { Value::x(width) } else { fitting_value(width, random) };
     }
     for (place, code) in state.places.iter_mut().zip(machine.code()) {
         *place = random.below(code.len()) as u8;
@@ -45,7 +47,7 @@ pub fn pend(state: &mut State, machine: &Machine, random: &mut Random) {
     let one = random.below(widths.len());
     for (register, &width) in widths.iter().enumerate() {
         if register == one || random.chance(1, 3) {
-            state.pending[register] = Pending::of(fitting_slot(width, random).value());
+            state.pending[register] = Pending::of(fitting_value(width, random));
         }
     }
 }

@@ -7,9 +7,10 @@ use crate::machine::{COMMIT, Machine};
 use crate::module::Module;
 use crate::random::Random;
 use crate::replay::{Lent, Record, Script, Session};
-use crate::saved::{save, save_long, save_short};
+use crate::saved::{COUNTS, LONG, SHORT, save, save_old};
 use crate::sheet;
-use crate::state::{Slot, State};
+use crate::state::State;
+use crate::value::Value;
 use crate::{extractable, generate, limits, mutate, refused, states, text};
 
 mod tables;
@@ -196,11 +197,13 @@ impl Writer<'_> {
     fn bring(&mut self) -> Record {
         let state = self.state();
         let random = &mut self.random;
-        let mut saved = match save_short(&state) {
-            Some(short) if random.chance(1, 2) => short,
-            _ if random.chance(1, 2) => save_long(&state),
-            _ => save(&state),
+        let old = match random.below(5) {
+            0 => save_old(SHORT, &state),
+            1 => save_old(LONG, &state),
+            2 | 3 => save_old(COUNTS, &state),
+            _ => None,
         };
+        let mut saved = old.unwrap_or_else(|| save(&state));
         let mut allowances = states::allowances(random);
         let count = u32::try_from(state.counts[0]).unwrap_or(u32::MAX);
         match random.below(8) {
@@ -267,7 +270,7 @@ impl Writer<'_> {
     // ---- inputs and states
 
     /// Mostly as many as the module has.
-    fn inputs(&mut self) -> Vec<Slot> {
+    fn inputs(&mut self) -> Vec<Value> {
         let mut inputs = self.inputs_in_number();
         let length = match self.random.below(32) {
             0 => inputs.len() + 1,
@@ -275,30 +278,30 @@ impl Writer<'_> {
             2 => self.random.pick(&[0, 15, 16, 17, 18, 255]),
             _ => inputs.len(),
         };
-        inputs.resize(length, Slot::ZERO);
+        inputs.resize(length, Value::ZERO);
         inputs
     }
 
     /// Mostly inputs that fit. Half of them stay as they are; the clock goes to and fro.
-    fn inputs_in_number(&mut self) -> Vec<Slot> {
+    fn inputs_in_number(&mut self) -> Vec<Value> {
         let Some(module) = self.module else {
-            return vec![Slot::known(self.random.below(3) as u32); self.random.below(4)];
+            return vec![Value::known(self.random.below(3) as u32); self.random.below(4)];
         };
         let random = &mut self.random;
         let careless = random.chance(1, 12);
         let present = self.session.state.values.iter().zip(&module.widths);
-        let mut inputs: Vec<Slot> = present
+        let mut inputs: Vec<Value> = present
             .take(module.inputs.into())
             .map(|(slot, &width)| match random.chance(1, 2) {
                 true => *slot,
-                false if careless => states::slot(width, random),
-                false => states::fitting_slot(width, random),
+                false if careless => states::value(width, random),
+                false => states::fitting_value(width, random),
             })
             .collect();
         match random.below(8) {
-            0 => inputs[0] = Slot::X,
+            0 => inputs[0] = Value::x(1),
             1 => {}
-            _ => inputs[0] = Slot::known(u32::from(inputs[0] == Slot::known(0))),
+            _ => inputs[0] = Value::known(u32::from(inputs[0] == Value::known(0))),
         }
         inputs
     }

@@ -9,25 +9,12 @@ use crate::compiler::Lane;
 use crate::extraction::text::Thread;
 use crate::extraction::{NODE_WORDS, REGISTERS, ROW_WORDS};
 use crate::machine::{COMMIT, Machine};
-use crate::module::{Expr, Module, Operator, Stmt};
+use crate::module::Module;
 use crate::random::Random;
 use crate::sheet;
-use crate::state::{MARKS, MOST, PLACES, Slot, State, USERS};
+use crate::state::{MARKS, MOST, PLACES, State, USERS};
 use crate::trace::{After, Trace};
-
-/// A module that Icarus runs otherwise, since its x stands bit by bit and ours as a whole: where r0
-/// is x, `r0 & 0` is 0 there and x here, so that the condition holds there and fails here. After
-/// one cycle all registers are known, and r1 is 1 there and 2 here.
-pub fn differs_on_x() -> Module {
-    let constant = |value| Expr::Constant { width: 8, value };
-    let masked = Expr::Operation(Operator::And, vec![Expr::Variable(1), constant(0)]);
-    let condition = Expr::Operation(Operator::Equal, vec![masked, constant(0)]);
-    let branch =
-        Stmt::if_else(condition, Stmt::Later(2, constant(1)), Stmt::Later(2, constant(2)));
-    let thread = Stmt::list(vec![Stmt::posedge(0), branch, Stmt::Later(1, constant(0))]);
-    let (widths, wires, threads) = (vec![1, 8, 8], Vec::new(), vec![thread]);
-    Module { inputs: 1, registers: 2, widths, wires, threads }
-}
+use crate::value::Value;
 
 /// How many drawn orders a trace is run in.
 pub const ORDERS: usize = 2;
@@ -87,7 +74,7 @@ impl<C: Calls> Held<'_, C> {
             (cycle.inputs.len(), low.len(), r.len(), w.len())
                 == (inputs, wires, registers, wires)
         });
-        match whole && self.trace.start.len() == registers && !self.trace.cycles.is_empty() {
+        match whole && !self.trace.cycles.is_empty() {
             true => Ok(()),
             false => Err("the trace has another number of values".into()),
         }
@@ -95,26 +82,21 @@ impl<C: Calls> Held<'_, C> {
 
     // ---- events
 
-    /// The start state with the trace's registers loaded, brought to rest.
-    fn loaded(&self) -> Outcome<State> {
+    /// The start state brought to rest.
+    fn started(&self) -> Outcome<State> {
         let mut state = State::ZERO;
         refused("start", self.calls.start(&mut state, MOST))?;
-        let registers = &mut state.values[self.module.inputs.into()..];
-        for (slot, &number) in registers.iter_mut().zip(&self.trace.start) {
-            *slot = Slot::known(number);
-        }
         refused("run", self.calls.run_plain(&mut state, 0, u16::MAX).number)?;
         Ok(state)
     }
 
     /// By plain runs, or by choices drawn among those that are enabled; how many ran.
     fn by_events(&self, mut order: Option<&mut Random>) -> Outcome<u64> {
-        let mut state = self.loaded()?;
+        let mut state = self.started()?;
         for (number, cycle) in self.trace.cycles.iter().enumerate() {
-            let inputs: Vec<Slot> = cycle.inputs.iter().map(|&n| Slot::known(n)).collect();
             let mut low = Vec::new();
             for clock in [0, 1] {
-                let inputs = [&[Slot::known(clock)], &inputs[..]].concat();
+                let inputs = [&[Value::known(clock)], &cycle.inputs[..]].concat();
                 refused("instant", self.calls.instant(&mut state, &inputs))?;
                 self.rest(&mut state, order.as_deref_mut())?;
                 if clock == 0 {
@@ -145,7 +127,7 @@ impl<C: Calls> Held<'_, C> {
 
     /// All cycles in one call; what they end with.
     fn by_rows(&self) -> Outcome {
-        let mut state = self.loaded()?;
+        let mut state = self.started()?;
         let (done, number) = self.calls.run_cycles(&mut state, 0, &self.rows());
         refused("rows", number)?;
         let last = self.trace.cycles.len() - 1;
@@ -165,13 +147,13 @@ impl<C: Calls> Held<'_, C> {
         let (mut nodes, mut rows) = (vec![0; NODE_WORDS], vec![0; ROW_WORDS]);
         refused("extraction", self.calls.extract(&mut nodes, &mut rows))?;
         let mut lane = Lane {
-            registers: [Slot::X; REGISTERS],
+            registers: [Value::NOWHERE; REGISTERS],
             places: [0; PLACES],
-            wires: [Slot::X; MARKS],
+            wires: [Value::NOWHERE; MARKS],
         };
-        for (slot, &number) in lane.registers.iter_mut().zip(&self.trace.start) {
-            *slot = Slot::known(number);
-        }
+        let widths = &self.module.widths[self.module.inputs.into()..];
+        let own = widths.iter().zip(&mut lane.registers).take(self.module.registers.into());
+        own.for_each(|(&width, register)| *register = Value::x(width));
         let mut many = lane.clone();
         let inputs = self.rows();
         let mut reached = BTreeSet::new();
@@ -188,35 +170,30 @@ impl<C: Calls> Held<'_, C> {
         }
     }
 
-    fn of_lane(&self, lane: &Lane) -> [(&'static str, Vec<Option<u32>>); 2] {
-        let registers = shown(&lane.registers[..self.module.registers.into()]);
-        let wires = shown(&lane.wires[..self.module.wires.len()]);
+    fn of_lane(&self, lane: &Lane) -> [(&'static str, Vec<Value>); 2] {
+        let registers = lane.registers[..self.module.registers.into()].to_vec();
+        let wires = lane.wires[..self.module.wires.len()].to_vec();
         [("registers", registers), ("wires", wires)]
     }
 
     // ---- comparing
 
-    fn rows(&self) -> Vec<Vec<Slot>> {
-        let row = |inputs: &Vec<u32>| inputs.iter().map(|&n| Slot::known(n)).collect();
-        self.trace.cycles.iter().map(|cycle| row(&cycle.inputs)).collect()
+    fn rows(&self) -> Vec<Vec<Value>> {
+        self.trace.cycles.iter().map(|cycle| cycle.inputs.clone()).collect()
     }
 
-    fn registers(&self, state: &State) -> Vec<Option<u32>> {
+    fn registers(&self, state: &State) -> Vec<Value> {
         let first = usize::from(self.module.inputs);
-        shown(&state.values[first..first + usize::from(self.module.registers)])
+        state.values[first..first + usize::from(self.module.registers)].to_vec()
     }
 
-    fn wires(&self, state: &State) -> Vec<Option<u32>> {
+    fn wires(&self, state: &State) -> Vec<Value> {
         let first = usize::from(self.module.inputs + self.module.registers);
-        shown(&state.values[first..first + self.module.wires.len()])
+        state.values[first..first + self.module.wires.len()].to_vec()
     }
 
     /// What was found in a cycle is what the trace has.
-    fn equal<const N: usize>(
-        &self,
-        number: usize,
-        found: [(&str, Vec<Option<u32>>); N],
-    ) -> Outcome {
+    fn equal<const N: usize>(&self, number: usize, found: [(&str, Vec<Value>); N]) -> Outcome {
         let After { low, registers, wires } = &self.trace.cycles[number].after;
         for (what, found) in found {
             let expected = match what {
@@ -225,22 +202,16 @@ impl<C: Calls> Held<'_, C> {
                 _ => wires,
             };
             let pairs = found.iter().zip(expected).enumerate();
-            for (index, (found, &expected)) in pairs {
-                if *found != Some(expected) {
-                    let found = found.map_or("x".into(), |n| format!("{n:x}"));
+            for (index, (found, expected)) in pairs {
+                if found != expected {
                     return Err(format!(
-                        "cycle {number}: {what} {index} is {found}, in the trace {expected:x}"
+                        "cycle {number}: {what} {index} is {found}, in the trace {expected}"
                     ));
                 }
             }
         }
         Ok(())
     }
-}
-
-/// Numbers, none for x.
-fn shown(slots: &[Slot]) -> Vec<Option<u32>> {
-    slots.iter().map(|slot| (!slot.unknown).then_some(slot.number)).collect()
 }
 
 fn refused(call: &str, number: u8) -> Outcome {

@@ -6,7 +6,8 @@
 use crate::machine::{Machine, number};
 use crate::module::Module;
 use crate::sheet::Refusal;
-use crate::state::{Slot, State, USERS};
+use crate::state::{State, USERS};
+use crate::value::Value;
 
 /// A sheet to be simulated, or the number (1 to 11) that every call gives for it.
 pub struct Simulator<'a> {
@@ -94,7 +95,7 @@ impl<'a> Simulator<'a> {
     }
 
     /// 1 to 11, 31, 25, 32, 36. The clock is the first of the inputs.
-    pub fn instant(&self, state: &mut State, inputs: &[Slot]) -> Result<(), u8> {
+    pub fn instant(&self, state: &mut State, inputs: &[Value]) -> Result<(), u8> {
         self.judged(state)?.instant(state, inputs)
     }
 

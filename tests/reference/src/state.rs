@@ -1,5 +1,6 @@
 //! The state of a simulation, in the form in which calls are handed it.
 
+use crate::sheet::MOST_WIDTH;
 use crate::value::Value;
 
 pub const VALUES: usize = 80;
@@ -16,7 +17,7 @@ pub const MOST: [u32; USERS] = [u32::MAX; USERS];
 #[derive(Clone, Debug, PartialEq, Eq, Hash, PartialOrd, Ord)]
 pub struct State {
     /// By variable.
-    pub values: [Slot; VALUES],
+    pub values: [Value; VALUES],
     /// By register.
     pub pending: [Pending; PENDING],
     /// By thread.
@@ -30,57 +31,29 @@ pub struct State {
     pub allowances: [u32; USERS],
 }
 
-/// Where a value is kept. Under x the number means nothing, but it is carried along.
-#[derive(Clone, Copy, Debug, PartialEq, Eq, Hash, PartialOrd, Ord)]
-pub struct Slot {
-    pub unknown: bool,
-    pub number: u32,
-}
-
 /// Where a register's pending value is kept. With the flag down the slot means nothing.
 #[derive(Clone, Copy, Debug, PartialEq, Eq, Hash, PartialOrd, Ord)]
 pub struct Pending {
     pub held: bool,
-    pub slot: Slot,
-}
-
-impl Slot {
-    pub const ZERO: Slot = Slot { unknown: false, number: 0 };
-    pub const X: Slot = Slot { unknown: true, number: 0 };
-
-    pub const fn known(number: u32) -> Slot {
-        Slot { unknown: false, number }
-    }
-
-    /// The slot that a store leaves: 0 under x.
-    pub fn of(value: Value) -> Slot {
-        match value {
-            Value::X => Slot::X,
-            Value::Known(number) => Slot::known(number),
-        }
-    }
-
-    pub fn value(self) -> Value {
-        if self.unknown { Value::X } else { Value::Known(self.number) }
-    }
+    pub slot: Value,
 }
 
 impl Pending {
-    pub const NONE: Pending = Pending { held: false, slot: Slot::ZERO };
+    pub const NONE: Pending = Pending { held: false, slot: Value::ZERO };
 
     pub fn of(value: Value) -> Pending {
-        Pending { held: true, slot: Slot::of(value) }
+        Pending { held: true, slot: value }
     }
 
     pub fn value(self) -> Option<Value> {
-        self.held.then(|| self.slot.value())
+        self.held.then_some(self.slot)
     }
 }
 
 impl State {
     /// All zero, nothing unknown.
     pub const ZERO: State = State {
-        values: [Slot::ZERO; VALUES],
+        values: [Value::ZERO; VALUES],
         pending: [Pending::NONE; PENDING],
         places: [0; PLACES],
         due: [false; MARKS],
@@ -89,9 +62,12 @@ impl State {
         allowances: [0; USERS],
     };
 
-    /// At the start all is x, places and counters 0, every wire due; the allowances are fixed.
-    pub fn start(wires: usize, allowances: [u32; USERS]) -> State {
-        let mut state = State { values: [Slot::X; VALUES], allowances, ..State::ZERO };
+    /// At the start all is x, each value in its variable's bits and in all 32 past the last; places
+    /// and counters are 0, every wire is due, and the allowances are fixed.
+    pub fn start(widths: &[u8], wires: usize, allowances: [u32; USERS]) -> State {
+        let width = |variable: usize| widths.get(variable).copied().unwrap_or(MOST_WIDTH);
+        let values = std::array::from_fn(|variable| Value::x(width(variable)));
+        let mut state = State { values, allowances, ..State::ZERO };
         state.due[..wires].fill(true);
         state
     }

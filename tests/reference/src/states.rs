@@ -2,8 +2,8 @@
 
 use crate::module::Module;
 use crate::random::Random;
-use crate::state::{MARKS, PENDING, PLACES, Pending, Slot, State, USERS, VALUES};
-use crate::value::mask;
+use crate::state::{MARKS, PENDING, PLACES, Pending, State, USERS, VALUES};
+use crate::value::{Value, mask};
 
 /// The sizes that a state is held against; those of a small module where there is none.
 struct Sizes<'a> {
@@ -40,8 +40,8 @@ impl<'a> Sizes<'a> {
     }
 }
 
-/// A slot for a value of the width, now and then too wide, and x with any number.
-pub fn slot(width: u8, random: &mut Random) -> Slot {
+/// A value of the width with any marks, now and then too wide or with a number under a mark.
+pub fn value(width: u8, random: &mut Random) -> Value {
     let most = mask(width);
     let number = match random.below(8) {
         0 => most,
@@ -51,15 +51,38 @@ pub fn slot(width: u8, random: &mut Random) -> Slot {
         4 => 0,
         _ => random.number() as u32 & most,
     };
-    Slot { unknown: random.chance(1, 8), number }
+    let unknown = marks(width, random);
+    match random.chance(1, 12) {
+        true => Value { number, unknown },
+        false => Value { number: number & !unknown, unknown },
+    }
 }
 
-/// A slot for a value of the width.
-pub fn fitting_slot(width: u8, random: &mut Random) -> Slot {
+/// Mostly none; else a few, all of the width, or too many.
+fn marks(width: u8, random: &mut Random) -> u32 {
+    let most = mask(width);
+    match random.below(24) {
+        0 => most,
+        1 => most.wrapping_add(1),
+        2 => random.number() as u32,
+        3 => most & 1 << random.below(width.into()),
+        4 => random.number() as u32 & random.number() as u32 & most,
+        5 | 6 => random.number() as u32 & most,
+        _ => 0,
+    }
+}
+
+/// Any number and marks at all.
+pub fn any_value(random: &mut Random) -> Value {
+    Value { number: random.number() as u32, unknown: random.number() as u32 }
+}
+
+/// A value that fits the width.
+pub fn fitting_value(width: u8, random: &mut Random) -> Value {
     loop {
-        let slot = slot(width, random);
-        if slot.value().fits(width) {
-            return slot;
+        let value = value(width, random);
+        if value.fits(width) {
+            return value;
         }
     }
 }
@@ -83,11 +106,11 @@ pub fn disturb(state: &mut State, module: Option<&Module>, random: &mut Random) 
     match random.below(16) {
         0..=3 => {
             let variable = index(sizes.widths.len(), VALUES, random);
-            state.values[variable] = slot(sizes.width(variable), random);
+            state.values[variable] = value(sizes.width(variable), random);
         }
         4 | 5 => {
             let register = index(sizes.registers, PENDING, random);
-            let slot = slot(sizes.width(sizes.inputs + register), random);
+            let slot = value(sizes.width(sizes.inputs + register), random);
             state.pending[register] = Pending { held: random.chance(3, 4), slot };
         }
         6 | 7 => {
@@ -136,25 +159,19 @@ pub fn allowances(random: &mut Random) -> [u32; USERS] {
 /// Gives every variable a known value.
 pub fn make_known(state: &mut State, module: &Module, random: &mut Random) {
     for (slot, &width) in state.values.iter_mut().zip(&module.widths) {
-        *slot = Slot::known(fitting_slot(width, random).number & mask(width));
+        *slot = Value::known(fitting_value(width, random).number);
     }
 }
 
-/// Puts anything into what isn't looked at: numbers under x, slots without a pending
-/// value, values and places past the sheet's.
+/// Puts anything into what isn't looked at: slots without a pending value, values and places past
+/// the sheet's.
 pub fn litter(state: &mut State, module: &Module, random: &mut Random) {
-    for (variable, slot) in state.values.iter_mut().enumerate() {
-        if variable >= module.widths.len() {
-            *slot = Slot { unknown: random.chance(1, 2), number: random.number() as u32 };
-        }
+    for value in &mut state.values[module.widths.len()..] {
+        *value = any_value(random);
     }
     let pending = state.pending.iter_mut();
     for pending in pending.filter(|pending| !pending.held) {
-        pending.slot = Slot { unknown: random.chance(1, 2), number: random.number() as u32 };
-    }
-    let slots = state.values.iter_mut().chain(state.pending.iter_mut().map(|p| &mut p.slot));
-    for slot in slots.filter(|slot| slot.unknown) {
-        slot.number = random.number() as u32;
+        pending.slot = any_value(random);
     }
     for place in &mut state.places[module.threads.len()..] {
         *place = random.byte();
@@ -164,8 +181,8 @@ pub fn litter(state: &mut State, module: &Module, random: &mut Random) {
 /// Any state at all.
 pub fn noise(random: &mut Random) -> State {
     let mut state = State::ZERO;
-    state.values = std::array::from_fn(|_| slot(8, random));
-    let pending = |_| Pending { held: random.chance(1, 16), slot: slot(8, random) };
+    state.values = std::array::from_fn(|_| value(8, random));
+    let pending = |_| Pending { held: random.chance(1, 16), slot: value(8, random) };
     state.pending = std::array::from_fn(pending);
     state.places = std::array::from_fn(|_| random.byte());
     state.due = std::array::from_fn(|_| random.chance(1, 16));

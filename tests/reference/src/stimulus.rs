@@ -1,11 +1,13 @@
-//! Modules and known inputs for comparisons with other simulators, whose x is another: bit by bit.
+//! Modules and inputs for comparisons with other simulators.
 
+use crate::book::Book;
 use crate::extractable;
+use crate::extraction::extract;
 use crate::module::{Expr, Module, Stmt};
 use crate::random::Random;
-use crate::value::mask;
+use crate::value::{Value, mask};
 
-/// The inputs of each cycle, from input 1 up.
+/// Known inputs of each cycle, from input 1 up.
 pub type Rows = Vec<Vec<u32>>;
 
 // ---- the bench modules
@@ -35,48 +37,6 @@ pub fn bench_rows(name: &str, cycles: usize, seed: u64) -> Rows {
 
 // ---- random modules
 
-/// A random module that extraction accepts, without unknown constants.
-pub fn known_module(random: &mut Random) -> Module {
-    let mut module = extractable::module(random);
-    module.wires.iter_mut().for_each(|wire| make_known(wire, random));
-    module.threads.iter_mut().for_each(|thread| make_known_in(thread, random));
-    module
-}
-
-/// Puts a known constant in the place of each unknown one.
-fn make_known(e: &mut Expr, random: &mut Random) {
-    match e {
-        Expr::Unknown { width } => {
-            *e = Expr::Constant { width: *width, value: number(*width, random) }
-        }
-        Expr::Operation(_, operands) => {
-            operands.iter_mut().for_each(|operand| make_known(operand, random));
-        }
-        Expr::Variable(_) | Expr::Constant { .. } => {}
-    }
-}
-
-fn make_known_in(s: &mut Stmt, random: &mut Random) {
-    match s {
-        Stmt::Empty | Stmt::Wait(_) => {}
-        Stmt::Set(_, e) | Stmt::Later(_, e) => make_known(e, random),
-        Stmt::Sequence(a, b) => {
-            make_known_in(a, random);
-            make_known_in(b, random);
-        }
-        Stmt::If(e, a) | Stmt::While(e, a) => {
-            make_known(e, random);
-            make_known_in(a, random);
-        }
-        Stmt::IfElse(e, a, b) => {
-            make_known(e, random);
-            make_known_in(a, random);
-            make_known_in(b, random);
-        }
-        Stmt::Forever(a) => make_known_in(a, random),
-    }
-}
-
 /// A module whose Verilog is about as long as can be: threads of many assignments, nested deep.
 pub fn deep_module() -> Module {
     let assignment = Stmt::Later(1, Expr::Variable(1));
@@ -87,25 +47,72 @@ pub fn deep_module() -> Module {
     Module { inputs: 1, registers: 1, widths, wires, threads }
 }
 
-/// Known registers that fit.
-pub fn registers(module: &Module, random: &mut Random) -> Vec<u32> {
-    let widths = &module.widths[module.inputs.into()..][..module.registers.into()];
-    widths.iter().map(|&width| number(width, random)).collect()
+/// The rows as values, with unknown bits here and there. Now and then the first row, which resets,
+/// stands in the place of another, so that what was lost is known again.
+pub fn blurred(rows: &Rows, module: &Module, random: &mut Random) -> Vec<Vec<Value>> {
+    let widths = &module.widths[1..module.inputs.into()];
+    let blur = |row: &Vec<u32>| {
+        if random.chance(1, 12) {
+            return rows[0].iter().copied().map(Value::known).collect();
+        }
+        let pairs = row.iter().zip(widths);
+        pairs.map(|(&number, &width)| some_unknown(number, width, 10, random)).collect()
+    };
+    rows.iter().map(blur).collect()
 }
 
-/// Known inputs that fit; now and then one stays as it was.
-pub fn rows(module: &Module, cycles: usize, random: &mut Random) -> Rows {
+/// Inputs that fit, some with unknown bits; now and then one stays as it was.
+fn rows(module: &Module, cycles: usize, random: &mut Random) -> Vec<Vec<Value>> {
     let widths = &module.widths[1..module.inputs.into()];
-    let mut row: Vec<u32> = vec![0; widths.len()];
+    let mut row: Vec<Value> = vec![Value::ZERO; widths.len()];
     let next = |_| {
         for (value, &width) in row.iter_mut().zip(widths) {
             if random.chance(2, 3) {
-                *value = number(width, random);
+                *value = some_unknown(number(width, random), width, 3, random);
             }
         }
         row.clone()
     };
     (0..cycles).map(next).collect()
+}
+
+/// Whether some register comes to have known bits beside unknown ones.
+fn comes_to_parts(module: &Module, rows: &[Vec<Value>]) -> bool {
+    let extraction = extract(module).expect("extractable");
+    let mut book = Book::new(module, &extraction);
+    let registers = module.inputs..module.inputs + module.registers;
+    rows.iter().any(|row| {
+        for clock in [0, 1] {
+            book.instant(&[&[Value::known(clock)], &row[..]].concat());
+        }
+        registers.clone().any(|register| {
+            let unknown = book.values.get(register).unknown;
+            unknown != 0 && unknown != mask(module.widths[usize::from(register)])
+        })
+    })
+}
+
+/// A random module that extraction accepts, and inputs; where it is asked for, one in which some
+/// register comes to have known bits beside unknown ones.
+pub fn sample(cycles: usize, parts: bool, random: &mut Random) -> (Module, Vec<Vec<Value>>) {
+    loop {
+        let module = extractable::module(random);
+        let rows = rows(&module, cycles, random);
+        if !parts || comes_to_parts(&module, &rows) {
+            return (module, rows);
+        }
+    }
+}
+
+/// The number, one time in so many with unknown bits: one, any, or all.
+fn some_unknown(number: u32, width: u8, times: usize, random: &mut Random) -> Value {
+    let unknown = match random.below(5 * times) {
+        0 | 1 => mask(width) & 1 << random.below(width.into()),
+        2 | 3 => random.number() as u32 & mask(width),
+        4 => mask(width),
+        _ => 0,
+    };
+    Value { number: number & !unknown, unknown }
 }
 
 /// Small numbers and the greatest one more often than others.

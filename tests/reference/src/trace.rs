@@ -1,26 +1,26 @@
-//! Stored traces of a second simulator: what a module was handed and what it gave, cycle by cycle.
-//! All values are known.
+//! Stored traces of a second simulator: what a module was handed from its start on, where all is x, and
+//! what it gave, cycle by cycle.
 //!
-//! As text: `module NAME`, `sheet` with the sheet's bytes, `start` with the registers before the
-//! first cycle, then a line a cycle: the inputs from 1 up, the wires with the clock low, the
-//! registers and the wires after the clock's rise, with `|` between these four. Numbers are
-//! hexadecimal; lines that start with `#` say what the file is.
+//! As text: `module NAME`, `sheet` with the sheet's bytes, then a line a cycle: the inputs from 1 up,
+//! the wires with the clock low, the registers and the wires after the clock's rise, with `|` between
+//! these four. A value is its number in hexadecimal, and behind a `?` the marks of its unknown bits
+//! where it has any; lines that start with `#` say what the file is.
 
 use std::fmt::{self, Display, Formatter};
+
+use crate::value::Value;
 
 #[derive(Clone, Debug, PartialEq, Eq)]
 pub struct Trace {
     pub name: String,
     pub sheet: Vec<u8>,
-    /// The registers before the first cycle.
-    pub start: Vec<u32>,
     pub cycles: Vec<Cycle>,
 }
 
 #[derive(Clone, Debug, PartialEq, Eq)]
 pub struct Cycle {
     /// From input 1 up.
-    pub inputs: Vec<u32>,
+    pub inputs: Vec<Value>,
     pub after: After,
 }
 
@@ -28,23 +28,26 @@ pub struct Cycle {
 #[derive(Clone, Debug, PartialEq, Eq)]
 pub struct After {
     /// The wires with the clock low and the cycle's inputs.
-    pub low: Vec<u32>,
+    pub low: Vec<Value>,
     /// The registers after the rise.
-    pub registers: Vec<u32>,
+    pub registers: Vec<Value>,
     /// The wires after the rise.
-    pub wires: Vec<u32>,
+    pub wires: Vec<Value>,
 }
 
 // ---- writing
 
-/// Numbers with spaces between them.
-struct Numbers<'a>(&'a [u32]);
+/// Values with spaces between them.
+struct Values<'a>(&'a [Value]);
 
-impl Display for Numbers<'_> {
+impl Display for Values<'_> {
     fn fmt(&self, f: &mut Formatter) -> fmt::Result {
-        for (index, number) in self.0.iter().enumerate() {
+        for (index, Value { number, unknown }) in self.0.iter().enumerate() {
             let space = if index == 0 { "" } else { " " };
-            write!(f, "{space}{number:x}")?;
+            match unknown {
+                0 => write!(f, "{space}{number:x}")?,
+                _ => write!(f, "{space}{number:x}?{unknown:x}")?,
+            }
         }
         Ok(())
     }
@@ -53,8 +56,8 @@ impl Display for Numbers<'_> {
 impl Display for Cycle {
     fn fmt(&self, f: &mut Formatter) -> fmt::Result {
         let After { low, registers, wires } = &self.after;
-        let [inputs, low] = [&self.inputs, low].map(|part| Numbers(part));
-        write!(f, "{inputs}|{low}|{}|{}", Numbers(registers), Numbers(wires))
+        let [inputs, low] = [&self.inputs, low].map(|part| Values(part));
+        write!(f, "{inputs}|{low}|{}|{}", Values(registers), Values(wires))
     }
 }
 
@@ -63,7 +66,7 @@ impl Display for Trace {
         writeln!(f, "module {}", self.name)?;
         write!(f, "sheet ")?;
         self.sheet.iter().try_for_each(|byte| write!(f, "{byte:02x}"))?;
-        writeln!(f, "\nstart {}", Numbers(&self.start))?;
+        writeln!(f)?;
         self.cycles.iter().try_for_each(|cycle| writeln!(f, "{cycle}"))
     }
 }
@@ -84,15 +87,12 @@ fn parse_line(line: &str, traces: &mut Vec<Trace>) -> Option<()> {
         return Some(());
     }
     if let Some(name) = line.strip_prefix("module ") {
-        let (sheet, start, cycles) = (Vec::new(), Vec::new(), Vec::new());
-        traces.push(Trace { name: name.into(), sheet, start, cycles });
+        traces.push(Trace { name: name.into(), sheet: Vec::new(), cycles: Vec::new() });
         return Some(());
     }
     let trace = traces.last_mut()?;
     if let Some(digits) = line.strip_prefix("sheet ") {
         trace.sheet = bytes(digits)?;
-    } else if let Some(registers) = line.strip_prefix("start ") {
-        trace.start = numbers(registers)?;
     } else {
         trace.cycles.push(cycle(line)?);
     }
@@ -100,14 +100,19 @@ fn parse_line(line: &str, traces: &mut Vec<Trace>) -> Option<()> {
 }
 
 fn cycle(line: &str) -> Option<Cycle> {
-    let parts: Option<Vec<Vec<u32>>> = line.split('|').map(numbers).collect();
+    let parts: Option<Vec<Vec<Value>>> = line.split('|').map(values).collect();
     let [inputs, low, registers, wires] = parts?.try_into().ok()?;
     Some(Cycle { inputs, after: After { low, registers, wires } })
 }
 
-/// Numbers with spaces between them, none in no text.
-pub fn numbers(text: &str) -> Option<Vec<u32>> {
-    text.split_whitespace().map(|digits| u32::from_str_radix(digits, 16).ok()).collect()
+/// Values with spaces between them, none in no text.
+fn values(text: &str) -> Option<Vec<Value>> {
+    let hex = |digits: &str| u32::from_str_radix(digits, 16).ok();
+    let value = |word: &str| match word.split_once('?') {
+        Some((number, unknown)) => Some(Value { number: hex(number)?, unknown: hex(unknown)? }),
+        None => hex(word).map(Value::known),
+    };
+    text.split_whitespace().map(value).collect()
 }
 
 fn bytes(digits: &str) -> Option<Vec<u8>> {

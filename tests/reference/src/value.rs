@@ -1,69 +1,146 @@
 //! Values, operators, conditions and edges.
 //!
-//! Document 01, "Values and pseudo-code" and "The simulation cycle".
+//! Document 01, "Values and pseudo-code" and "The simulation cycle", with document 02's requests
+//! [2] and [4].
+
+use std::fmt::{self, Display, Formatter};
 
 use crate::module::{Edge, Expr, Operator, Variable};
-use crate::sheet::result_width;
+use crate::sheet::{MOST_WIDTH, result_width};
 
-/// A number below 2^width, or x as a whole.
+/// A number and the marks of its unknown bits. Under each mark the number has 0; one that hasn't
+/// can be handed over, and is judged there.
 #[derive(Clone, Copy, Debug, PartialEq, Eq, Hash, PartialOrd, Ord)]
-pub enum Value {
-    X,
-    Known(u32),
+pub struct Value {
+    pub number: u32,
+    pub unknown: u32,
 }
 
-use Value::{Known, X};
+/// What a value is as a condition.
+#[derive(Clone, Copy, Debug, PartialEq, Eq)]
+pub enum Truth {
+    Holds,
+    Fails,
+    Unknown,
+}
 
 impl Value {
-    /// A condition holds if known and not zero.
-    pub fn holds(self) -> bool {
-        !matches!(self, X | Known(0))
+    pub const ZERO: Value = Value::known(0);
+    /// Where no width is at hand: all 32 bits are unknown.
+    pub const NOWHERE: Value = Value::x(MOST_WIDTH);
+
+    pub const fn known(number: u32) -> Value {
+        Value { number, unknown: 0 }
     }
 
+    /// Unknown in every bit of the width.
+    pub const fn x(width: u8) -> Value {
+        Value { number: 0, unknown: mask(width) }
+    }
+
+    /// By the bits that are known to be 1 and to be 0; the others of the width are unknown.
+    fn by_bits(width: u8, ones: u32, zeros: u32) -> Value {
+        Value { number: ones, unknown: mask(width) & !(ones | zeros) }
+    }
+
+    /// The bits known to be 0.
+    fn zeros(self, width: u8) -> u32 {
+        mask(width) & !(self.number | self.unknown)
+    }
+
+    pub fn is_known(self) -> bool {
+        self.unknown == 0
+    }
+
+    /// The number, where every bit is known.
+    pub fn as_known(self) -> Option<u32> {
+        self.is_known().then_some(self.number)
+    }
+
+    /// Some known bit is 1; or all bits are known and 0; or neither.
+    pub fn truth(self) -> Truth {
+        match (self.number, self.unknown) {
+            (0, 0) => Truth::Fails,
+            (0, _) => Truth::Unknown,
+            _ => Truth::Holds,
+        }
+    }
+
+    /// A condition holds if some known bit is 1.
+    pub fn holds(self) -> bool {
+        self.truth() == Truth::Holds
+    }
+
+    /// Number and marks are below 2^width, with 0 under each mark.
     pub fn fits(self, width: u8) -> bool {
-        match self {
-            X => true,
-            Known(number) => number <= mask(width),
+        self.number <= mask(width)
+            && self.unknown <= mask(width)
+            && self.number & self.unknown == 0
+    }
+}
+
+/// The number, and behind a `?` the marks in hexadecimal where there are any.
+impl Display for Value {
+    fn fmt(&self, f: &mut Formatter) -> fmt::Result {
+        match (self.number, self.unknown) {
+            (number, 0) => write!(f, "{number}"),
+            (number, unknown) => write!(f, "{number}?{unknown:x}"),
         }
     }
 }
 
 /// The greatest number of a width, 1 to 32.
-pub fn mask(width: u8) -> u32 {
-    u32::MAX >> (32 - u32::from(width))
+pub const fn mask(width: u8) -> u32 {
+    u32::MAX >> (32 - width as u32)
 }
 
-/// What an operator gives. The width is that of its first operand. An operator with
-/// an x operand gives x; ?: gives x on an x condition and else the chosen arm.
+/// What an operator gives. The width is that of its first operand.
 pub fn apply(operator: Operator, width: u8, operands: &[Value]) -> Value {
     match (operator, operands) {
-        (Operator::Conditional, &[X, ..]) => X,
-        (Operator::Conditional, &[Known(0), _, arm] | &[Known(_), arm, _]) => arm,
-        (_, &[Known(a)]) => Known(unary(operator, width, a)),
-        (_, &[Known(a), Known(b)]) => Known(binary(operator, width, a, b)),
-        _ => X,
+        (Operator::Conditional, &[condition, a, b]) => choose(condition, a, b),
+        (Operator::Invert, &[a]) => Value::by_bits(width, a.zeros(width), a.number),
+        (Operator::Not, &[a]) => match a.truth() {
+            Truth::Holds => Value::known(0),
+            Truth::Fails => Value::known(1),
+            Truth::Unknown => Value::x(1),
+        },
+        (_, &[a, b]) => binary(operator, width, a, b),
+        _ => unreachable!("as many operands as the operator has"),
     }
 }
 
-fn unary(operator: Operator, width: u8, a: u32) -> u32 {
+/// Bit by bit for `&`, `|` and `^`. Addition and subtraction wrap at the width; they and `<` give all
+/// unknown on any unknown bit. `==` gives 0 where bits known in both differ, else x on any unknown
+/// bit.
+fn binary(operator: Operator, width: u8, a: Value, b: Value) -> Value {
+    let ((a1, a0), (b1, b0)) = ((a.number, a.zeros(width)), (b.number, b.zeros(width)));
+    let unlike = a1 & b0 | a0 & b1;
+    let surely = |width, number| match a.is_known() && b.is_known() {
+        true => Value::known(number),
+        false => Value::x(width),
+    };
     match operator {
-        Operator::Invert => a ^ mask(width),
-        Operator::Not => u32::from(a == 0),
-        _ => unreachable!("an operator of one operand"),
-    }
-}
-
-/// Addition and subtraction wrap at the width.
-fn binary(operator: Operator, width: u8, a: u32, b: u32) -> u32 {
-    match operator {
-        Operator::And => a & b,
-        Operator::Or => a | b,
-        Operator::Xor => a ^ b,
-        Operator::Add => a.wrapping_add(b) & mask(width),
-        Operator::Subtract => a.wrapping_sub(b) & mask(width),
-        Operator::Equal => u32::from(a == b),
-        Operator::Less => u32::from(a < b),
+        Operator::And => Value::by_bits(width, a1 & b1, a0 | b0),
+        Operator::Or => Value::by_bits(width, a1 | b1, a0 & b0),
+        Operator::Xor => Value::by_bits(width, unlike, a1 & b1 | a0 & b0),
+        Operator::Add => surely(width, a1.wrapping_add(b1) & mask(width)),
+        Operator::Subtract => surely(width, a1.wrapping_sub(b1) & mask(width)),
+        Operator::Equal if unlike != 0 => Value::known(0),
+        Operator::Equal => surely(1, 1),
+        Operator::Less => surely(1, u32::from(a1 < b1)),
         _ => unreachable!("an operator of two operands"),
+    }
+}
+
+/// The arm chosen; on an unknown condition the bits in which both arms agree, the others unknown.
+fn choose(condition: Value, a: Value, b: Value) -> Value {
+    match condition.truth() {
+        Truth::Holds => a,
+        Truth::Fails => b,
+        Truth::Unknown => {
+            let unknown = a.unknown | b.unknown | a.number ^ b.number;
+            Value { number: a.number & b.number, unknown }
+        }
     }
 }
 
@@ -82,10 +159,10 @@ pub fn evaluate(e: &Expr, scope: &impl Scope) -> Value {
 fn evaluate_sized(e: &Expr, scope: &impl Scope) -> (Value, u8) {
     match e {
         Expr::Variable(variable) => (scope.value(*variable), scope.width(*variable)),
-        Expr::Constant { width, value } => (Known(*value), *width),
-        Expr::Unknown { width } => (X, *width),
+        Expr::Constant { width, value } => (Value::known(*value), *width),
+        Expr::Unknown { width } => (Value::x(*width), *width),
         Expr::Operation(operator, operands) => {
-            let mut values = [X; 3];
+            let mut values = [Value::ZERO; 3];
             let mut widths = [0; 3];
             for (index, operand) in operands.iter().enumerate() {
                 (values[index], widths[index]) = evaluate_sized(operand, scope);
@@ -98,11 +175,13 @@ fn evaluate_sized(e: &Expr, scope: &impl Scope) -> (Value, u8) {
     }
 }
 
-/// Whether the edge fires as a variable goes from one value to another.
+/// Whether the edge fires as a variable goes from one value to another. A change is one of number
+/// or marks.
 pub fn fires(edge: Edge, before: Value, now: Value) -> bool {
+    let (low, high) = (Value::known(0), Value::known(1));
     match edge {
         Edge::Any => now != before,
-        Edge::Posedge => now != before && (before == Known(0) || now == Known(1)),
-        Edge::Negedge => now != before && (before == Known(1) || now == Known(0)),
+        Edge::Posedge => now != before && (before == low || now == high),
+        Edge::Negedge => now != before && (before == high || now == low),
     }
 }

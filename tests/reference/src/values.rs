@@ -13,9 +13,9 @@ pub struct Values<'a> {
 }
 
 impl<'a> Values<'a> {
-    /// All x.
+    /// All x, each in its variable's bits.
     pub fn unknown(module: &'a Module) -> Values<'a> {
-        Values { module, values: vec![Value::X; module.widths.len()] }
+        Values { module, values: module.widths.iter().map(|&width| Value::x(width)).collect() }
     }
 
     pub fn set(&mut self, variable: Variable, value: Value) {
@@ -49,8 +49,8 @@ impl<'a> Values<'a> {
     fn of_node(&self, node: Node, earlier: impl Fn(Id) -> (Value, u8)) -> (Value, u8) {
         match node {
             Node::Variable(variable) => (self.value(variable), self.width(variable)),
-            Node::Constant { width, value } => (Value::Known(value), width),
-            Node::Unknown { width } => (Value::X, width),
+            Node::Constant { width, value } => (Value::known(value), width),
+            Node::Unknown { width } => (Value::x(width), width),
             Node::Operation(operator, ids) => {
                 let operands = ids.map(&earlier);
                 let arity = operator.arity();

@@ -10,8 +10,9 @@ use crate::random::Random;
 use crate::scattered;
 use crate::sheet::Refusal;
 use crate::simulator::Verdict;
-use crate::state::{MOST, Slot, State, USERS};
-use crate::states::fitting_slot;
+use crate::state::{MOST, State, USERS};
+use crate::states::fitting_value;
+use crate::value::Value;
 
 /// How much was done.
 #[derive(Clone, Copy, Debug, PartialEq, Eq)]
@@ -95,8 +96,8 @@ impl<C: Calls> Desk<'_, C> {
     fn instant(&mut self, state: &mut State) -> Outcome {
         let module = self.machine.module();
         let widths = &module.widths[..module.inputs.into()];
-        let inputs: Vec<Slot> =
-            widths.iter().map(|&width| fitting_slot(width, self.random)).collect();
+        let inputs: Vec<Value> =
+            widths.iter().map(|&width| fitting_value(width, self.random)).collect();
         let before = state.clone();
         let number = self.calls.instant(state, &inputs);
         if number != 0 {
@@ -189,7 +190,7 @@ impl<C: Calls> Desk<'_, C> {
         };
         let changed = |variable: u8| {
             let variable = usize::from(variable);
-            from.values[variable].value() != to.values[variable].value()
+            from.values[variable] != to.values[variable]
         };
         let wires = self.machine.module().wires.iter().enumerate();
         let readers = wires.filter(|(_, wire)| variables(wire).into_iter().any(changed));

@@ -149,7 +149,7 @@ impl<C: Calls> Desk<'_, C> {
 fn shown(module: &Module, instruction: Instruction, state: &State) -> Option<Write> {
     match instruction {
         Instruction::Set(target, _) => {
-            Some(Write::Stored(target, state.values[usize::from(target)].value()))
+            Some(Write::Stored(target, state.values[usize::from(target)]))
         }
         Instruction::Later(target, _) => {
             let pending = state.pending[usize::from(target - module.inputs)];

@@ -38,7 +38,7 @@ returns-3 c =
     cycled (planOf (a .plan .now)) (nodeAt (a .lent .now)) (a .table .now) (a .numbers .now) (a .before) (a .given)
     (sym (j .before .registers-fit .ensures) ∙ not-false _ (j .if1 .left))
     (sym (i .before .inputs-fit .ensures) ∙ not-false _ (i .if2 .left))
-    (u .upper .ensures .0) (h .hand .ensures) (p .put-items .ensures) (s .settle .ensures) (r .rise .ensures)
+    (u .upper .ensures .0) (h .hand .ensures) (p .put-values .ensures) (s .settle .ensures) (r .rise .ensures)
     (c .before .before .settle2 .ensures)
     (c .answer .ensures)
 

@@ -7,10 +7,10 @@ use Rattle.clock_run.proofs.hand.Tie as tie
 returns : tie.Need-returns
 unfolding handOn
 returns c =
-    let n = c .before .before .before .before .before .before .before in
+    let n = c .before .before .before .before .before .before .before .before in
     rw (
       c .put-cell .ensures,
-      c .before .before .put-registers .ensures,
+      c .before .before .put-values .ensures,
       n .at-most .ensures .0,
       n .before .registers .ensures,
       n .before .before .inputs .ensures,
@@ -23,6 +23,8 @@ hand-spec =
     (λ c κs. search needs)
     (λ c κs. search needs)
     (λ c κs. search needs)
+    (λ c. search needs)
+    (λ c. search needs)
     (λ c κs. search needs)
     (λ c κs. search needs)
     returns)

@@ -10,11 +10,11 @@ use Rattle.clock_run.proofs.put_row.Statement.{statement}
 use Rattle.clock_run.proofs.put_row.Tie as tie
 
 abbrev Inv-loop : tie.InvT-loop
-Inv-loop first end clock cells places at out₀ k₀ out k =
-    (k ≤ 88) × (length out ≡ length out₀) × (out ≡ putWords (wordOf first end clock cells places) at k out₀)
+Inv-loop end clock cells places at out₀ k₀ out k =
+    (k ≤ 88) × (length out ≡ length out₀) × (out ≡ putWords (wordOf end clock cells places) at k out₀)
 
 abbrev μ-loop : tie.MeasureT-loop
-μ-loop first end clock cells places at out₀ k₀ out k = 88 - k
+μ-loop end clock cells places at out₀ k₀ out k = 88 - k
 
 loop-holds : tie.Need-loop-holds Inv-loop μ-loop
 loop-holds c = (omega arith, refl, words-none _ _ _)

@@ -73,7 +73,7 @@ loop-again c =
           (a .unknown .now) _
           (l .loop .r) (stand (l .loop .cells) (l .loop .places)) (i .5) (v .before .loop-test .taken)
           (omega (arith, v .before .loop-test .taken)) (i .4)
-          (sym (v .values-fit .ensures) ∙ not-false _ (p .before .before .if1 .left)) (p .put-items .ensures) (c .turn .ensures),
+          (sym (v .values-fit .ensures) ∙ not-false _ (p .before .before .if1 .left)) (p .put-values .ensures) (c .turn .ensures),
     )
 
 returns-2 : tie.Need-returns-2 Inv-loop μ-loop

@@ -94,7 +94,7 @@ loop-again c =
           (a .unknown .now) (a .out .now) _ (l .loop .r) (stand (l .loop .cells) (l .loop .places)) (l .loop .out) (i .8)
           (v .before .loop-test .taken) (omega (arith, v .before .loop-test .taken)) (i .7)
           (sym (v .values-fit .ensures) ∙ not-false _ (c .before .before .before .before .before .before .before .before .if1 .left))
-          (c .before .before .before .before .before .before .put-items .ensures) (t .ensures),
+          (c .before .before .before .before .before .before .put-values .ensures) (t .ensures),
     )
 
 returns-2 : tie.Need-returns-2 Inv-loop μ-loop

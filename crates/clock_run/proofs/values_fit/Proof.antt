@@ -7,7 +7,7 @@ use Prim.Native.Nat.{ℕ, _+_, _≤_, _-_}
 use native.Mathlib.Omega.{arith}
 use Rattle.values.specs.Values.{fits}
 use Rattle.values.specs.Planes.{valueAt}
-use Rattle.state.specs.Saved.{allBelow}
+use Rattle.state.specs.Rows.{allBelow}
 use Rattle.plan.specs.Plan.{planOf}
 use Rattle.plan_fitting.proofs.Loops.{all-none, all-more, all-done, all-fails, value-found}
 use Rattle.clock_run.specs.Running.{valuesFit}
@@ -15,7 +15,7 @@ use borrow.Author.Needs.{needs}
 use Rattle.clock_run.proofs.values_fit.Statement.{statement}
 use Rattle.clock_run.proofs.values_fit.Tie as tie
 
-abbrev test : List ℕ → ℕ → List ℕ → List Bool → ℕ → ℕ → Bool
+abbrev test : List ℕ → ℕ → List ℕ → List ℕ → ℕ → ℕ → Bool
 test plan from value unknown at v = fits (planOf plan .width (from + v)) (valueAt value unknown (at + v))
 
 abbrev Inv-loop : tie.InvT-loop

@@ -1,5 +1,5 @@
 -- `clock_steps::take_register` meets its contract. Assumes nothing.
-use Rattle.cells.specs.Cells.{cellAt}
+use Rattle.values.specs.Cells.{cellAt}
 use Rattle.clock_steps.specs.Taking.{entryCell, takeRegister}
 use borrow.Author.Needs.{needs}
 use Rattle.clock_steps.proofs.take_register.Statement.{statement}

@@ -25,6 +25,8 @@ use Rattle.sheet.proofs.bytes.byte_at.Reads as byte-at-reads
 use Rattle.evaluation.proofs.eval_variable.Reads as eval-variable-reads
 use Rattle.evaluation.proofs.nothing.Reads as nothing-reads
 use Rattle.sheet.proofs.bytes.word_at.Reads as word-at-reads
+use Rattle.values.proofs.known.Reads as known-reads
+use Rattle.values.proofs.all_unknown.Reads as all-unknown-reads
 use Rattle.values.proofs.binary.Reads as binary-reads
 use Rattle.values.proofs.binary_width.Reads as binary-width-reads
 use Rattle.values.proofs.choice.Reads as choice-reads
@@ -127,6 +129,8 @@ eval-expr-calls t = (
   eval-variable-reads.Learnt,
   word-at-reads.Asked,
   word-at-reads.Learnt,
+  known-reads.Asked,
+  known-reads.Learnt,
   eval-inner-below t,
   eval-inner.Post,
 )
@@ -134,6 +138,8 @@ eval-expr-calls t = (
 -- what eval-inner calls
 abbrev eval-inner-calls : ℕ → eval-inner-lts.Claims
 eval-inner-calls t = (
+  all-unknown-reads.Asked,
+  all-unknown-reads.Learnt,
   eval-unary-below t,
   eval-unary.Post,
   eval-binary-below t,
@@ -170,11 +176,15 @@ eval-unary-calls t = (
 
 eval-binary-returns : (t : ℕ) → eval-binary-lts.Need-returns (eval-binary-calls t) (eval-binary-at t) eval-binary.Post
 unfolding binaryNode
-eval-binary-returns t c = rw (c .binary-width .ensures, c .before .binary .ensures, c .before .before .eval-operand2 .ensures, c .before .before .before .eval-operand .ensures)
+eval-binary-returns t c =
+    let operands = c .before .before .before .before in
+    rw (c .binary-width .ensures, c .before .binary .ensures, operands .eval-operand2 .ensures, operands .before .eval-operand .ensures)
 
 eval-conditional-returns : (t : ℕ) → eval-conditional-lts.Need-returns (eval-conditional-calls t) (eval-conditional-at t) eval-conditional.Post
 unfolding conditionalNode
-eval-conditional-returns t c = rw (c .choice .ensures, c .before .eval-operand3 .ensures, c .before .before .eval-operand2 .ensures, c .before .before .before .eval-operand .ensures)
+eval-conditional-returns t c =
+    let operands = c .before .before .before .before in
+    rw (c .choice .ensures, operands .eval-operand3 .ensures, operands .before .eval-operand2 .ensures, operands .before .before .eval-operand .ensures)
 
 eval-expr-returns : (t : ℕ) → eval-expr-lts.Need-returns (eval-expr-calls t) (eval-expr-at t) eval-expr.Post
 eval-expr-returns t c = c .nothing .ensures ∙ sym (evalAt-deep _ _ _ _ _ (c .before .if1 .taken))
@@ -192,9 +202,10 @@ eval-expr-returns-3 t c =
 eval-expr-returns-4 : (t : ℕ) → eval-expr-lts.Need-returns-4 (eval-expr-calls t) (eval-expr-at t) eval-expr.Post
 unfolding nodeAt
 eval-expr-returns-4 t c =
-    let deep = c .before .before .before .before .before .if1 .left in
-    let map = c .before .match .keys2 in
-    rw (c .word-at .ensures, c .before .before .byte-at .ensures) (sym (evalAt-node _ _ _ _ _ deep map))
+    let opened = c .before .before in
+    let deep = opened .before .before .before .before .if1 .left in
+    rw (c .known .ensures, c .before .word-at .ensures, opened .before .byte-at .ensures)
+    (sym (evalAt-node _ _ _ _ _ deep (opened .match .keys2)))
 
 eval-expr-returns-5 : (t : ℕ) → eval-expr-lts.Need-returns-5 (eval-expr-calls t) (eval-expr-at t) eval-expr.Post
 eval-expr-returns-5 t c =
@@ -205,7 +216,7 @@ eval-expr-returns-5 t c =
 
 eval-inner-returns : (t : ℕ) → eval-inner-lts.Need-returns (eval-inner-calls t) (eval-inner-at t) eval-inner.Post
 unfolding innerNode
-eval-inner-returns t c = rw (c .match .keys1)
+eval-inner-returns t c = rw (c .all-unknown .ensures, c .before .match .keys1)
 
 eval-inner-returns-2 : (t : ℕ) → eval-inner-lts.Need-returns-2 (eval-inner-calls t) (eval-inner-at t) eval-inner.Post
 unfolding innerNode
@@ -242,7 +253,7 @@ eval-operand-returns-4 t c = c .eval-expr .ensures
 
 eval-unary-returns : (t : ℕ) → eval-unary-lts.Need-returns (eval-unary-calls t) (eval-unary-at t) eval-unary.Post
 unfolding unaryNode
-eval-unary-returns t c = rw (c .unary-width .ensures, c .before .unary .ensures, c .before .before .eval-operand .ensures)
+eval-unary-returns t c = rw (c .unary-width .ensures, c .before .unary .ensures, c .before .before .before .eval-operand .ensures)
 
 pub +eval-binary+eval-conditional+eval-expr+eval-inner+eval-operand+eval-unary-spec : {M : Type 1} → statement M
 +eval-binary+eval-conditional+eval-expr+eval-inner+eval-operand+eval-unary-spec =
@@ -270,6 +281,7 @@ pub +eval-binary+eval-conditional+eval-expr+eval-inner+eval-operand+eval-unary-s
     (λ c. search needs)
     (λ c κs. search needs)
     (λ c κs. search needs)
+    (λ c κs. search needs)
     (λ c. search needs)
     (λ c. search needs)
     (λ c κs. search needs)
@@ -277,6 +289,7 @@ pub +eval-binary+eval-conditional+eval-expr+eval-inner+eval-operand+eval-unary-s
     (eval-expr-returns-4 t)
     (eval-expr-returns-5 t))
     (λ t. eval-inner-lts.spec (eval-inner-calls t) (eval-inner-at t) eval-inner.Post
+    (λ c κs. search needs)
     (λ c κs. search needs)
     (λ c κs. search needs)
     (λ c κs. search needs)

@@ -3,8 +3,8 @@ use borrow.Author.Needs.{needs}
 use borrow.Author.Tests.{eq-eqb, ne-eqb}
 use mathlib.Core.Path.{refl, sym, ap, _∙_}
 use lib.Dec.{eqb}
-use Rattle.state.specs.declared.Brought.{Brought}
-use Rattle.state.specs.Saved.{saved}
+use Rattle.saved.specs.declared.Brought.{Brought}
+use Rattle.saved.specs.Saved.{saved}
 use Rattle.exports.specs.Saved.{broughtInto}
 use Rattle.exports.proofs.walbryts_bring_over.Statement.{statement}
 use Rattle.exports.proofs.walbryts_bring_over.Tie as tie

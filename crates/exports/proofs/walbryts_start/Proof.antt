@@ -3,7 +3,7 @@ use borrow.Author.Needs.{needs}
 use borrow.Author.Tests.{eq-eqb, ne-eqb}
 use mathlib.Core.Path.{refl, sym, ap, _∙_}
 use lib.Dec.{eqb}
-use Rattle.state.specs.Saved.{saved}
+use Rattle.saved.specs.Saved.{saved}
 use Rattle.events.specs.declared.Chosen.{Chosen}
 use Rattle.exports.specs.Saved.{startedIn}
 use Rattle.exports.proofs.walbryts_start.Statement.{statement}

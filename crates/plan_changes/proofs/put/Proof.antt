@@ -1,7 +1,7 @@
 -- `plan_changes::put` meets its contract. Assumes nothing.
 use mathlib.Core.Path.{sym, _∙_}
 use borrow.Author.Tests.{lt-ltb, le-ltb}
-use Rattle.cells.specs.Cells.{cellAt}
+use Rattle.values.specs.Cells.{cellAt}
 use Rattle.plan_changes.specs.Changes.{put}
 use borrow.Author.Needs.{needs}
 use Rattle.plan_changes.proofs.put.Statement.{statement}
@@ -20,7 +20,7 @@ returns-2 c =
     let at-if1 = at-load .before .before in
     rw (
       lt-ltb _ _ (at-if1 .if1 .left),
-      sym (at-same .same .ensures) ∙ c .if2 .taken,
+      sym (at-same .same-cells .ensures) ∙ c .if2 .taken,
       at-store .store .ensures,
       at-load .load .ensures,
     )
@@ -35,7 +35,7 @@ returns-3 c =
     let at-if1 = at-load .before .before in
     rw (
       lt-ltb _ _ (at-if1 .if1 .left),
-      sym (at-same .same .ensures) ∙ at-if2 .if2 .left,
+      sym (at-same .same-cells .ensures) ∙ at-if2 .if2 .left,
       at-store .store .ensures,
       at-load .load .ensures,
       c .before .union .ensures,

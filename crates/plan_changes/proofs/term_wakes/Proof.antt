@@ -10,7 +10,7 @@ returns : tie.Need-returns
 unfolding termWakes
 returns c =
     let at-term-at = c .before .before .before in
-    rw (c .fires .ensures, ← at-term-at .term-at .ensures, eq-eqb _ _ (sym (c .before .before .wide .ensures) ∙ c .before .if1 .taken))
+    rw (c .fires-cells .ensures, ← at-term-at .term-at .ensures, eq-eqb _ _ (sym (c .before .before .wide .ensures) ∙ c .before .if1 .taken))
 
 returns-2 : tie.Need-returns-2
 unfolding termWakes

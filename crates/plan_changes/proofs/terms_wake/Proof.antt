@@ -5,7 +5,7 @@ use mathlib.Core.Path.{_≡_, refl, sym, _∙_}
 use mathlib.Core.Bool.{false}
 use Rattle.events.specs.Cycle.{anyBelow}
 use Rattle.events.proofs.Cycle.{any-below}
-use Rattle.cells.specs.Cells.{valueOf}
+use Rattle.values.specs.Cells.{valueOf}
 use Rattle.plan_changes.specs.Changes.{termWakes}
 use Rattle.plan_changes.proofs.Changes.{any-more}
 use borrow.Author.Needs.{needs}

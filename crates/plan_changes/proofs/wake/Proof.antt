@@ -4,7 +4,7 @@ use native.Mathlib.Omega.{arith}
 use mathlib.Core.Path.{_≡_, refl, sym, ap, _∙_}
 use borrow.Author.Tests.{not-true, not-false}
 use Rattle.masks.specs.Masks.{bits, anyMark}
-use Rattle.cells.specs.Cells.{valueOf}
+use Rattle.values.specs.Cells.{valueOf}
 use Rattle.plan.specs.Plan.{planOf}
 use Rattle.plan_changes.specs.Changes.{eight, wakeThread, wakeBelow, wake}
 use Rattle.plan_changes.proofs.Changes.{eight-most, wake-more}

@@ -7,11 +7,11 @@ use Rattle.plan_engine.proofs.leg.Tie as tie
 
 returns : tie.Need-returns
 unfolding leg
-returns c = rw (c .after .ensures, sym (c .before .before .holds .ensures) ∙ c .before .if1 .taken)
+returns c = rw (c .after .ensures, sym (c .before .before .holds-cell .ensures) ∙ c .before .if1 .taken)
 
 returns-2 : tie.Need-returns-2
 unfolding leg
-returns-2 c = rw (sym (c .before .holds .ensures) ∙ c .if1 .left)
+returns-2 c = rw (sym (c .before .holds-cell .ensures) ∙ c .if1 .left)
 
 pub leg-spec : {M : Type 1} → statement M
 leg-spec =

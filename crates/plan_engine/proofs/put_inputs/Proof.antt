@@ -4,7 +4,7 @@ use native.Mathlib.Omega.{arith}
 use mathlib.Core.Path.{_≡_, refl, sym, ap, _∙_}
 use Rattle.values.specs.Planes.{valueAt}
 use Rattle.masks.specs.Masks.{bits}
-use Rattle.cells.specs.Cells.{cellOf}
+use Rattle.values.specs.Cells.{cellOf}
 use Rattle.plan.specs.Plan.{planOf}
 use Rattle.plan_changes.specs.Scene.{changing}
 use Rattle.plan_changes.specs.Changes.{put, opened}

@@ -13,7 +13,7 @@ use borrow.Author.Needs.{needs}
 use Rattle.plan_fitting.proofs.values_fit.Statement.{statement}
 use Rattle.plan_fitting.proofs.values_fit.Tie as tie
 
-abbrev test : List ℕ → List ℕ → List Bool → ℕ → Bool
+abbrev test : List ℕ → List ℕ → List ℕ → ℕ → Bool
 test plan value unknown v = fits (planOf plan .width v) (valueAt value unknown v)
 
 abbrev Inv-loop : tie.InvT-loop

@@ -1,13 +1,12 @@
 -- `plan_nodes::leaf` meets its contract, by the kind.
-use Rattle.cells.specs.Cells.{cellOf, cellAt}
-use Rattle.plan_nodes.proofs.Nodes.{leaf-constant, leaf-variable, leaf-none}
+use Rattle.values.specs.Cells.{cellAt}
+use Rattle.plan_nodes.proofs.Nodes.{known-cell, leaf-constant, leaf-variable, leaf-none}
 use borrow.Author.Needs.{needs}
 use Rattle.plan_nodes.proofs.leaf.Statement.{statement}
 use Rattle.plan_nodes.proofs.leaf.Tie as tie
 
 returns : tie.Need-returns
-unfolding cellOf
-returns c = rw (leaf-constant _ _ _ _ _ (c .if1 .taken))
+returns c = rw (leaf-constant _ _ _ _ _ (c .if1 .taken), known-cell)
 
 returns-2 : tie.Need-returns-2
 unfolding cellAt
@@ -23,8 +22,16 @@ returns-2 c =
     )
 
 returns-3 : tie.Need-returns-3
-unfolding cellOf
-returns-3 c = rw (leaf-none _ _ _ _ _ (c .before .if1 .left) (c .if2 .left))
+returns-3 c =
+    let at-all = c .before in
+    let at-low = at-all .before in
+    let at-if2 = at-low .before in
+    rw (
+      c .store2 .ensures,
+      at-all .all-unknown .ensures,
+      at-low .low .ensures,
+      leaf-none _ _ _ _ _ (at-if2 .before .if1 .left) (at-if2 .if2 .left),
+    )
 
 pub leaf-spec : {M : Type 1} → statement M
 leaf-spec = tie.close (tie.spec
@@ -35,4 +42,7 @@ leaf-spec = tie.close (tie.spec
     (λ c κs. search needs)
     (λ c κs. search needs)
     returns-2
+    (λ c κs. search needs)
+    (λ c κs. search needs)
+    (λ c κs. search needs)
     returns-3)

@@ -1,5 +1,5 @@
 -- `plan_nodes::worth` meets its contract, by the kind.
-use Rattle.cells.specs.Cells.{cellOf, cellAt}
+use Rattle.values.specs.Cells.{cellAt}
 use Rattle.plan_nodes.proofs.Nodes.{worth-leaf, worth-unary, worth-binary, worth-choice, worth-branch, worth-none}
 use borrow.Author.Needs.{needs}
 use Rattle.plan_nodes.proofs.worth.Statement.{statement}
@@ -16,7 +16,7 @@ returns-2 c =
     let at-slot = at-slot2 .before .before in
     let at-if1 = at-slot .before in
     rw (
-      c .unary .ensures,
+      c .unary-cell .ensures,
       c .before .low2 .ensures,
       c .before .before .low .ensures,
       at-slot .slot .ensures .0,
@@ -32,7 +32,7 @@ returns-3 c =
     let at-slot = at-slot2 .before .before in
     let at-if1 = at-slot .before in
     rw (
-      c .binary .ensures,
+      c .binary-cell .ensures,
       c .before .low4 .ensures,
       c .before .before .low3 .ensures,
       at-slot .slot .ensures .0,
@@ -51,7 +51,7 @@ returns-4 c =
     let at-slot = at-slot2 .before .before in
     let at-if1 = at-slot .before in
     rw (
-      c .choice .ensures,
+      c .choice-cell .ensures,
       at-slot .slot .ensures .0,
       at-slot2 .slot2 .ensures .0,
       at-slot3 .slot3 .ensures .0,
@@ -70,7 +70,7 @@ returns-5 c =
     let at-slot = at-slot2 .before .before in
     let at-if1 = at-slot .before in
     rw (
-      c .branch .ensures,
+      c .branch-cell .ensures,
       at-slot .slot .ensures .0,
       at-slot2 .slot2 .ensures .0,
       at-slot3 .slot3 .ensures .0,
@@ -78,14 +78,21 @@ returns-5 c =
     )
 
 returns-6 : tie.Need-returns-6
-unfolding cellOf
 returns-6 c =
-    let at-if4 = c .before in
+    let at-all = c .before in
+    let at-low = at-all .before in
+    let at-if5 = at-low .before in
+    let at-if4 = at-if5 .before in
     let at-slot3 = at-if4 .before .before in
     let at-if3 = at-slot3 .before in
     let at-if2 = at-if3 .before in
     let at-if1 = at-if2 .before .before .before .before .before in
-    rw (worth-none _ _ _ _ _ (at-if1 .if1 .left) (at-if3 .if3 .left) (at-if4 .if4 .left) (c .if5 .left))
+    rw (
+      c .store .ensures,
+      at-all .all-unknown .ensures,
+      at-low .low5 .ensures,
+      worth-none _ _ _ _ _ (at-if1 .if1 .left) (at-if3 .if3 .left) (at-if4 .if4 .left) (at-if5 .if5 .left),
+    )
 
 pub worth-spec : {M : Type 1} → statement M
 worth-spec = tie.close (tie.spec
@@ -114,4 +121,7 @@ worth-spec = tie.close (tie.spec
     returns-4
     (λ c κs. search needs)
     returns-5
+    (λ c κs. search needs)
+    (λ c κs. search needs)
+    (λ c κs. search needs)
     returns-6)

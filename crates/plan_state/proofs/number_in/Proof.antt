@@ -1,6 +1,6 @@
 -- `plan_state::number_in` meets its contract. Assumes nothing.
 use mathlib.Core.Path.{refl}
-use Rattle.plan_state.specs.Planes.{numberIn}
+use Rattle.values.specs.Cells.{numberIn}
 use borrow.Author.Needs.{needs}
 use Rattle.plan_state.proofs.number_in.Statement.{statement}
 use Rattle.plan_state.proofs.number_in.Tie as tie

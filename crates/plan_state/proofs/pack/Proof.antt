@@ -11,14 +11,14 @@ returns c =
     let at-held = c .before in
     let at-unsure = at-held .before in
     let at-numbers = at-unsure .before in
-    let at-flags = at-numbers .before in
+    let at-marks = at-numbers .before in
     rw (
       c .flags2 .ensures,
       at-held .flags .ensures,
-      at-unsure .slot-flags .ensures,
+      at-unsure .slot-unknowns .ensures,
       at-numbers .slot-numbers .ensures,
-      at-flags .flags-in .ensures,
-      at-flags .before .numbers-in .ensures,
+      at-marks .unknowns-in .ensures,
+      at-marks .before .numbers-in .ensures,
     )
     refl
 

@@ -8,7 +8,7 @@ use Rattle.prepared.proofs.start.Tie as tie
 
 returns : tie.Need-returns
 unfolding startAt started
-returns c = rw (c .due-below .ensures, c .before .wires .ensures) refl
+returns c = rw (c .due-below .ensures, c .before .wires .ensures, c .before .before .unset-marks .ensures) refl
 
 pub start-spec : {M : Type 1} → statement M
-start-spec = tie.close (tie.spec (λ c κs. search needs) (λ c κs. search needs) returns)
+start-spec = tie.close (tie.spec (λ c κs. search needs) (λ c κs. search needs) (λ c κs. search needs) returns)

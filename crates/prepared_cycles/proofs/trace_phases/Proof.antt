@@ -43,7 +43,7 @@ loop-holds c =
       record {
         few = omega (arith, known);
         count = refl;
-        flagged = p .0;
+        marked = p .0;
         room = p .1;
         long = refl;
       },
@@ -55,7 +55,7 @@ inputs-at-requires : tie.Need-inputs-at-requires Inv-loop μ-loop
 inputs-at-requires c κs =
     let at-loop = c .before in
     let k = at-loop .loop .inv .1 in
-    (row-inside _ _ (omega (arith, c .loop-test .taken, k .count)), k .flagged)
+    (row-inside _ _ (omega (arith, c .loop-test .taken, k .count)), k .marked)
 
 same-length : tie.Need-same-length Inv-loop μ-loop
 same-length c =

@@ -27,6 +27,7 @@ read-inputs-spec =
     (λ c. omega arith)
     (λ c. omega arith)
     (λ c. omega arith)
+    (λ c. omega arith)
     (λ c. tt)
     (λ c. search needs)
     (λ c. search needs))

@@ -25,6 +25,7 @@ read-registers-spec =
     (λ c. omega arith)
     (λ c. omega arith)
     (λ c. omega arith)
+    (λ c. omega arith)
     (λ c. tt)
     (λ c. search needs)
     (λ c κs. search needs)

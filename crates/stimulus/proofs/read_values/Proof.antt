@@ -2,7 +2,6 @@
 -- that are there, give the whole. Assumes nothing.
 use borrow.Author.Needs.{needs}
 use native.Mathlib.Omega.{arith}
-use mathlib.Core.Bool.{false}
 use mathlib.Core.Path.{_≡_, refl, sym, ap, _∙_}
 use Prim.Native.Nat.{ℕ, _≤_, _-_}
 use lib.ListN.{length, getD, length-set, replicate}
@@ -32,7 +31,7 @@ loop-holds c =
       s .pre,
       refl,
       refl,
-      ap (λ (x : ℕ). valuesFrom (a .line .now) (a .widths .now) (x - 1) 1 (a .from) (replicate 16 0) (replicate 16 false)) (c .slots .ensures),
+      ap (λ (x : ℕ). valuesFrom (a .line .now) (a .widths .now) (x - 1) 1 (a .from) (replicate 16 0) (replicate 16 0)) (c .slots .ensures),
     )
 
 take-value-requires : tie.Need-take-value-requires Inv-loop μ-loop
@@ -147,6 +146,7 @@ read-values-spec =
     returns
     (λ c. search needs)
     array-write-value
+    (λ c. search needs)
     array-write-unknown
     add-k
     (λ c. search needs)

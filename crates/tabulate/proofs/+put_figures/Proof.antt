@@ -1,7 +1,5 @@
 -- `tabulate::put_figures` meets its contract; the count of figures falls with each call. Assumes nothing.
 use Prim.Native.Nat.{ℕ, _<_}
-use native.Mathlib.Nat.{mod-lt}
-use native.Mathlib.Omega.{arith}
 use mathlib.Core.Path.{sym, ap, _∙_}
 use borrow.Author.Needs.{needs}
 use borrow.Fn.Kinds.{In}
@@ -18,7 +16,7 @@ use Rattle.tabulate.proofs.+put_figures.{statement}
 use Rattle.tabulate.proofs.+put_figures.Tie.{close}
 
 abbrev μ-put-figures : Measures 1 put-figures-kinds.ps ℕ
-μ-put-figures κs a = a .1 .0
+μ-put-figures κs a = a .0
 
 abbrev put-figures-at : ℕ → In 1 put-figures-kinds.ps
 put-figures-at t =
@@ -35,19 +33,7 @@ put-figures-calls t =
 put-figures-returns : (t : ℕ) → put-figures-lts.Need-returns (put-figures-calls t) (put-figures-at t) put-figures.Post
 put-figures-returns t c =
     let a = c .before .args in
-    sym (puts-nil _) ∙ ap (λ x. puts (filled (a .text .now) (a .pos)) x) (sym (figures-none (a .base) (a .count) (a .n) (c .if1 .taken)))
-
-put-figures-cast : (t : ℕ) → put-figures-lts.Need-cast-figure (put-figures-calls t) (put-figures-at t) put-figures.Post
-put-figures-cast t c =
-    let s = c .before .before .before in
-    let above : 0 < s .args .base = omega (arith, s .pre .1 .0) in
-    omega (arith, mod-lt (s .args .n) above, s .pre .1 .1)
-
-put-figures-figure : (t : ℕ) → put-figures-lts.Need-figure-requires (put-figures-calls t) (put-figures-at t) put-figures.Post
-put-figures-figure t c κs =
-    let s = c .before .before .before in
-    let above : 0 < s .args .base = omega (arith, s .pre .1 .0) in
-    omega (arith, mod-lt (s .args .n) above, s .pre .1 .1)
+    sym (puts-nil _) ∙ ap (λ x. puts (filled (a .text .now) (a .pos)) x) (sym (figures-none (a .count) (a .n) (c .if1 .taken)))
 
 put-figures-returns-2 : (t : ℕ) → put-figures-lts.Need-returns-2 (put-figures-calls t) (put-figures-at t) put-figures.Post
 put-figures-returns-2 t c =
@@ -57,7 +43,7 @@ put-figures-returns-2 t c =
     let a = test .before .args in
     both _ _ _ _ _ (at-rest .put-figures .ensures)
     (rw (at-figure .figure .ensures) at (c .put-byte .ensures))
-    ∙ ap (λ x. puts (filled (a .text .now) (a .pos)) x) (sym (figures-more (a .base) (a .count) (a .n) (test .if1 .left)))
+    ∙ ap (λ x. puts (filled (a .text .now) (a .pos)) x) (sym (figures-more (a .count) (a .n) (test .if1 .left)))
 
 pub +put-figures-spec : {M : Type 1} → statement M
 +put-figures-spec = close μ-put-figures λ t. put-figures-lts.spec (put-figures-calls t)
@@ -65,10 +51,8 @@ pub +put-figures-spec : {M : Type 1} → statement M
     put-figures.Post
     (put-figures-returns t)
     (λ c. search needs)
-    (λ c. search needs)
     (λ c κs. search needs)
     (λ c. search needs)
-    (put-figures-cast t)
-    (put-figures-figure t)
+    (λ c κs. search needs)
     (λ c κs. search needs)
     (put-figures-returns-2 t)

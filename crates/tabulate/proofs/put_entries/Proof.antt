@@ -3,7 +3,7 @@ use Prim.Native.Nat.{_≤_, _-_}
 use mathlib.Core.Path.{_≡_, refl, sym, _∙_}
 use lib.ListN.{length, drop}
 use borrow.Author.Needs.{needs}
-use Rattle.cells.specs.Cells.{cellAt}
+use Rattle.values.specs.Cells.{cellAt}
 use Rattle.writing.specs.Buffer.{filled, puts}
 use Rattle.tabulate.specs.Tabulate.{entry, columns}
 use Rattle.tabulate.proofs.Tabulate.{columns-next, columns-done}

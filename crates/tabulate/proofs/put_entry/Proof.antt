@@ -11,9 +11,9 @@ unfolding cell
 returns c = rw (
   sym (c .before .before .before .before .before .before .column-width .ensures),
   sym (c .before .before .before .before .before .byte-at .ensures),
-  sym (c .before .before .before .before .value-length .ensures),
+  sym (c .before .before .before .before .shown-length .ensures),
 )
-    (both _ _ _ _ _ (c .before .before .put-gap .ensures) (c .put-value .ensures))
+    (both _ _ _ _ _ (c .before .before .put-gap .ensures) (c .put-shown .ensures))
 
 pub put-entry-spec : {M : Type 1} → statement M
 put-entry-spec =

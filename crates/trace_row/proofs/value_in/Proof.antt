@@ -1,6 +1,6 @@
 -- `trace_row::value_in` meets its contract. Assumes nothing.
 use mathlib.Core.Path.{ap, _∙_}
-use Rattle.cells.specs.Cells.{valueOf, cellAt}
+use Rattle.values.specs.Cells.{valueOf, cellAt}
 use borrow.Author.Needs.{needs}
 use Rattle.trace_row.proofs.value_in.Statement.{statement}
 use Rattle.trace_row.proofs.value_in.Tie as tie

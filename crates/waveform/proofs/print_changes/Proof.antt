@@ -6,7 +6,7 @@ use native.Mathlib.Omega.{arith}
 use mathlib.Core.List.{[]}
 use lib.ListN.{getD}
 use Rattle.values.specs.Values.{pick, same}
-use Rattle.cells.specs.Cells.{cellAt}
+use Rattle.values.specs.Cells.{cellAt}
 use Rattle.writing.specs.Buffer.{filled, puts}
 use Rattle.naming.specs.Naming.{texts, within}
 use Rattle.naming.proofs.Naming.{texts-next, texts-done, within-80}

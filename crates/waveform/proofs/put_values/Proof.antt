@@ -4,7 +4,7 @@ use Prim.Native.Nat.{_≤_, _-_}
 use mathlib.Core.Path.{_≡_, sym, _∙_, ap}
 use native.Mathlib.Omega.{arith}
 use lib.ListN.{getD}
-use Rattle.cells.specs.Cells.{cellAt}
+use Rattle.values.specs.Cells.{cellAt}
 use Rattle.writing.specs.Buffer.{filled, puts}
 use Rattle.naming.specs.Naming.{texts, within}
 use Rattle.naming.proofs.Naming.{texts-next, texts-done, within-80}

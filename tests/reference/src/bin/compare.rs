@@ -10,7 +10,8 @@ use reference::encode::encode;
 use reference::library::{self, Library, SAVED, TEXT};
 use reference::random::Random;
 use reference::samples::{self, to_hex};
-use reference::state::{MOST, Slot, State, USERS};
+use reference::state::{MOST, State, USERS};
+use reference::value::Value;
 use reference::{generate, limits, mutate, pseudocode, saved, sheet, states};
 
 const RANDOM_MODULES: usize = 10_000;
@@ -159,7 +160,7 @@ impl Comparison {
         });
     }
 
-    /// Saved states of all forms, whole and damaged, brought over as the reference does.
+    /// Saved states of all forms, whole and damaged, brought over on sheets as the reference does.
     fn saved(&mut self, seed: u64) {
         let mut random = Random::new(seed ^ 4 << 32);
         self.group("saved states", |_| (0..STATES).try_for_each(|_| bring(&mut random)));
@@ -244,9 +245,9 @@ fn bring(random: &mut Random) -> Outcome {
         state.time %= 1 << 32;
         state.counts[0] %= 1 << 32;
     }
-    let mut old = match saved::save_short(&state) {
-        Some(short) if random.chance(1, 2) => short,
-        _ if random.chance(1, 2) => saved::save_long(&state),
+    let form = random.between(1, 4) as u8;
+    let mut old = match saved::save_old(form, &state) {
+        Some(old) if form < saved::FORM => old,
         _ => saved::save(&state),
     };
     let mut allowances = states::allowances(random);
@@ -267,15 +268,28 @@ fn bring(random: &mut Random) -> Outcome {
         }
         _ => {}
     }
+    let mut sheet = match random.chance(1, 4) {
+        true => encode(&generate::module(random)),
+        false => samples::ALL[random.below(samples::ALL.len())].sheet(),
+    };
+    if random.chance(1, 16) {
+        sheet = mutate::damage(&sheet, random);
+    }
     let mut lent = [0xA5; SAVED];
-    let number = library::bring_over(&old, allowances, &mut lent);
-    let expected = match saved::bring_over(&old, allowances) {
+    let number = library::bring_over(&sheet, &old, allowances, &mut lent);
+    let brought = sheet::read(&sheet)
+        .map_err(|refusal| refusal.number)
+        .and_then(|module| saved::bring_over(&module, &old, allowances));
+    let expected = match brought {
         Ok(state) => (0, saved::save(&state)),
         Err(number) => (number, vec![0xA5; SAVED]),
     };
     match (number, lent.to_vec()) == expected {
         true => Ok(()),
-        false => Err(format!("bring over gives {number} for {allowances:?}, {}", to_hex(&old))),
+        false => {
+            let given = format!("{} {allowances:?} {}", to_hex(&sheet), to_hex(&old));
+            Err(format!("bring over gives {number} for {given}"))
+        }
     }
 }
 
@@ -299,14 +313,14 @@ fn run_on(sheet: &[u8], counters: &Counters, users: &[u8; 7]) -> Outcome {
         (state.counts, state.allowances) = (counters.counts, counters.allowances);
         for clock in [0, 1] {
             let of = |call: usize| users[3 * clock as usize + call];
-            let mut given = vec![Slot::known(1); inputs];
-            given[0] = Slot::known(clock);
+            let mut given = vec![Value::known(1); inputs];
+            given[0] = Value::known(clock);
             numbers.push(calls.instant(&mut state, &given));
             numbers.push(calls.choose(&mut state, of(0), 0));
             numbers.push(calls.run(&mut state, of(1), &[0, 0]).1);
             numbers.push(calls.run_plain(&mut state, of(2), u16::MAX).number);
         }
-        let rows = vec![vec![Slot::known(1); inputs - 1]; 2];
+        let rows = vec![vec![Value::known(1); inputs - 1]; 2];
         numbers.push(calls.run_cycles(&mut state, users[6], &rows).1);
         (numbers, state)
     };

@@ -5,17 +5,16 @@ use super::table::Table;
 use crate::extraction::text::Thread;
 use crate::machine::number;
 use crate::module::Module;
-use crate::state::Slot;
 use crate::value::Value;
 use crate::values::Values;
 
-/// 31: a register too wide, a place that is no wait of its thread. 25: inputs of wrong
-/// number or too wide. What lies past the sheet's is not judged.
+/// 31: a register that doesn't fit, a place that is no wait of its thread. 25: inputs of wrong
+/// number or that don't fit. What lies past the sheet's is not judged.
 pub fn judge(
     module: &Module,
     threads: &[Thread],
     lane: &Lane,
-    inputs: &[Slot],
+    inputs: &[Value],
 ) -> Result<(), u8> {
     let widths = &module.widths[module.inputs.into()..][..module.registers.into()];
     let mut places = threads.iter().zip(lane.places);
@@ -32,8 +31,8 @@ pub fn judge(
 }
 
 /// As far as both go.
-fn fit(widths: &[u8], slots: &[Slot]) -> bool {
-    widths.iter().zip(slots).all(|(&width, slot)| slot.value().fits(width))
+fn fit(widths: &[u8], slots: &[Value]) -> bool {
+    widths.iter().zip(slots).all(|(&width, slot)| slot.fits(width))
 }
 
 /// Settles wires, takes the row of each thread's wait for the registers it writes, settles
@@ -43,14 +42,14 @@ pub fn rise(
     threads: &[Thread],
     table: &Table,
     lane: &mut Lane,
-    inputs: &[Slot],
+    inputs: &[Value],
 ) {
     let mut values = Values::unknown(module);
-    values.set(0, Value::Known(1));
-    (1..).zip(inputs).for_each(|(input, slot)| values.set(input, slot.value()));
+    values.set(0, Value::known(1));
+    (1..).zip(inputs).for_each(|(input, &slot)| values.set(input, slot));
     let registers = module.inputs..module.inputs + module.registers;
     let own = registers.clone().zip(&lane.registers);
-    own.for_each(|(register, slot)| values.set(register, slot.value()));
+    own.for_each(|(register, &slot)| values.set(register, slot));
     values.settle();
     let worked_out = values.of_nodes(&table.nodes);
     let of = |node: u16| worked_out[usize::from(node)];
@@ -60,17 +59,16 @@ pub fn rise(
         let row = first_row + wait.expect("judged");
         for register in thread.registers() {
             let value = of(table.register(row, register));
-            lane.registers[register] = Slot::of(value);
+            lane.registers[register] = value;
             values.set(module.inputs + register as u8, value);
         }
-        let Value::Known(next) = of(table.place(row)) else {
-            unreachable!("a place entry leads to known constants");
-        };
+        let next = of(table.place(row)).as_known();
+        let next = next.expect("a place entry leads to known constants");
         *place = u8::try_from(next).expect("8 bits");
         first_row += thread.waits.len();
     }
     values.settle();
     for (wire, slot) in (registers.end..module.widths.len() as u8).zip(&mut lane.wires) {
-        *slot = Slot::of(values.get(wire));
+        *slot = values.get(wire);
     }
 }

@@ -98,7 +98,7 @@ fn node(words: [u16; 4], module: &Module, widths: &[u8]) -> Option<(Node, u8)> {
         }
         CONSTANT => {
             let (width, value) = (constant_width(a)?, u32::from(b) | u32::from(c) << 16);
-            let fits = Value::Known(value).fits(width);
+            let fits = Value::known(value).fits(width);
             fits.then_some((Node::Constant { width, value }, width))
         }
         UNKNOWN => {

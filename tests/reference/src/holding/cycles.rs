@@ -9,7 +9,7 @@ use crate::lanes;
 use crate::module::Module;
 use crate::random::Random;
 use crate::replay::Table;
-use crate::state::Slot;
+use crate::value::Value;
 
 const DAMAGES: usize = 3;
 
@@ -59,7 +59,7 @@ impl<C: Calls> Both<'_, '_, C> {
         Ok(())
     }
 
-    pub fn cycle(&mut self, lent: (usize, usize), lane: &Lane, inputs: &[Slot]) -> Outcome {
+    pub fn cycle(&mut self, lent: (usize, usize), lane: &Lane, inputs: &[Value]) -> Outcome {
         self.run(lent, lane, inputs).map(|_| ())
     }
 
@@ -68,7 +68,7 @@ impl<C: Calls> Both<'_, '_, C> {
         &mut self,
         (nodes, rows): (usize, usize),
         lane: &Lane,
-        inputs: &[Vec<Slot>],
+        inputs: &[Vec<Value>],
     ) -> Outcome {
         let (nodes, rows) = self.holding.lent.lend(nodes, rows);
         let (mut expected, mut found) = (lane.clone(), lane.clone());
@@ -89,7 +89,7 @@ impl<C: Calls> Both<'_, '_, C> {
         &mut self,
         (nodes, rows): (usize, usize),
         lane: &Lane,
-        inputs: &[Slot],
+        inputs: &[Value],
     ) -> Result<Lane, String> {
         let (nodes, rows) = self.holding.lent.lend(nodes, rows);
         let (mut expected, mut found) = (lane.clone(), lane.clone());

@@ -6,7 +6,8 @@ use crate::compiler::Lane;
 use crate::machine::number::USED_UP;
 use crate::saved::{load, save};
 use crate::simulator::{PlainRun, Verdict};
-use crate::state::{Slot, State, USERS};
+use crate::state::{State, USERS};
+use crate::value::Value;
 
 /// The proved library on a sheet.
 pub struct Library<'a> {
@@ -50,12 +51,12 @@ impl Calls for Library<'_> {
         PlainRun { accepted, number, verdict }
     }
 
-    fn instant(&self, state: &mut State, inputs: &[Slot]) -> u8 {
+    fn instant(&self, state: &mut State, inputs: &[Value]) -> u8 {
         let inputs = Inputs::of(inputs);
         self.on_saved(state, |saved| super::instant(self.sheet, saved, &inputs))
     }
 
-    fn run_cycles(&self, state: &mut State, user: u8, inputs: &[Vec<Slot>]) -> (usize, u8) {
+    fn run_cycles(&self, state: &mut State, user: u8, inputs: &[Vec<Value>]) -> (usize, u8) {
         let (value, unknown) = rows_of_16(inputs);
         self.on_saved(state, |saved| {
             super::run_cycles(self.sheet, saved, user, &value, &unknown)
@@ -66,7 +67,7 @@ impl Calls for Library<'_> {
         super::extract(self.sheet, nodes, rows)
     }
 
-    fn cycle(&self, nodes: &[u16], rows: &[u16], lane: &mut Lane, inputs: &[Slot]) -> u8 {
+    fn cycle(&self, nodes: &[u16], rows: &[u16], lane: &mut Lane, inputs: &[Value]) -> u8 {
         let mut planes = Planes::of(lane);
         let number = super::cycle(self.sheet, nodes, rows, &mut planes, &Inputs::of(inputs));
         *lane = planes.lane();
@@ -78,7 +79,7 @@ impl Calls for Library<'_> {
         nodes: &[u16],
         rows: &[u16],
         lane: &mut Lane,
-        inputs: &[Vec<Slot>],
+        inputs: &[Vec<Value>],
     ) -> (usize, u8) {
         let mut planes = Planes::of(lane);
         let (value, unknown) = rows_of_16(inputs);

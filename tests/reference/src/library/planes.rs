@@ -1,28 +1,29 @@
-//! Values as the library takes and gives them: numbers and flags apart.
+//! Values as the library takes and gives them: numbers and marks apart.
 
 use crate::compiler::Lane;
 use crate::extraction::REGISTERS;
-use crate::state::{MARKS, PLACES, Slot};
+use crate::state::{MARKS, PLACES};
+use crate::value::Value;
 
 /// A count, and so many inputs; the first 16 where there are more.
 pub struct Inputs {
     pub count: u8,
     pub value: [u32; 16],
-    pub unknown: [bool; 16],
+    pub unknown: [u32; 16],
 }
 
 /// Registers, places and wires.
 pub struct Planes {
     pub value: [u32; REGISTERS],
-    pub unknown: [bool; REGISTERS],
+    pub unknown: [u32; REGISTERS],
     pub places: [u8; PLACES],
     pub wire: [u32; MARKS],
-    pub unsure: [bool; MARKS],
+    pub unsure: [u32; MARKS],
 }
 
 impl Inputs {
     /// What isn't there is 0.
-    pub fn of(inputs: &[Slot]) -> Inputs {
+    pub fn of(inputs: &[Value]) -> Inputs {
         let count = u8::try_from(inputs.len()).expect("at most 255 values");
         let (value, unknown) = apart(inputs);
         Inputs { count, value, unknown }
@@ -44,8 +45,8 @@ impl Planes {
 
 /// The inputs from 1 up in rows of 16. What stands for the clock and past the inputs isn't
 /// looked at.
-pub fn rows_of_16(inputs: &[Vec<Slot>]) -> (Vec<u32>, Vec<bool>) {
-    let other = Slot { unknown: true, number: 7 };
+pub fn rows_of_16(inputs: &[Vec<Value>]) -> (Vec<u32>, Vec<u32>) {
+    let other = Value { unknown: 5, number: 7 };
     let mut slots = Vec::new();
     for row in inputs {
         slots.push(other);
@@ -55,15 +56,15 @@ pub fn rows_of_16(inputs: &[Vec<Slot>]) -> (Vec<u32>, Vec<bool>) {
     slots.iter().map(|slot| (slot.number, slot.unknown)).unzip()
 }
 
-/// Numbers and flags; 0 and false past the last slot.
-fn apart<const N: usize>(slots: &[Slot]) -> ([u32; N], [bool; N]) {
-    let (mut value, mut unknown) = ([0; N], [false; N]);
+/// Numbers and marks; 0 past the last value.
+fn apart<const N: usize>(slots: &[Value]) -> ([u32; N], [u32; N]) {
+    let (mut value, mut unknown) = ([0; N], [0; N]);
     for (i, slot) in slots.iter().take(N).enumerate() {
         (value[i], unknown[i]) = (slot.number, slot.unknown);
     }
     (value, unknown)
 }
 
-fn together<const N: usize>(value: &[u32; N], unknown: &[bool; N]) -> [Slot; N] {
-    std::array::from_fn(|i| Slot { unknown: unknown[i], number: value[i] })
+fn together<const N: usize>(value: &[u32; N], unknown: &[u32; N]) -> [Value; N] {
+    std::array::from_fn(|i| Value { unknown: unknown[i], number: value[i] })
 }

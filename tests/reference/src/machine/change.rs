@@ -2,7 +2,7 @@
 
 use super::Machine;
 use crate::module::{Term, Variable};
-use crate::state::{Slot, State};
+use crate::state::State;
 use crate::value::{Value, fires};
 
 /// A variable that went to another value.
@@ -18,8 +18,7 @@ impl Machine<'_> {
         let mut changes = Vec::new();
         for &(variable, now) in stores {
             let slot = &mut state.values[usize::from(variable)];
-            let before = slot.value();
-            *slot = Slot::of(now);
+            let before = std::mem::replace(slot, now);
             if before != now {
                 changes.push(Change { variable, before, now });
             }

@@ -1,10 +1,11 @@
 //! Whether states and inputs fit the module (31 and 25).
 
 use super::Machine;
-use crate::state::{Pending, Slot, State};
+use crate::state::{Pending, State};
+use crate::value::Value;
 
 impl Machine<'_> {
-    /// Values and pending values have their widths, places lie inside their threads, no mark or
+    /// Values and pending values fit their widths, places lie inside their threads, no mark or
     /// pending value stands past the sheet's, and no count is above its allowance.
     pub fn fits(&self, state: &State) -> bool {
         self.values_fit(state)
@@ -34,8 +35,8 @@ impl Machine<'_> {
         places.all(|(code, place)| usize::from(place) < code.len())
     }
 
-    /// There are as many inputs as the module has, none too wide.
-    pub fn inputs_fit(&self, inputs: &[Slot]) -> bool {
+    /// There are as many inputs as the module has, and all of them fit.
+    pub fn inputs_fit(&self, inputs: &[Value]) -> bool {
         inputs.len() == usize::from(self.module.inputs)
             && slots_fit(&self.module.widths, inputs)
     }
@@ -48,6 +49,6 @@ fn counts_fit(state: &State) -> bool {
 }
 
 /// As far as both go.
-fn slots_fit(widths: &[u8], slots: &[Slot]) -> bool {
-    widths.iter().zip(slots).all(|(&width, slot)| slot.value().fits(width))
+fn slots_fit(widths: &[u8], slots: &[Value]) -> bool {
+    widths.iter().zip(slots).all(|(&width, slot)| slot.fits(width))
 }

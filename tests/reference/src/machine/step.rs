@@ -3,7 +3,7 @@
 use super::{Choice, Machine, number};
 use crate::module::{Expr, Module, Variable};
 use crate::pseudocode::Instruction;
-use crate::state::{Pending, Slot, State, USERS};
+use crate::state::{Pending, State, USERS};
 use crate::value::{Scope, Value, evaluate};
 
 impl Machine<'_> {
@@ -94,7 +94,7 @@ impl Machine<'_> {
     }
 
     /// Sets all inputs as one change and adds 1 to time, or says why not: 25, 32, 36.
-    pub fn instant(&self, state: &mut State, inputs: &[Slot]) -> Result<(), u8> {
+    pub fn instant(&self, state: &mut State, inputs: &[Value]) -> Result<(), u8> {
         if !self.inputs_fit(inputs) {
             return Err(number::INPUTS);
         }
@@ -102,8 +102,7 @@ impl Machine<'_> {
             return Err(number::NOT_QUIET);
         }
         state.time = state.time.checked_add(1).ok_or(number::FULL)?;
-        let values = inputs.iter().map(|input| input.value());
-        let stores: Vec<(Variable, Value)> = (0..).zip(values).collect();
+        let stores: Vec<(Variable, Value)> = (0..).zip(inputs.iter().copied()).collect();
         self.change(state, &stores);
         Ok(())
     }
@@ -125,6 +124,6 @@ impl Scope for Present<'_> {
     }
 
     fn value(&self, variable: Variable) -> Value {
-        self.state.values[usize::from(variable)].value()
+        self.state.values[usize::from(variable)]
     }
 }

@@ -44,7 +44,7 @@ impl<C: Calls> List<'_, C> {
         let module = self.machine.module();
         for variable in 0..module.widths.len() {
             let expected = self.book.values.get(variable as u8);
-            let found = self.state.values[variable].value();
+            let found = self.state.values[variable];
             if found != expected {
                 return Err(format!("quiet: v{variable} is {found:?}, not {expected:?}"));
             }

@@ -4,7 +4,8 @@ use super::{List, Outcome};
 use crate::calls::Calls;
 use crate::lanes;
 use crate::machine::COMMIT;
-use crate::state::{Slot, State, USERS};
+use crate::state::{State, USERS};
+use crate::value::Value;
 
 impl<C: Calls> List<'_, C> {
     /// A call that may be refused. Where this implementation says that it would be accepted,
@@ -57,7 +58,7 @@ impl<C: Calls> List<'_, C> {
             false => lanes::bad_inputs(module, self.random),
         };
         inputs.truncate(254);
-        inputs.insert(0, self.random.pick(&[Slot::known(0), Slot::known(1), Slot::X]));
+        inputs.insert(0, self.random.pick(&[Value::known(0), Value::known(1), Value::x(1)]));
         let expected = self.reference.instant(&mut self.state.clone(), &inputs);
         if expected == 0 {
             return Ok(());

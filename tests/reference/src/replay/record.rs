@@ -3,8 +3,9 @@
 use std::fmt::{self, Display, Formatter};
 
 use super::tables::{Cycle, Lent, Table, read_inputs, write_inputs};
-use crate::saved::{Bytes, FORM, write_allowances, write_state};
-use crate::state::{Slot, State, USERS};
+use crate::dispatch;
+use crate::saved::{Bytes, FORM, write_allowances, write_state, write_turns};
+use crate::state::{State, USERS};
 use crate::value::Value;
 
 /// One call.
@@ -20,7 +21,7 @@ pub enum Record {
     /// A user and how many choices at most.
     Plain(u8, u16),
     /// At most 255 values.
-    Instant(Vec<Slot>),
+    Instant(Vec<Value>),
     Load(Box<State>),
     /// At most 65,535 bytes of a saved state, and the allowances for one count.
     Bring(Vec<u8>, [u32; USERS]),
@@ -38,7 +39,12 @@ pub enum Record {
         text: Vec<u8>,
         lent: u16,
     },
+    /// At most 16 turn records, and the number served last.
+    Dispatch(Vec<dispatch::Record>, u8),
 }
+
+/// The turn records that a script can hold.
+const MOST_TURNS: u8 = 16;
 
 /// The bytes of the buffer that a text's sheet is written into: one more than are right.
 pub const BUFFER: u16 = 8_193;
@@ -124,6 +130,11 @@ impl Record {
                 let lent = bytes.word().filter(|&lent| lent <= BUFFER)?;
                 Record::Text { text, lent }
             }
+            b'B' => {
+                let count = bytes.byte().filter(|&count| count <= MOST_TURNS)?;
+                let turns: Option<Vec<_>> = (0..count).map(|_| bytes.turns()).collect();
+                Record::Dispatch(turns?, bytes.byte()?)
+            }
             _ => return None,
         })
     }
@@ -184,6 +195,11 @@ impl Record {
                 script.extend(text);
                 script.extend(lent.to_le_bytes());
             }
+            Record::Dispatch(turns, last) => {
+                script.extend([b'B', u8::try_from(turns.len()).expect("at most 16 records")]);
+                write_turns(turns, script);
+                script.push(*last);
+            }
         }
     }
 }
@@ -219,13 +235,11 @@ impl Display for Record {
             Record::Text { text, lent } => {
                 write!(f, "text {lent} {}", String::from_utf8_lossy(text))
             }
+            Record::Dispatch(turns, last) => write!(f, "dispatch {turns:?} after {last}"),
         }
     }
 }
 
-fn write_values(f: &mut Formatter, slots: &[Slot]) -> fmt::Result {
-    slots.iter().try_for_each(|slot| match slot.value() {
-        Value::X => write!(f, " x"),
-        Value::Known(number) => write!(f, " {number}"),
-    })
+fn write_values(f: &mut Formatter, slots: &[Value]) -> fmt::Result {
+    slots.iter().try_for_each(|value| write!(f, " {value}"))
 }

@@ -2,8 +2,9 @@
 
 use crate::compiler::Lane;
 use crate::extraction::{NODE_WORDS, REGISTERS, ROW_WORDS};
-use crate::saved::{Bytes, write_slot};
-use crate::state::{MARKS, PLACES, Slot};
+use crate::saved::{Bytes, write_value};
+use crate::state::{MARKS, PLACES};
+use crate::value::Value;
 
 /// One word more than a call may be lent.
 pub const NODES: usize = NODE_WORDS + 1;
@@ -81,18 +82,18 @@ fn hex_words(words: &[u16]) -> String {
 #[derive(Clone, Debug, PartialEq, Eq)]
 pub struct Cycle {
     pub lent: Lent,
-    pub registers: [Slot; REGISTERS],
+    pub registers: [Value; REGISTERS],
     pub places: [u8; PLACES],
     /// From 1 up, at most 255 values.
-    pub inputs: Vec<Slot>,
+    pub inputs: Vec<Value>,
 }
 
 impl Cycle {
     pub fn read(bytes: &mut Bytes) -> Option<Cycle> {
         let lent = Lent::read(bytes)?;
-        let mut registers = [Slot::ZERO; REGISTERS];
+        let mut registers = [Value::ZERO; REGISTERS];
         for register in &mut registers {
-            *register = bytes.slot()?;
+            *register = bytes.value()?;
         }
         let places = bytes.take(PLACES)?.try_into().expect("so many bytes");
         let inputs = read_inputs(bytes)?;
@@ -101,24 +102,24 @@ impl Cycle {
 
     pub fn write(&self, script: &mut Vec<u8>) {
         self.lent.write(script);
-        self.registers.iter().for_each(|register| write_slot(register, script));
+        self.registers.iter().for_each(|register| write_value(register, script));
         script.extend(self.places);
         write_inputs(&self.inputs, script);
     }
 
     /// Registers and places as handed, no wires yet.
     pub fn lane(&self) -> Lane {
-        Lane { registers: self.registers, places: self.places, wires: [Slot::X; MARKS] }
+        Lane { registers: self.registers, places: self.places, wires: [Value::NOWHERE; MARKS] }
     }
 }
 
 /// A count and so many values.
-pub fn read_inputs(bytes: &mut Bytes) -> Option<Vec<Slot>> {
+pub fn read_inputs(bytes: &mut Bytes) -> Option<Vec<Value>> {
     let count = bytes.byte()?;
-    (0..count).map(|_| bytes.slot()).collect()
+    (0..count).map(|_| bytes.value()).collect()
 }
 
-pub fn write_inputs(inputs: &[Slot], script: &mut Vec<u8>) {
+pub fn write_inputs(inputs: &[Value], script: &mut Vec<u8>) {
     script.push(u8::try_from(inputs.len()).expect("at most 255 values"));
-    inputs.iter().for_each(|input| write_slot(input, script));
+    inputs.iter().for_each(|input| write_value(input, script));
 }

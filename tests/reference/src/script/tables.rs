@@ -5,7 +5,7 @@ use crate::compiler::Lane;
 use crate::damage::{self, Store};
 use crate::lanes;
 use crate::replay::{Cycle, Lent, NODES, ROWS, Record, Table};
-use crate::state::Slot;
+use crate::value::Value;
 
 impl Writer<'_> {
     pub(super) fn table_record(&mut self) -> Record {
@@ -77,12 +77,12 @@ impl Writer<'_> {
         lane
     }
 
-    fn cycle_inputs(&mut self) -> Vec<Slot> {
+    fn cycle_inputs(&mut self) -> Vec<Value> {
         let random = &mut self.random;
         match self.module {
             Some(module) if random.chance(7, 8) => lanes::inputs(module, random),
             Some(module) => lanes::bad_inputs(module, random),
-            None => vec![Slot::known(1); random.below(4)],
+            None => vec![Value::known(1); random.below(4)],
         }
     }
 }

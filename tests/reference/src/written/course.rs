@@ -2,7 +2,7 @@
 //! remains to do.
 
 use crate::module::{Expr, Module, Stmt, Term, Variable};
-use crate::state::{Pending, Slot, State};
+use crate::state::{Pending, State};
 use crate::value::{Scope, Value, evaluate};
 
 /// A store or a pending value.
@@ -17,7 +17,7 @@ impl Write {
     pub fn make(self, module: &Module, state: &mut State) {
         match self {
             Write::Stored(target, value) => {
-                state.values[usize::from(target)] = Slot::of(value);
+                state.values[usize::from(target)] = value;
             }
             Write::Deferred(target, value) => {
                 state.pending[usize::from(target - module.inputs)] = Pending::of(value);
@@ -54,7 +54,7 @@ pub fn meaning(
     state: &State,
     s: &Stmt,
 ) -> (Vec<Write>, Course) {
-    let values = state.values.iter().map(|slot| slot.value()).collect();
+    let values = state.values.to_vec();
     let mut page = Page { module, reading, values, writes: Vec::new() };
     let course = page.course(s);
     (page.writes, course)

@@ -10,7 +10,7 @@ use reference::machine::Machine;
 use reference::module::Module;
 use reference::random::Random;
 use reference::simulator::Simulator;
-use reference::state::{MOST, Slot, State};
+use reference::state::{MOST, State};
 use reference::states;
 use reference::value::Value;
 
@@ -44,7 +44,7 @@ fn uncounted(state: &State) -> State {
 fn agree(module: &Module, state: &State, book: &Book) {
     for variable in 0..module.widths.len() {
         let expected = book.values.get(variable as u8);
-        assert_eq!(state.values[variable].value(), expected, "variable {variable}");
+        assert_eq!(state.values[variable], expected, "variable {variable}");
     }
     assert_eq!(state.places[..module.threads.len()], book.places[..]);
 }
@@ -52,10 +52,10 @@ fn agree(module: &Module, state: &State, book: &Book) {
 /// What a cycle run is handed of the book.
 fn lane(module: &Module, book: &Book) -> Lane {
     let mut lane =
-        Lane { registers: [Slot::X; 32], places: [0; 8], wires: [Slot::known(3); 32] };
+        Lane { registers: [Value::NOWHERE; 32], places: [0; 8], wires: [Value::known(3); 32] };
     for register in 0..module.registers {
         let value = book.values.get(module.inputs + register);
-        lane.registers[usize::from(register)] = Slot::of(value);
+        lane.registers[usize::from(register)] = value;
     }
     lane.places[..book.places.len()].copy_from_slice(&book.places);
     lane
@@ -63,10 +63,10 @@ fn lane(module: &Module, book: &Book) -> Lane {
 
 /// The same with the wires.
 fn outcome(module: &Module, book: &Book) -> Lane {
-    let mut lane = Lane { wires: [Slot::X; 32], ..lane(module, book) };
+    let mut lane = Lane { wires: [Value::NOWHERE; 32], ..lane(module, book) };
     let first = module.inputs + module.registers;
     for wire in 0..module.wires.len() {
-        lane.wires[wire] = Slot::of(book.values.get(first + wire as u8));
+        lane.wires[wire] = book.values.get(first + wire as u8);
     }
     lane
 }
@@ -95,11 +95,11 @@ fn all_orders() {
         agree(&module, &state, &book);
         for _ in 0..5 {
             let widths = &module.widths[1..module.inputs.into()];
-            let inputs: Vec<Slot> =
-                widths.iter().map(|&w| states::fitting_slot(w, &mut random)).collect();
+            let inputs: Vec<Value> =
+                widths.iter().map(|&w| states::fitting_value(w, &mut random)).collect();
             let mut handed = lane(&module, &book);
             for clock in [0, 1] {
-                let all = [&[Slot::known(clock)], &inputs[..]].concat();
+                let all = [&[Value::known(clock)], &inputs[..]].concat();
                 simulator.instant(&mut state, &all).expect("at rest");
                 state = rest(&state);
                 book.instant(&all);
@@ -117,10 +117,10 @@ fn other_clocks() {
     let module = lively::module(Kind::Extractable, Size::Tiny, &mut Random::new(1));
     let extraction = extract(&module).expect("extractable");
     let mut books = [Book::new(&module, &extraction), Book::new(&module, &extraction)];
-    let rest = vec![Slot::known(1); usize::from(module.inputs) - 1];
-    for (book, clock) in books.iter_mut().zip([Slot::known(0), Slot::X]) {
+    let rest = vec![Value::known(1); usize::from(module.inputs) - 1];
+    for (book, clock) in books.iter_mut().zip([Value::known(0), Value::x(1)]) {
         book.instant(&[&[clock], &rest[..]].concat());
-        book.values.set(0, Value::X);
+        book.values.set(0, Value::x(1));
     }
     assert_eq!(books[0].values, books[1].values);
     assert_eq!(books[0].places, books[1].places);

@@ -4,7 +4,7 @@ use reference::build;
 use reference::compiler::{Compiler, Lane};
 use reference::extraction::{NODE_WORDS, ROW_WORDS, extract};
 use reference::module::{Expr, Module, Operator, Stmt};
-use reference::state::Slot;
+use reference::value::Value;
 
 pub fn module(
     inputs: &[u8],
@@ -50,11 +50,11 @@ pub fn tables(module: &Module) -> (Vec<u16>, Vec<u16>) {
 }
 
 /// A lane with these first registers and places; the others have odd contents.
-pub fn lane(registers: &[Slot], places: &[u8]) -> Lane {
+pub fn lane(registers: &[Value], places: &[u8]) -> Lane {
     let mut lane = Lane {
-        registers: [Slot { unknown: true, number: 77 }; 32],
+        registers: [Value { unknown: 70, number: 77 }; 32],
         places: [99; 8],
-        wires: [Slot::known(5); 32],
+        wires: [Value::known(5); 32],
     };
     lane.registers[..registers.len()].copy_from_slice(registers);
     lane.places[..places.len()].copy_from_slice(places);

@@ -3,9 +3,9 @@
 use reference::build::{CLK, at_clk, later, v};
 use reference::compiler::Compiler;
 use reference::module::{Module, Stmt};
-use reference::state::Slot;
 
 use crate::short::{lane, module, tables};
+use reference::value::Value;
 
 /// Two threads of two waits each, places 0 and 2: widths 1, 8; registers r, s of 8 and t of 4
 /// that nobody writes; a wire of 8. Nodes 0 to 5 are the variables', in order.
@@ -21,13 +21,13 @@ fn number(node_words: &[(usize, u16)], row_words: &[(usize, u16)]) -> u8 {
     node_words.iter().for_each(|&(index, word)| nodes[index] = word);
     row_words.iter().for_each(|&(index, word)| rows[index] = word);
     let reading = Ok(module);
-    let mut lane = lane(&[Slot::X; 3], &[0, 2]);
-    let given = [Slot::known(7)];
+    let mut lane = lane(&[8, 8, 4].map(Value::x), &[0, 2]);
+    let given = [Value::known(7)];
     let before = lane.clone();
     let outcome = Compiler::new(&reading).cycle(&nodes, &rows, &mut lane, &given);
     if outcome.is_err() {
         assert_eq!((lane.registers, lane.places), (before.registers, before.places));
-        assert_eq!(lane.wires, [Slot::X; 32]);
+        assert_eq!(lane.wires, [Value::NOWHERE; 32]);
     }
     outcome.err().unwrap_or(0)
 }
@@ -186,7 +186,7 @@ fn waits_of_the_thread() {
     let mut run = |row: usize, id| {
         let before = rows[33 * row + PLACE];
         rows[33 * row + PLACE] = id;
-        let outcome = compiler.cycle(&nodes, &rows, &mut lane(&[Slot::X], &[0, 1]), &[]);
+        let outcome = compiler.cycle(&nodes, &rows, &mut lane(&[Value::x(8)], &[0, 1]), &[]);
         rows[33 * row + PLACE] = before;
         outcome.err().unwrap_or(0)
     };

@@ -10,12 +10,13 @@ use reference::module::{Module, Operator};
 use reference::samples::FLIP_FLOP;
 use reference::sheet::read;
 use reference::simulator::{PlainRun, Verdict};
-use reference::state::{Slot, State, USERS};
+use reference::state::{State, USERS};
+use reference::value::Value;
 
 #[derive(Clone, Copy, Debug, PartialEq, Eq)]
 pub enum Fault {
     None,
-    /// ?: in place of a branch: on x it gives x, where the thread takes the other leg.
+    /// ?: in place of a branch: on x it joins both arms, where the thread takes the other leg.
     ConditionalForBranch,
     /// A low instant makes no wire due.
     WiresAfterRiseOnly,
@@ -43,6 +44,10 @@ pub enum Fault {
     CountedForTheFirst,
     /// An allowance lasts for one choice more.
     OneMore,
+    /// A choice that stores a value with an unknown bit loses all its bits.
+    UnknownAsAWhole,
+    /// A cycle run does.
+    UnknownAsAWholeInCycles,
 }
 
 pub struct Faulty<'a> {
@@ -80,8 +85,8 @@ impl Faulty<'_> {
             if let Some(value) = state.pending[register].value() {
                 let variable = self.module.inputs + register as u8;
                 assert!(variable < first_wire);
-                let changed = state.values[usize::from(variable)].value() != value;
-                state.values[usize::from(variable)] = Slot::of(value);
+                let changed = state.values[usize::from(variable)] != value;
+                state.values[usize::from(variable)] = value;
                 state.pending[register].held = false;
                 for (due, wire) in state.due.iter_mut().zip(&self.module.wires) {
                     *due |= changed && variables(wire).contains(&variable);
@@ -113,6 +118,12 @@ impl Calls for Faulty<'_> {
         match self.fault {
             Fault::CommitByThread if number == 0 && arrived => self.commit_own(state, thread),
             Fault::NothingRun => *state = before,
+            Fault::UnknownAsAWhole => {
+                let values = state.values.iter_mut().zip(&before.values);
+                let changed =
+                    values.zip(&self.module.widths).filter(|((now, then), _)| now != then);
+                changed.for_each(|((value, _), &width)| lose(value, width));
+            }
             _ => {}
         }
         number
@@ -150,14 +161,14 @@ impl Calls for Faulty<'_> {
         PlainRun { accepted: told, number: 0, verdict }
     }
 
-    fn instant(&self, state: &mut State, inputs: &[Slot]) -> u8 {
+    fn instant(&self, state: &mut State, inputs: &[Value]) -> u8 {
         if self.refuses() {
             return 32;
         }
         let before = state.clone();
         let number = self.calls.instant(state, inputs);
         match self.fault {
-            Fault::WiresAfterRiseOnly if number == 0 && inputs[0] == Slot::known(0) => {
+            Fault::WiresAfterRiseOnly if number == 0 && inputs[0] == Value::known(0) => {
                 state.due = before.due;
             }
             Fault::IdleAfterFirstCycle if number == 0 && state.time > 2 => {
@@ -192,7 +203,7 @@ impl Calls for Faulty<'_> {
         number
     }
 
-    fn cycle(&self, nodes: &[u16], rows: &[u16], lane: &mut Lane, inputs: &[Slot]) -> u8 {
+    fn cycle(&self, nodes: &[u16], rows: &[u16], lane: &mut Lane, inputs: &[Value]) -> u8 {
         if self.fault == Fault::RefusingEverything {
             return 24;
         }
@@ -201,7 +212,19 @@ impl Calls for Faulty<'_> {
         if self.fault == Fault::IdleCycleRun {
             (lane.registers, lane.places) = (before.registers, before.places);
         }
+        if self.fault == Fault::UnknownAsAWholeInCycles && number == 0 {
+            let widths = &self.module.widths[self.module.inputs.into()..];
+            let own = lane.registers.iter_mut().zip(widths).take(self.module.registers.into());
+            own.for_each(|(value, &width)| lose(value, width));
+        }
         number
+    }
+}
+
+/// x as a whole in the place of a value with an unknown bit.
+fn lose(value: &mut Value, width: u8) {
+    if !value.is_known() {
+        *value = Value::x(width);
     }
 }
 

@@ -14,7 +14,7 @@ use reference::sheet::read;
 use faulty::{Fault, Faulty};
 
 /// Each fault with the clause that it breaks.
-const FAULTS: [(Fault, &str); 14] = [
+const FAULTS: [(Fault, &str); 16] = [
     (Fault::ConditionalForBranch, "cycle run"),
     (Fault::WiresAfterRiseOnly, "quiet: v"),
     (Fault::CommitByThread, "quiet: v"),
@@ -29,6 +29,8 @@ const FAULTS: [(Fault, &str); 14] = [
     (Fault::EarlyQuiet, "says Quiet"),
     (Fault::CountedForTheFirst, "time and counts"),
     (Fault::OneMore, "not quiet, but choice"),
+    (Fault::UnknownAsAWhole, "quiet: v"),
+    (Fault::UnknownAsAWholeInCycles, "cycle run"),
 ];
 
 /// The clauses of demand 3 that random modules break.
@@ -63,6 +65,7 @@ fn extraction_finds_faults() {
         (Fault::ConditionalForBranch, true),
         (Fault::SameTable, true),
         (Fault::IdleCycleRun, true),
+        (Fault::UnknownAsAWholeInCycles, true),
         (Fault::RefusingEverything, true),
     ] {
         let mut random = Random::new(78);

@@ -3,14 +3,16 @@
 mod tables;
 
 use reference::differ::difference;
+use reference::dispatch::Record as Turns;
 use reference::random::Random;
 use reference::replay::{Cycle, Lent, Record, Script, Table, replay};
 use reference::samples::FLIP_FLOP;
-use reference::saved::{save, save_long, save_short};
+use reference::saved::{save, save_old};
 use reference::script::script;
-use reference::state::{MOST, Slot, State};
+use reference::state::{MOST, State};
 use reference::states::noise;
 use reference::tally::Tally;
+use reference::value::Value;
 
 fn output(script: &[u8]) -> String {
     let mut out = Vec::new();
@@ -28,7 +30,7 @@ fn answers(records: &[Record]) -> Vec<String> {
 }
 
 fn instant(numbers: &[u32]) -> Record {
-    Record::Instant(numbers.iter().copied().map(Slot::known).collect())
+    Record::Instant(numbers.iter().copied().map(Value::known).collect())
 }
 
 // ---- what the records answer
@@ -80,7 +82,7 @@ fn the_listing_in_hexadecimal() {
 /// The state before the first record is all zero, which fits; a refused start leaves it.
 #[test]
 fn the_first_state() {
-    let zero = format!("state {}", "00".repeat(688));
+    let zero = format!("state {}", "00".repeat(1024));
     assert_eq!(answers(&[Record::Dump])[0], zero);
     let found =
         lines(&Script::write(&[], &[Record::Start(MOST), Record::Dump, Record::Plain(0, 1)]));
@@ -105,20 +107,22 @@ fn states_are_printed_as_loaded() {
 /// A state of any form is brought over, after the sheet's own numbers; other bytes leave the state.
 #[test]
 fn bringing_over() {
-    let mut state = State::start(3, [3, 9, 9, 9]);
+    let mut state = State::start(&[1, 8, 8], 3, [3, 9, 9, 9]);
     (state.time, state.counts) = (258, [3, 0, 0, 0]);
-    let short = save_short(&state).expect("short counters");
+    let [short, long, counts] = [1, 2, 3].map(|form| save_old(form, &state).expect("short"));
     let text = |saved: &[u8]| -> String { saved.iter().map(|b| format!("{b:02x}")).collect() };
     let expected = format!("state {}", text(&save(&state)[1..]));
-    let zero = format!("state {}", "00".repeat(688));
-    for saved in [save_long(&state), short.clone()] {
+    let zero = format!("state {}", "00".repeat(1024));
+    for saved in [long, short.clone()] {
         let found = answers(&[Record::Bring(saved.clone(), [3, 9, 9, 9]), Record::Dump]);
         assert_eq!(found, ["bring 0", &expected]);
         let found = answers(&[Record::Bring(saved, [2, 9, 9, 9]), Record::Dump]);
         assert_eq!(found, ["bring 31", &zero]);
     }
-    let found = answers(&[Record::Bring(save(&state), [0; 4]), Record::Dump]);
-    assert_eq!(found, ["bring 0", &expected]);
+    for saved in [counts, save(&state)] {
+        let found = answers(&[Record::Bring(saved, [0; 4]), Record::Dump]);
+        assert_eq!(found, ["bring 0", &expected]);
+    }
     let found = answers(&[Record::Bring(short[..640].to_vec(), MOST), Record::Dump]);
     assert_eq!(found, ["bring 31", &zero]);
     let found = lines(&Script::write(&[], &[Record::Bring(short, MOST), Record::Dump]));
@@ -181,48 +185,57 @@ fn instants_of_any_count() {
 #[test]
 fn heads() {
     assert_eq!(output(&[]), "bad script\n");
-    assert_eq!(output(&[3]), "bad script\n");
-    assert_eq!(output(&[3, 0]), "bad script\n");
-    assert_eq!(output(&[3, 1, 0]), "bad script\n");
-    assert_eq!(output(&[3, 0, 0]), "");
-    assert_eq!(output(&[3, 0, 0, b'N']), "read 2 0\n");
-    for form in (0..=255).filter(|&form| form != 3) {
+    assert_eq!(output(&[4]), "bad script\n");
+    assert_eq!(output(&[4, 0]), "bad script\n");
+    assert_eq!(output(&[4, 1, 0]), "bad script\n");
+    assert_eq!(output(&[4, 0, 0]), "");
+    assert_eq!(output(&[4, 0, 0, b'N']), "read 2 0\n");
+    for form in (0..=255).filter(|&form| form != 4) {
         assert_eq!(output(&[form, 0, 0, b'N']), "bad script\n");
     }
-    let long = [&[3, 255, 255][..], &[0; 65_535], b"N"].concat();
+    let long = [&[4, 255, 255][..], &[0; 65_535], b"N"].concat();
     assert_eq!(output(&long), "read 1 8192\n");
 }
 
 #[test]
 fn letters() {
     for letter in 0..=255 {
-        let head = [3, 0, 0, b'N', letter];
-        let found = output(&[&head[..], &[0; 688]].concat());
+        let head = [4, 0, 0, b'N', letter];
+        let found = output(&[&head[..], &[0; 1024]].concat());
         let second = found.lines().nth(1).expect("two lines");
-        assert_eq!(second != "bad script", b"NQSCRPILMDXTWKV".contains(&letter), "{letter}");
+        assert_eq!(second != "bad script", b"NQSCRPILMDXTWKVB".contains(&letter), "{letter}");
     }
 }
 
-/// A flag or mark other than 0 or 1 ends the run, wherever it stands.
+/// A flag other than 0 or 1 ends the run, wherever it stands.
 #[test]
 fn flags() {
     let head = Script::write(&FLIP_FLOP.sheet(), &[]);
     let load = |state: &[u8]| output(&[&head[..], b"L", state].concat());
-    let mut bytes = [0; 688];
+    let mut bytes = [0; 1024];
     let mut flags = 0;
-    for place in 0..688 {
+    for place in 0..1024 {
         bytes[place] = 2;
         flags += usize::from(load(&bytes) == "bad script\n");
         bytes[place] = 0;
     }
-    assert_eq!(flags, 80 + 2 * 32 + 32);
+    assert_eq!(flags, 32 + 32);
     assert_eq!(load(&bytes), "load\n");
-    // Also among inputs past the sixteenth.
-    let mut inputs = vec![0; 2 + 5 * 18];
+    // Inputs past the sixteenth are read.
+    let mut inputs = vec![0; 2 + 8 * 18];
     inputs[..2].copy_from_slice(&[b'I', 18]);
     assert_eq!(output(&[&head[..], &inputs].concat()), "instant 25\n");
-    inputs[2 + 5 * 17] = 2;
-    assert_eq!(output(&[&head[..], &inputs].concat()), "bad script\n");
+    assert_eq!(output(&[&head[..], &inputs[..2 + 8 * 17]].concat()), "bad script\n");
+    // A turn record's flag, and more turn records than there may be.
+    let turns = |count: u8, busy: u8| {
+        let mut record = vec![0; 3 + 5 * usize::from(count)];
+        (record[0], record[1], record[2]) = (b'B', count, busy);
+        output(&[&head[..], &record].concat())
+    };
+    assert_eq!(turns(1, 1), "dispatch 0 0 0101000000\n");
+    assert_eq!(turns(1, 2), "bad script\n");
+    assert!(turns(16, 1).starts_with("dispatch 48 none "));
+    assert_eq!(turns(17, 1), "bad script\n");
 }
 
 /// The lines of earlier records stand whatever comes after.
@@ -258,18 +271,19 @@ fn records_are_read_as_written() {
         Record::Choose(0, 200),
         Record::Run(0, (0..=255).cycle().take(65_535).collect()),
         Record::Plain(0, 0x1234),
-        Record::Instant(vec![Slot { unknown: true, number: 0xFEDC_BA98 }; 255]),
-        Record::Load(Box::new(State::start(5, MOST))),
+        Record::Instant(vec![Value { unknown: 0x89AB_CDEF, number: 0xFEDC_BA98 }; 255]),
+        Record::Load(Box::new(State::start(&[1, 9], 5, MOST))),
         Record::Bring((0..=255).cycle().take(641).collect(), [1, 2, 3, u32::MAX]),
         Record::Dump,
         Record::Extract(Lent { nodes: 16_385, rows: 1057 }),
         Record::Tables,
         Record::Word { table: Table::Rows, index: 65_535, word: 0x1234 },
+        Record::Dispatch(vec![Turns { busy: true, turns: 0x1234_5678 }; 16], 200),
         Record::Cycle(Box::new(Cycle {
             lent: Lent { nodes: 16_384, rows: 0 },
-            registers: [Slot { unknown: true, number: 0xFEDC_BA98 }; 32],
+            registers: [Value { unknown: 0x89AB_CDEF, number: 0xFEDC_BA98 }; 32],
             places: [1, 2, 3, 4, 5, 6, 7, 255],
-            inputs: vec![Slot::known(0x1234_5678); 255],
+            inputs: vec![Value::known(0x1234_5678); 255],
         })),
     ];
     let script = Script::write(&[1, 2, 3], &records);
@@ -327,7 +341,7 @@ fn differences_are_named() {
     assert!(report.starts_with("line 3, record `state`, after `user 0 chooses 7`"), "{report}");
     assert!(report.ends_with("count 3: 0000000000000000 and 0100000000000000"), "{report}");
     // A word of a table, a wire of a cycle run.
-    let zero = [Slot::ZERO; 32];
+    let zero = [Value::ZERO; 32];
     let (lent, inputs) = (Lent::RIGHT, vec![]);
     let cycle = Cycle { lent, registers: zero, places: [0; 8], inputs };
     let records = [Record::Tables, Record::Cycle(Box::new(cycle))];
@@ -342,8 +356,9 @@ fn differences_are_named() {
     let rows = 6 + 4 * 16_385 + 6;
     assert!(changed(rows + 4 * 1056).ends_with("row word 1056: aaaa and 7aaa"));
     let lane = rows + 4 * 1057 + 1 + "cycle 24 ".len();
-    assert!(changed(lane + 320 + 1).ends_with("place 0: 00 and 07"));
-    assert!(changed(lane + 336 + 10).ends_with("wire 1: 0100000000 and 7100000000"));
+    assert!(changed(lane + 512 + 1).ends_with("place 0: 00 and 07"));
+    let wire = changed(lane + 528 + 16);
+    assert!(wire.ends_with("wire 1: 00000000ffffffff and 70000000ffffffff"), "{wire}");
     // A line too few.
     let report = differ("start 0\n").expect("a difference");
     assert!(report.ends_with("reference: choose 22\n  other: no line"), "{report}");

@@ -2,9 +2,9 @@
 
 use reference::replay::{Cycle, Lent, Record, Script, Table};
 use reference::samples::FLIP_FLOP;
-use reference::state::Slot;
 
 use crate::{answers, output};
+use reference::value::Value;
 
 /// All words of both tables, these first ones in front.
 fn tables(nodes: &[u16], filled_nodes: usize, rows: &[u16], filled_rows: usize) -> String {
@@ -69,14 +69,14 @@ fn words_are_stored() {
 /// Register 0 takes the input; what lies past the sheet's comes back as handed.
 #[test]
 fn a_cycle_run() {
-    let odd = Slot { unknown: true, number: 0x0102_0304 };
-    let cycle = |inputs: &[Slot]| {
+    let odd = Value { unknown: 0xA0, number: 4 };
+    let cycle = |inputs: &[Value]| {
         let (lent, inputs) = (Lent::RIGHT, inputs.to_vec());
         let (registers, places) = ([odd; 32], [0, 1, 2, 3, 4, 5, 6, 7]);
         Record::Cycle(Box::new(Cycle { lent, registers, places, inputs }))
     };
     let right = Record::Extract(Lent::RIGHT);
-    let seven = Slot::known(7);
+    let seven = Value::known(7);
     let found = answers(&[
         cycle(&[seven]),
         right,
@@ -84,18 +84,18 @@ fn a_cycle_run() {
         cycle(&[seven; 255]),
         cycle(&[odd]),
     ]);
-    let odd = "0104030201";
+    let odd = "04000000a0000000";
     let line = |number: u8, register: &str| {
-        let (rest, wires) = (odd.repeat(31), "0100000000".repeat(32));
+        let (rest, wires) = (odd.repeat(31), "00000000ffffffff".repeat(32));
         format!("cycle {number} {register}{rest}0001020304050607{wires}")
     };
-    let [refused, accepted] = [24, 0].map(|n| line(n, if n == 0 { "0007000000" } else { odd }));
-    let expected =
-        [refused, "extract 0".into(), accepted, line(25, odd), line(0, "0100000000")];
+    let [refused, accepted] =
+        [24, 0].map(|n| line(n, if n == 0 { "0700000000000000" } else { odd }));
+    let expected = [refused, "extract 0".into(), accepted, line(25, odd), line(0, odd)];
     assert_eq!(found, expected);
 }
 
-/// Tables too long, a table that isn't there, a flag in a cycle run, records cut short.
+/// Tables too long, a table that isn't there, records cut short.
 #[test]
 fn bad_tables() {
     let head = Script::write(&FLIP_FLOP.sheet(), &[]);
@@ -107,11 +107,11 @@ fn bad_tables() {
     assert_eq!(line(&[b'W', 1, 0, 0, 0, 0]), "word\n");
     assert_eq!(line(&[b'W', 2, 0, 0, 0, 0]), "bad script\n");
     assert_eq!(line(&[b'W', 1, 0, 0, 0]), "bad script\n");
-    let mut cycle = [0; 1 + 4 + 160 + 8 + 1 + 5];
-    (cycle[0], cycle[173]) = (b'K', 1);
+    let mut cycle = [0; 1 + 4 + 256 + 8 + 1 + 8];
+    (cycle[0], cycle[269]) = (b'K', 1);
     assert!(line(&cycle).starts_with("cycle 23 "));
-    assert_eq!(line(&cycle[..178]), "bad script\n");
-    for (place, word) in [(2, 0x41), (4, 5), (5, 2), (160, 2), (174, 2)] {
+    assert_eq!(line(&cycle[..277]), "bad script\n");
+    for (place, word) in [(2, 0x41), (4, 5), (269, 2)] {
         let mut bad = cycle;
         bad[place] = word;
         assert_eq!(line(&bad), "bad script\n", "{place}");

@@ -1,15 +1,18 @@
-//! The second simulator's stored traces: this implementation agrees with them, each way of running
-//! finds a value that isn't as the trace has it, and what differs from that simulator by design.
+//! The second simulator's stored traces: this implementation agrees with them in every bit, and each way
+//! of running finds a value that isn't as the trace has it.
 
+use reference::build::{at_clk, later, module, num, v};
 use reference::calls::{Calls, Reference};
 use reference::encode::encode;
+use reference::module::{Expr, Operator, Stmt};
 use reference::random::Random;
 use reference::samples;
-use reference::second::{check, differs_on_x};
+use reference::second::check;
 use reference::sheet::read;
 use reference::simulator::{PlainRun, Verdict};
-use reference::state::{MOST, Slot, State, USERS};
+use reference::state::{MOST, State, USERS};
 use reference::trace::{Trace, parse};
+use reference::value::Value;
 use reference::{stimulus, verilog};
 
 const STORED: &str = include_str!("../../../data/second.trace");
@@ -32,10 +35,24 @@ fn stored_traces_are_these_bench_modules_and_random_ones() {
         assert_eq!((bench.name, bench.sheet()), (&trace.name[..], trace.sheet.clone()));
     }
     assert!(traces.len() >= 304);
-    let moving = traces
-        .iter()
-        .filter(|trace| trace.cycles.iter().any(|cycle| cycle.after.registers != trace.start));
-    assert!(moving.count() >= 300, "modules whose registers change");
+}
+
+/// Known registers come up in most modules, and with known bits beside unknown ones in many.
+#[test]
+fn stored_traces_have_values_of_every_kind() {
+    let with = |found: fn(&Value) -> bool| {
+        let registers = |trace: &&Trace| {
+            trace.cycles.iter().any(|cycle| cycle.after.registers.iter().any(found))
+        };
+        traces().iter().filter(registers).count()
+    };
+    let known = with(|value| value.is_known());
+    let some = with(|value| !value.is_known() && value.holds());
+    assert!(known >= 250 && some >= 150, "{known} {some}");
+    let inputs = traces().into_iter().flat_map(|trace| trace.cycles);
+    let inputs: Vec<Value> = inputs.flat_map(|cycle| cycle.inputs).collect();
+    let blurred = inputs.iter().filter(|value| !value.is_known()).count();
+    assert!(20 * blurred > inputs.len() && 2 * blurred < inputs.len(), "{blurred}");
 }
 
 #[test]
@@ -57,15 +74,19 @@ fn text_is_read_as_it_was_written() {
 
 // ---- values that aren't as the trace has them
 
-/// The number with one bit turned.
-fn turn(numbers: &mut [u32], random: &mut Random) -> bool {
-    match numbers.len() {
-        0 => false,
-        length => {
-            numbers[random.below(length)] ^= 1;
-            true
-        }
+/// A value with its lowest bit another: 0 to 1, 1 to x, x to 0.
+fn turn(values: &mut [Value], random: &mut Random) -> bool {
+    if values.is_empty() {
+        return false;
     }
+    let place = random.below(values.len());
+    let value = &mut values[place];
+    match (value.number & 1, value.unknown & 1) {
+        (0, 0) => value.number |= 1,
+        (1, _) => (value.number, value.unknown) = (value.number - 1, value.unknown | 1),
+        _ => value.unknown -= 1,
+    }
+    true
 }
 
 #[test]
@@ -104,10 +125,10 @@ impl Calls for Idle<'_> {
         let idle = PlainRun { accepted: 0, number: 0, verdict: Verdict::Quiet };
         if self.1 == "run_plain" { idle } else { self.0.run_plain(state, user, limit) }
     }
-    fn instant(&self, state: &mut State, inputs: &[Slot]) -> u8 {
+    fn instant(&self, state: &mut State, inputs: &[Value]) -> u8 {
         self.0.instant(state, inputs)
     }
-    fn run_cycles(&self, state: &mut State, user: u8, inputs: &[Vec<Slot>]) -> (usize, u8) {
+    fn run_cycles(&self, state: &mut State, user: u8, inputs: &[Vec<Value>]) -> (usize, u8) {
         match self.1 {
             "run_cycles" => (2 * inputs.len(), 0),
             _ => self.0.run_cycles(state, user, inputs),
@@ -121,7 +142,7 @@ impl Calls for Idle<'_> {
         nodes: &[u16],
         rows: &[u16],
         lane: &mut reference::compiler::Lane,
-        inputs: &[Slot],
+        inputs: &[Value],
     ) -> u8 {
         if self.1 == "cycle" { 0 } else { self.0.cycle(nodes, rows, lane, inputs) }
     }
@@ -182,19 +203,6 @@ endmodule
 }
 
 #[test]
-fn known_modules_have_no_unknown_constants() {
-    let mut random = Random::new(5);
-    for _ in 0..200 {
-        let module = stimulus::known_module(&mut random);
-        assert!(!verilog::text(&module).contains('x'));
-        let reading = read(&encode(&module));
-        let number =
-            Reference::new(&reading).extract(&mut vec![0; 16_384], &mut vec![0; 1_056]);
-        assert_eq!(number, 0);
-    }
-}
-
-#[test]
 fn a_long_text() {
     let module = stimulus::deep_module();
     assert_eq!(read(&encode(&module)).as_ref(), Ok(&module));
@@ -203,13 +211,19 @@ fn a_long_text() {
 
 // ---- x
 
-/// Icarus gives 0 and 1 here, which `tests/run second icarus` sees to.
+/// Where r0 is x, `r0 & 0` is 0, so that the condition holds.
 #[test]
-fn x_as_a_whole_differs_known_against_known() {
-    let reading = read(&encode(&differs_on_x()));
+fn known_bits_come_out_of_unknown_ones() {
+    let zero = || num(8, 0);
+    let condition = Expr::Operation(
+        Operator::Equal,
+        vec![Expr::Operation(Operator::And, vec![v(1), zero()]), zero()],
+    );
+    let branch = Stmt::if_else(condition, later(2, num(8, 1)), later(2, num(8, 2)));
+    let reading = module(&[1], &[8, 8], vec![], vec![at_clk(vec![branch, later(1, zero())])]);
     let calls = Reference::new(&reading);
     let mut state = State::ZERO;
     calls.start(&mut state, MOST);
     assert_eq!(calls.run_cycles(&mut state, 0, &[vec![]]), (2, 0));
-    assert_eq!(state.values[1..3], [Slot::known(0), Slot::known(2)]);
+    assert_eq!(state.values[1..3], [Value::known(0), Value::known(1)]);
 }

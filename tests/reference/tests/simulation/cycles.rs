@@ -7,12 +7,13 @@ use reference::random::Random;
 use reference::samples;
 use reference::sheet::read;
 use reference::simulator::{Simulator, Verdict};
-use reference::state::{MOST, Slot, State};
+use reference::state::{MOST, State};
 use reference::states;
 
 use reference::build::{CLK, known, module, num, set, values};
+use reference::value::Value;
 
-fn rows(numbers: &[&[u32]]) -> Vec<Vec<Slot>> {
+fn rows(numbers: &[&[u32]]) -> Vec<Vec<Value>> {
     numbers.iter().map(|row| known(row)).collect()
 }
 
@@ -56,8 +57,10 @@ fn cycles_are_calls() {
             let simulator = Simulator::new(&reading);
             let module = reading.as_ref().expect("made");
             let widths = &module.widths[1..module.inputs.into()];
-            let rows: Vec<Vec<Slot>> = (0..6)
-                .map(|_| widths.iter().map(|&w| states::fitting_slot(w, &mut random)).collect())
+            let rows: Vec<Vec<Value>> = (0..6)
+                .map(|_| {
+                    widths.iter().map(|&w| states::fitting_value(w, &mut random)).collect()
+                })
                 .collect();
             let start = simulator.start(MOST).expect("made");
             let mut state = start.clone();
@@ -69,12 +72,12 @@ fn cycles_are_calls() {
     }
 }
 
-fn one_by_one(simulator: &Simulator, state: &mut State, rows: &[Vec<Slot>]) -> CyclesRun {
+fn one_by_one(simulator: &Simulator, state: &mut State, rows: &[Vec<Value>]) -> CyclesRun {
     let mut verdict = simulator.run_plain(state, 0, u16::MAX).verdict;
     let mut at = Step::First;
     for half in 0..2 * rows.len() {
         let (row, clock) = (half / 2, (half % 2) as u32);
-        let inputs = [&[Slot::known(clock)], &rows[row][..]].concat();
+        let inputs = [&[Value::known(clock)], &rows[row][..]].concat();
         if let Err(number) = simulator.instant(state, &inputs) {
             return CyclesRun { rows: row, at: Step::Instant { row, clock }, number, verdict };
         }
@@ -94,7 +97,7 @@ fn stops() {
     let simulator = Simulator::new(&reading);
     let start = simulator.start(MOST).expect("read");
     let three = rows(&[&[1], &[2], &[3]]);
-    let stop = |from: &State, rows: &[Vec<Slot>]| {
+    let stop = |from: &State, rows: &[Vec<Value>]| {
         let run = simulator.run_cycles(&mut from.clone(), 0, rows);
         (run.rows, run.at, run.number, run.verdict)
     };

@@ -3,15 +3,16 @@
 use reference::machine::COMMIT;
 use reference::module::{Edge, Expr, Operator, Stmt, Term};
 use reference::simulator::{Simulator, Verdict};
-use reference::state::{MOST, Pending, Slot, State};
+use reference::state::{MOST, Pending, State};
 
 use reference::build::{
     CLK, add, any, at_clk, known, later, module, num, set, state, v, values,
 };
+use reference::value::Value;
 
 // ---- where IEEE 1364 decides over 003
 
-/// A condition holds if known and not zero: 2 holds, x doesn't.
+/// A condition holds if some known bit is 1: 2 and 1x hold, 0x and x don't.
 #[test]
 fn a_condition_other_than_one() {
     let (e, r) = (1, 2);
@@ -19,9 +20,18 @@ fn a_condition_other_than_one() {
         Stmt::sequence(any(&[e]), Stmt::if_else(v(e), set(r, num(8, 10)), set(r, num(8, 20))));
     let reading = module(&[1, 2], &[8], vec![], vec![thread]);
     let simulator = Simulator::new(&reading);
-    for (condition, expected) in [(Slot::known(2), 10), (Slot::known(1), 10), (Slot::X, 20)] {
-        let mut state = state(&[Some(0), Some(0), None]);
-        simulator.instant(&mut state, &[Slot::known(0), condition]).expect("quiet");
+    let half = |number, unknown| Value { number, unknown };
+    for (condition, expected) in [
+        (Value::known(2), 10),
+        (Value::known(1), 10),
+        (half(2, 1), 10),
+        (half(1, 2), 10),
+        (half(0, 1), 20),
+        (half(0, 2), 20),
+        (Value::x(2), 20),
+    ] {
+        let mut state = state(&reading, &[Some(0), Some(0), None]);
+        simulator.instant(&mut state, &[Value::known(0), condition]).expect("quiet");
         simulator.run_plain(&mut state, 0, 10);
         assert_eq!(values(&state, 3)[2], Some(expected));
     }
@@ -34,7 +44,7 @@ fn a_wire_takes_one_choice() {
     let thread = Stmt::sequence(any(&[w]), set(2, v(w)));
     let reading = module(&[1, 8], &[8], vec![(8, v(a))], vec![thread]);
     let simulator = Simulator::new(&reading);
-    let mut state = state(&[Some(0), Some(1), Some(1), Some(1)]);
+    let mut state = state(&reading, &[Some(0), Some(1), Some(1), Some(1)]);
     simulator.instant(&mut state, &known(&[0, 2])).expect("quiet");
     assert!(state.due[0]);
     simulator.choose(&mut state, 0, 1).expect("due");
@@ -51,7 +61,7 @@ fn a_thread_does_not_wake_itself() {
     let other = Stmt::sequence(any(&[r]), set(seen, num(1, 1)));
     let reading = module(&[1], &[1, 1], vec![], vec![own, other]);
     let simulator = Simulator::new(&reading);
-    let mut state = state(&[Some(0), Some(0), Some(0)]);
+    let mut state = state(&reading, &[Some(0), Some(0), Some(0)]);
     simulator.instant(&mut state, &known(&[1])).expect("quiet");
     assert_eq!(simulator.run_plain(&mut state, 0, 10).verdict, Verdict::Quiet);
     assert_eq!(state.places[..2], [2, 0]);
@@ -64,7 +74,7 @@ fn wires_are_due_at_the_start() {
     let reading = module(&[1], &[8], vec![(8, num(8, 7))], vec![Stmt::posedge(CLK)]);
     let simulator = Simulator::new(&reading);
     let mut state = simulator.start(MOST).expect("read");
-    assert_eq!(state, State { due: state.due, ..State::start(0, MOST) });
+    assert_eq!(state, State { due: state.due, ..State::start(&[1, 8, 8], 0, MOST) });
     assert!(state.due[0] && !state.due[1..].contains(&true));
     let run = simulator.run_plain(&mut state, 0, 10);
     assert_eq!((run.accepted, run.verdict), (1, Verdict::Quiet));
@@ -87,7 +97,7 @@ fn a_wire_that_reads_itself() {
     );
     let reading = module(&[1], &[8], vec![(8, climbs)], vec![Stmt::posedge(CLK)]);
     let simulator = Simulator::new(&reading);
-    let mut state = state(&[Some(0), Some(0), Some(0)]);
+    let mut state = state(&reading, &[Some(0), Some(0), Some(0)]);
     state.due[0] = true;
     let run = simulator.run_plain(&mut state, 0, 100);
     assert_eq!((run.accepted, run.verdict), (4, Verdict::Quiet));
@@ -107,7 +117,7 @@ fn a_commit_is_one_change() {
     ]);
     let reading = module(&[1], &[8, 8, 8], vec![], vec![writer, watcher]);
     let simulator = Simulator::new(&reading);
-    let mut state = state(&[Some(0), Some(0), Some(0), Some(0)]);
+    let mut state = state(&reading, &[Some(0), Some(0), Some(0), Some(0)]);
     simulator.instant(&mut state, &known(&[1])).expect("quiet");
     assert_eq!(simulator.run_plain(&mut state, 0, 100).verdict, Verdict::Quiet);
     assert_eq!(values(&state, 4), [Some(1), Some(1), Some(2), Some(3)]);
@@ -134,7 +144,7 @@ fn a_plain_assignment_leaves_what_is_pending() {
     let thread = at_clk(vec![later(r, num(8, 1)), set(r, num(8, 2))]);
     let reading = module(&[1], &[8], vec![], vec![thread]);
     let simulator = Simulator::new(&reading);
-    let mut state = state(&[Some(0), Some(0)]);
+    let mut state = state(&reading, &[Some(0), Some(0)]);
     simulator.instant(&mut state, &known(&[1])).expect("quiet");
     assert_eq!(simulator.run(&mut state, 0, &[0, 0, 0]).accepted, 3);
     assert_eq!(values(&state, 2)[1], Some(2));
@@ -144,33 +154,37 @@ fn a_plain_assignment_leaves_what_is_pending() {
 
 // ---- slots
 
-/// Stores write 0 under x, also where the value was x before. A commit lowers the flags
-/// and leaves the slots as they are.
+/// x stored over x is no change, and one bit that becomes unknown is one. A commit lowers the flags and
+/// leaves the slots as they are.
 #[test]
-fn numbers_under_x() {
-    let [r, s] = [1, 2];
-    let littered = Slot { unknown: true, number: 77 };
-    let x = Expr::Unknown { width: 8 };
-    let thread = at_clk(vec![set(r, x.clone()), later(s, x)]);
-    let reading = module(&[1], &[8, 8], vec![], vec![thread]);
+fn changes_of_marks() {
+    let [r, seen] = [1, 2];
+    let writer = at_clk(vec![set(r, Expr::Unknown { width: 8 })]);
+    let watcher = Stmt::sequence(any(&[r]), set(seen, num(8, 1)));
+    let reading = module(&[1], &[8, 8], vec![], vec![writer, watcher]);
     let simulator = Simulator::new(&reading);
-    let mut state = simulator.start(MOST).expect("read");
-    state.values = [littered; 80];
-    state.pending = [Pending { held: false, slot: littered }; 32];
-    state.pending[0].held = true;
-    // The pending value is x, whatever its number; so is the register: no change.
-    simulator.choose(&mut state, 0, COMMIT).expect("pending");
-    assert_eq!(state.values[usize::from(r)], Slot::X);
-    assert_eq!(state.pending, [Pending { held: false, slot: littered }; 32]);
-    // An input that is x is stored with 0 under it.
-    simulator.instant(&mut state, &[littered]).expect("quiet");
-    assert_eq!(state.values[usize::from(CLK)], Slot::X);
-    simulator.instant(&mut state, &known(&[1])).expect("quiet");
-    state.values[usize::from(r)] = littered;
-    assert_eq!(simulator.run(&mut state, 0, &[0, 0]).accepted, 2);
-    assert_eq!(state.values[usize::from(r)], Slot::X);
-    assert_eq!(state.pending[1], Pending { held: true, slot: Slot::X });
-    // Nothing else was touched.
-    assert_eq!(state.values[usize::from(s)..], [littered; 78]);
-    assert_eq!(state.pending[2..], [Pending { held: false, slot: littered }; 30]);
+    let half = Value { number: 3, unknown: 4 };
+    for (before, pending, woken) in [
+        (Value::x(8), None, false),
+        (half, None, true),
+        (Value::known(0), None, true),
+        (Value::x(8), Some(Value::x(8)), false),
+        (Value::x(8), Some(half), true),
+        (half, Some(Value { number: 3, unknown: 12 }), true),
+        (half, Some(half), false),
+    ] {
+        let mut state = state(&reading, &[Some(0), None, Some(0)]);
+        state.values[usize::from(r)] = before;
+        match pending {
+            Some(value) => {
+                state.pending[0] = Pending::of(value);
+                simulator.choose(&mut state, 0, COMMIT).expect("pending");
+                assert_eq!(state.pending[0], Pending { held: false, slot: value });
+                assert_eq!(state.values[usize::from(r)], value);
+            }
+            None => simulator.instant(&mut state, &known(&[1])).expect("quiet"),
+        }
+        assert_eq!(simulator.run_plain(&mut state, 0, 100).verdict, Verdict::Quiet);
+        assert_eq!(values(&state, 3)[2], Some(u32::from(woken)), "{before} {pending:?}");
+    }
 }

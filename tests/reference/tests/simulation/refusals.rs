@@ -6,10 +6,11 @@ use reference::module::{Module, Stmt};
 use reference::random::Random;
 use reference::sheet::{Refusal, read};
 use reference::simulator::{Run, Simulator, Verdict};
-use reference::state::{MOST, Pending, Slot, State};
+use reference::state::{MOST, Pending, State};
 use reference::states;
 
 use reference::build::{any, known, later, module, v};
+use reference::value::Value;
 
 /// Clock, input of 4 bits; register of 4 bits; wire of 4 bits. Thread 0 waits for the
 /// register, thread 1 for the input and assigns it later.
@@ -28,7 +29,7 @@ fn refused(simulator: &Simulator, state: &State, choice: u8) -> u8 {
     number
 }
 
-fn refused_instant(simulator: &Simulator, state: &State, inputs: &[Slot]) -> u8 {
+fn refused_instant(simulator: &Simulator, state: &State, inputs: &[Value]) -> u8 {
     let mut after = state.clone();
     let number = simulator.instant(&mut after, inputs).expect_err("refused");
     assert_eq!(&after, state, "a refused instant alters nothing");
@@ -91,10 +92,14 @@ fn instants() {
     let mut unfit = full;
     unfit.due[1] = true;
     assert_eq!(refused_instant(&simulator, &unfit, &known(&[0])), 31);
-    // Any value of the clock; x whatever its number.
+    // Marks that are too wide; a number under a mark.
+    for bad in [Value { number: 0, unknown: 16 }, Value { number: 3, unknown: 1 }] {
+        assert_eq!(refused_instant(&simulator, &rested, &[Value::known(0), bad]), 25);
+    }
+    // Any value of the clock, and some bits of another input.
     let mut state = State { time: u64::MAX - 1, allowances: used_up, ..rested };
-    let wide_x = Slot { unknown: true, number: 99 };
-    assert_eq!(simulator.instant(&mut state, &[wide_x, wide_x]), Ok(()));
+    let some = Value { number: 9, unknown: 6 };
+    assert_eq!(simulator.instant(&mut state, &[Value::x(1), some]), Ok(()));
     assert_eq!((state.time, state.counts), (u64::MAX, [1, 0, 0, 0]));
 }
 
@@ -109,15 +114,22 @@ fn states_that_fit() {
         change(&mut state);
         simulator.judged(&state).err().unwrap_or(0)
     };
-    let held = |number| Pending { held: true, slot: Slot::known(number) };
-    assert_eq!(number(&|s| s.values[3] = Slot::known(15)), 0);
-    assert_eq!(number(&|s| s.values[3] = Slot::known(16)), 31);
-    assert_eq!(number(&|s| s.values[3] = Slot { unknown: true, number: 16 }), 0);
-    assert_eq!(number(&|s| s.values[4] = Slot::known(u32::MAX)), 0);
+    let held = |number| Pending { held: true, slot: Value::known(number) };
+    assert_eq!(number(&|s| s.values[3] = Value::known(15)), 0);
+    assert_eq!(number(&|s| s.values[3] = Value::known(16)), 31);
+    assert_eq!(number(&|s| s.values[3] = Value { number: 5, unknown: 10 }), 0);
+    assert_eq!(number(&|s| s.values[3] = Value { number: 5, unknown: 26 }), 31);
+    assert_eq!(number(&|s| s.values[3] = Value { number: 5, unknown: 11 }), 31);
+    assert_eq!(number(&|s| s.values[4] = Value { number: 5, unknown: u32::MAX }), 0);
+    assert_eq!(number(&|s| s.values[4] = Value::known(u32::MAX)), 0);
     assert_eq!(number(&|s| s.pending[0] = held(15)), 0);
     assert_eq!(number(&|s| s.pending[0] = held(16)), 31);
     assert_eq!(number(&|s| s.pending[0] = Pending { held: false, ..held(16) }), 0);
-    assert_eq!(number(&|s| s.pending[0].slot = Slot { unknown: true, number: 16 }), 0);
+    let half = |held, number, unknown| Pending { held, slot: Value { number, unknown } };
+    assert_eq!(number(&|s| s.pending[0] = half(true, 5, 10)), 0);
+    assert_eq!(number(&|s| s.pending[0] = half(true, 5, 26)), 31);
+    assert_eq!(number(&|s| s.pending[0] = half(true, 5, 11)), 31);
+    assert_eq!(number(&|s| s.pending[0] = half(false, 5, 27)), 0);
     assert_eq!(number(&|s| s.pending[1] = held(0)), 31);
     assert_eq!(number(&|s| s.pending[31] = held(0)), 31);
     // Thread 0 has two instructions, thread 1 three.
@@ -175,8 +187,8 @@ fn random_states() {
                 alters_nothing_else(&simulator, &disturbed, module, &mut random);
                 alters_nothing_else(&simulator, &state, module, &mut random);
                 simulator.run_plain(&mut state, 0, random.below(9) as u16);
-                let inputs: Vec<Slot> = (0..usize::from(module.inputs))
-                    .map(|input| states::slot(module.widths[input], &mut random))
+                let inputs: Vec<Value> = (0..usize::from(module.inputs))
+                    .map(|input| states::value(module.widths[input], &mut random))
                     .collect();
                 let before = state.clone();
                 if simulator.instant(&mut state, &inputs).is_err() {

@@ -51,7 +51,7 @@ fn example_3_2_1() {
     assert_eq!(listing(&reading, 0), ["0 wait 0 1 0 2", "1 set 3 o6 v1 v2", "2 go 0"]);
     let simulator = Simulator::new(&reading);
     let machine = simulator.machine().expect("read");
-    let mut state = state(&[Some(0), Some(0), Some(0), None]);
+    let mut state = state(&reading, &[Some(0), Some(0), Some(0), None]);
     assert!(machine.quiet(&state));
     simulator.instant(&mut state, &known(&[0, 2, 0])).expect("quiet");
     let seen = |state: &State| (state.time, state.places[0], values(state, 4)[3]);
@@ -71,7 +71,7 @@ fn example_3_2_2() {
     let first = Stmt::sequence(any(&[b, c]), set(a1, add(v(b), v(c))));
     let second = Stmt::sequence(any(&[b]), set(a2, add(v(b), num(8, 1))));
     let reading = module(&[1, 8, 8], &[8, 8], vec![], vec![first, second]);
-    let start = state(&[Some(0), Some(0), Some(0), None, None]);
+    let start = state(&reading, &[Some(0), Some(0), Some(0), None, None]);
     assert_eq!(rest(&reading, &start, &[0, 2, 0]), some(&[0, 2, 0, 2, 3]));
     // The order that 003 follows.
     let simulator = Simulator::new(&reading);
@@ -99,7 +99,7 @@ fn example_3_2_3() {
     let first = Stmt::sequence(any(&[b, c]), set(a, add(v(b), v(c))));
     let second = Stmt::sequence(any(&[b]), set(c, add(v(b), num(8, 1))));
     let reading = module(&[1, 8], &[8, 8], vec![], vec![first, second]);
-    let start = state(&[Some(0), Some(0), None, None]);
+    let start = state(&reading, &[Some(0), Some(0), None, None]);
     let unknown = vec![Some(0), Some(2), None, Some(3)];
     let sum = some(&[0, 2, 5, 3]);
     assert_eq!(rests(&reading, &start, &[0, 2]), [unknown.clone(), sum.clone()]);
@@ -129,7 +129,7 @@ fn example_3_2_4() {
         listing(&reading, 0),
         ["0 wait 0 0 0 1", "1 ifnot 3 v0", "2 set 2 v1", "3 go 0"]
     );
-    let at = |clk, d, q| state(&some(&[clk, d, q]));
+    let at = |clk, d, q| state(&reading, &some(&[clk, d, q]));
     // The clock rises; d changes while it is high; it falls; d changes while it is low.
     assert_eq!(rest(&reading, &at(0, 5, 7), &[1, 5]), some(&[1, 5, 5]));
     assert_eq!(rest(&reading, &at(1, 5, 5), &[1, 9]), some(&[1, 9, 9]));
@@ -145,7 +145,7 @@ fn example_3_2_5() {
     let [d, q] = [1, 2];
     let reading = module(&[1, 8], &[8], vec![], vec![at_clk(vec![set(q, v(d))])]);
     assert_eq!(listing(&reading, 0), ["0 wait 1 0", "1 set 2 v1", "2 go 0"]);
-    let at = |clk, d, q| state(&some(&[clk, d, q]));
+    let at = |clk, d, q| state(&reading, &some(&[clk, d, q]));
     assert_eq!(rest(&reading, &at(0, 5, 7), &[1, 5]), some(&[1, 5, 5]));
     assert_eq!(rest(&reading, &at(0, 5, 7), &[1, 6]), some(&[1, 6, 6]));
     assert_eq!(rest(&reading, &at(1, 5, 7), &[1, 6]), some(&[1, 6, 7]));
@@ -156,10 +156,10 @@ fn example_3_2_5() {
 #[test]
 fn example_3_2_6() {
     let [d, i, q] = [1, 2, 3];
-    let start = state(&some(&[0, 5, 3, 1]));
     let second = at_clk(vec![set(q, v(i))]);
     let race = vec![at_clk(vec![set(i, v(d))]), second.clone()];
     let reading = module(&[1, 8], &[8, 8], vec![], race);
+    let start = state(&reading, &some(&[0, 5, 3, 1]));
     let expected = [some(&[1, 5, 5, 3]), some(&[1, 5, 5, 5])];
     assert_eq!(rests(&reading, &start, &[1, 5]), expected);
     let no_race = vec![at_clk(vec![later(i, v(d))]), second];
@@ -174,7 +174,7 @@ fn example_3_2_7() {
     let thread = at_clk(vec![later(q, mux(v(a), v(b), v(c)))]);
     let reading = module(&[1, 1, 8, 8], &[8], vec![], vec![thread]);
     assert_eq!(listing(&reading, 0), ["0 wait 1 0", "1 later 4 o10 v1 v2 v3", "2 go 0"]);
-    let start = state(&some(&[0, 0, 5, 6, 0]));
+    let start = state(&reading, &some(&[0, 0, 5, 6, 0]));
     assert_eq!(rest(&reading, &start, &[1, 0, 5, 6]), some(&[1, 0, 5, 6, 6]));
     assert_eq!(rest(&reading, &start, &[1, 1, 5, 6]), some(&[1, 1, 5, 6, 5]));
     assert_eq!(rest(&reading, &start, &[0, 1, 5, 6]), some(&[0, 1, 5, 6, 0]));
@@ -193,7 +193,7 @@ fn example_3_2_8() {
         ["0 wait 0 1 0 2 0 3", "1 ifnot 4 v1", "2 set 5 v2", "3 go 5", "4 set 5 v3", "5 go 0"];
     assert_eq!(listing(&reading, 1), expected);
     // The multiplexer has settled on c: d is 6.
-    let start = state(&some(&[0, 0, 5, 6, 1, 6]));
+    let start = state(&reading, &some(&[0, 0, 5, 6, 1, 6]));
     // The clock alone, a alone, both: q is the old d or the new one.
     assert_eq!(rest(&reading, &start, &[1, 0, 5, 6]), some(&[1, 0, 5, 6, 6, 6]));
     assert_eq!(rest(&reading, &start, &[0, 1, 5, 6]), some(&[0, 1, 5, 6, 1, 5]));

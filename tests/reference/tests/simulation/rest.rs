@@ -6,10 +6,11 @@ use reference::lively::{self, Kind, Size};
 use reference::machine::{Choice, Machine};
 use reference::random::Random;
 use reference::simulator::Simulator;
-use reference::state::{MOST, Slot, State};
+use reference::state::{MOST, State};
 use reference::states;
 
 use crate::orders::resting;
+use reference::value::Value;
 
 #[test]
 fn random_orders() {
@@ -52,10 +53,10 @@ fn drive(
     let mut state = settle(machine, &simulator.start(MOST).expect("made"), random);
     let widths = &machine.module().widths[1..machine.module().inputs.into()];
     for _ in 0..5 {
-        let inputs: Vec<Slot> =
-            widths.iter().map(|&w| states::fitting_slot(w, random)).collect();
+        let inputs: Vec<Value> =
+            widths.iter().map(|&w| states::fitting_value(w, random)).collect();
         for clock in [0, 1] {
-            let inputs = [&[Slot::known(clock)], &inputs[..]].concat();
+            let inputs = [&[Value::known(clock)], &inputs[..]].concat();
             simulator.instant(&mut state, &inputs).expect("at rest");
             state = settle(machine, &state, random);
         }

@@ -5,10 +5,11 @@ use reference::machine::COMMIT;
 use reference::module::Stmt;
 use reference::random::Random;
 use reference::simulator::{PlainRun, Run, Simulator, Verdict};
-use reference::state::{MOST, Pending, Slot, State};
+use reference::state::{MOST, Pending, State};
 use reference::states;
 
 use reference::build::{CLK, any, at_clk, known, later, module, num, set, v};
+use reference::value::Value;
 
 /// Two wires, of which the second reads the first: one choice each, then quiet.
 #[test]
@@ -43,7 +44,7 @@ fn the_words_of_the_plain_run() {
     assert_eq!(plain(&quiet, 0), (0, 0, Verdict::Quiet));
     assert_eq!(plain(&quiet, 9), (0, 0, Verdict::Quiet));
     // A state with something pending isn't quiet.
-    quiet.pending[0] = Pending { held: true, slot: Slot::X };
+    quiet.pending[0] = Pending { held: true, slot: Value::ZERO };
     assert_eq!(plain(&quiet, 0), (0, 0, Verdict::Spent));
     assert_eq!(plain(&quiet, 1), (0, 47, Verdict::Full));
     quiet.places[0] = 2;
@@ -58,7 +59,10 @@ fn a_thread_that_never_waits() {
     let mut state = simulator.start(MOST).expect("read");
     let run = simulator.run_plain(&mut state, 0, u16::MAX);
     assert_eq!((run.accepted, run.number, run.verdict), (u16::MAX, 0, Verdict::Spent));
-    assert_eq!(state, State { counts: [u16::MAX.into(), 0, 0, 0], ..State::start(0, MOST) });
+    assert_eq!(
+        state,
+        State { counts: [u16::MAX.into(), 0, 0, 0], ..State::start(&[1, 8], 0, MOST) }
+    );
 }
 
 /// The lowest item goes first: threads before wires, and the commit last of all.
@@ -149,8 +153,8 @@ fn with_random_states(
         let mut state = simulator.start(MOST).expect("made");
         for _ in 0..12 {
             check(&simulator, &mut state, random);
-            let inputs: Vec<Slot> =
-                widths.iter().map(|&width| states::fitting_slot(width, random)).collect();
+            let inputs: Vec<Value> =
+                widths.iter().map(|&width| states::fitting_value(width, random)).collect();
             // Refused where the state isn't quiet.
             let _ = simulator.instant(&mut state, &inputs);
         }

@@ -9,7 +9,7 @@ use reference::module::{Edge, Expr, Module, Variable};
 use reference::pseudocode::Instruction;
 use reference::random::Random;
 use reference::simulator::Simulator;
-use reference::state::{MOST, Slot, State};
+use reference::state::{MOST, State};
 use reference::states;
 use reference::value::{Scope, Value, evaluate};
 
@@ -80,11 +80,11 @@ fn instants(simulator: &Simulator, state: &State) -> Vec<State> {
     let module = simulator.machine().expect("made").module();
     let mut all = vec![vec![]];
     for &width in &module.widths[..module.inputs.into()] {
-        let slots = [Slot::known(0), Slot::known(u32::from(width)), Slot::X];
-        let longer = |inputs: Vec<Slot>| slots.map(|slot| [&inputs[..], &[slot]].concat());
+        let slots = [Value::known(0), Value::known(u32::from(width)), Value::x(width)];
+        let longer = |inputs: Vec<Value>| slots.map(|slot| [&inputs[..], &[slot]].concat());
         all = all.into_iter().flat_map(longer).collect();
     }
-    let instant = |inputs: Vec<Slot>| {
+    let instant = |inputs: Vec<Value>| {
         let mut after = state.clone();
         simulator.instant(&mut after, &inputs).expect("quiet");
         assert_eq!((after.time, after.counts), (state.time + 1, state.counts));
@@ -160,7 +160,7 @@ impl Scope for Before<'_> {
     }
 
     fn value(&self, variable: Variable) -> Value {
-        self.1.values[usize::from(variable)].value()
+        self.1.values[usize::from(variable)]
     }
 }
 
@@ -173,7 +173,7 @@ impl Step<'_> {
     fn stores(&self, stored: Option<(Variable, Value)>) {
         let mut expected = self.before.values;
         if let Some((variable, value)) = stored {
-            expected[usize::from(variable)] = Slot::of(value);
+            expected[usize::from(variable)] = value;
         }
         assert_eq!(self.after.values, expected);
     }
@@ -192,13 +192,13 @@ impl Step<'_> {
             Instruction::Later(target, e) => {
                 let slot = &mut pending[usize::from(target - module.inputs)];
                 slot.held = true;
-                slot.slot = Slot::of(self.evaluate(e));
+                slot.slot = self.evaluate(e);
                 place + 1
             }
             Instruction::Go(goal) => goal,
-            Instruction::IfNot(e, goal) => match self.evaluate(e) {
-                Value::X | Value::Known(0) => goal,
-                Value::Known(_) => place + 1,
+            Instruction::IfNot(e, goal) => match self.evaluate(e).number {
+                0 => goal,
+                _ => place + 1,
             },
         };
         assert_eq!(usize::from(self.after.places[thread]), expected);
@@ -252,7 +252,7 @@ impl Step<'_> {
     }
 
     fn values(&self, variable: Variable) -> [Value; 2] {
-        [self.before, self.after].map(|state| state.values[usize::from(variable)].value())
+        [self.before, self.after].map(|state| state.values[usize::from(variable)])
     }
 
     fn changes(&self, variable: Variable) -> bool {
@@ -271,8 +271,8 @@ impl Step<'_> {
             self.changes(term.variable)
                 && match term.edge {
                     Edge::Any => true,
-                    Edge::Posedge => before == Value::Known(0) || after == Value::Known(1),
-                    Edge::Negedge => before == Value::Known(1) || after == Value::Known(0),
+                    Edge::Posedge => before == Value::known(0) || after == Value::known(1),
+                    Edge::Negedge => before == Value::known(1) || after == Value::known(0),
                 }
         })
     }

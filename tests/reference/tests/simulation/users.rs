@@ -7,13 +7,14 @@ use reference::lively::{self, Kind, Size};
 use reference::machine::{COMMIT, Machine};
 use reference::random::Random;
 use reference::simulator::{Run, Simulator, Verdict};
-use reference::state::{MOST, Slot, State, USERS};
+use reference::state::{MOST, State, USERS};
 use reference::states;
 
 use reference::build::{any, later, module, v};
 use reference::module::Stmt;
 
 use crate::orders::resting;
+use reference::value::Value;
 
 const EVERYONE: [u8; USERS] = [0, 1, 2, 3];
 const MOST_STATES: usize = 100_000;
@@ -69,6 +70,7 @@ fn allowances_end_in_the_middle_of_a_phase() {
         let machine = simulator.machine().expect("made");
         let mut state = simulator.start(MOST).expect("made");
         let widths = &machine.module().widths[1..machine.module().inputs.into()];
+        let mut inputs = vec![Value::ZERO];
         for phase in 0..5 {
             let rest = resting(machine, &state);
             let [rest] = &rest[..] else { panic!("one rest") };
@@ -88,8 +90,12 @@ fn allowances_end_in_the_middle_of_a_phase() {
                 }
             }
             state = rest.clone();
-            let mut inputs = vec![Slot::known(phase % 2)];
-            inputs.extend(widths.iter().map(|&w| states::fitting_slot(w, &mut random)));
+            inputs[0] = Value::known(phase % 2);
+            if phase % 2 == 0 {
+                let drawn =
+                    widths.iter().map(|&width| states::fitting_value(width, &mut random));
+                inputs = [inputs[0]].into_iter().chain(drawn).collect();
+            }
             simulator.instant(&mut state, &inputs).expect("at rest");
         }
     }
@@ -106,7 +112,7 @@ fn unless_quiet(simulator: &Simulator, end: &State) {
         let choice = machine.lowest(end);
         assert_eq!(simulator.choose(&mut end.clone(), user, choice), Err(47));
     }
-    let inputs = vec![Slot::X; machine.module().inputs.into()];
+    let inputs = vec![Value::x(1); machine.module().inputs.into()];
     assert_eq!(simulator.instant(&mut end.clone(), &inputs), Err(32));
 }
 

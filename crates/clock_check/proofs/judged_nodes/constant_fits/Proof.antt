@@ -2,7 +2,6 @@
 use borrow.Author.Needs.{needs}
 use native.Mathlib.Omega.{arith}
 use borrow.Author.Tests.{le-leb, lt-leb}
-use Rattle.values.specs.Values.{fits}
 use Rattle.nodes.specs.Cells.{isWidth}
 use Rattle.clock_check.proofs.judged_nodes.constant_fits.Statement.{statement}
 use Rattle.clock_check.proofs.judged_nodes.constant_fits.Tie as tie
@@ -16,8 +15,8 @@ unfolding isWidth
 returns-2 c = rw (le-leb 1 (c .before .before .args .w) (omega arith), lt-leb _ _ (c .if2 .taken))
 
 returns-3 : tie.Need-returns-3
-unfolding isWidth fits
-returns-3 c = rw (le-leb _ _ (c .before .before .if1 .left), le-leb _ _ (c .before .if2 .left)) (c .fits2 .ensures)
+unfolding isWidth
+returns-3 c = rw (le-leb _ _ (c .before .before .if1 .left), le-leb _ _ (c .before .if2 .left)) (c .below .ensures)
 
 pub constant-fits-spec : {M : Type 1} → statement M
 constant-fits-spec =

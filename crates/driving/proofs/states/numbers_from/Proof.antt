@@ -5,7 +5,7 @@ use native.Mathlib.Omega.{arith}
 use borrow.Author.Needs.{needs}
 use lib.ListN.{getD}
 use lib.Seq.{sets}
-use Rattle.state.specs.Saved.{listOf}
+use Rattle.state.specs.Rows.{listOf}
 use Rattle.state.proofs.Rows.{listOf-step, listOf-whole}
 use Rattle.driving.proofs.states.numbers_from.Statement.{statement}
 use Rattle.driving.proofs.states.numbers_from.Tie as tie

@@ -5,7 +5,7 @@ use Prim.Native.Nat.{_≤_, _-_}
 use native.Mathlib.Omega.{arith}
 use lib.ListN.{getD}
 use lib.Seq.{sets}
-use Rattle.state.specs.Saved.{listOf}
+use Rattle.state.specs.Rows.{listOf}
 use Rattle.prepared_cycles.proofs.Items.{listOf-on}
 use Rattle.driving.proofs.states.put_places.Statement.{statement}
 use Rattle.driving.proofs.states.put_places.Tie as tie

@@ -1,19 +1,18 @@
 -- `driving::states::put_words` meets its contract. The loop's invariant: the words so far are written. Assumes nothing.
 use borrow.Author.Needs.{needs}
 use mathlib.Core.Path.{_≡_, refl}
-use mathlib.Core.Bool.{false}
 use Prim.Native.Nat.{_≤_, _-_}
 use native.Mathlib.Omega.{arith}
-use lib.ListN.{getD}
 use lib.Seq.{sets}
-use Rattle.state.specs.Saved.{listOf}
-use Rattle.plan_state.specs.Planes.{marked}
+use Rattle.values.specs.Planes.{valueAt}
+use Rattle.values.specs.Cells.{cellOf}
+use Rattle.state.specs.Rows.{listOf}
 use Rattle.state.proofs.Rows.{listOf-step}
 use Rattle.driving.proofs.states.put_words.Statement.{statement}
 use Rattle.driving.proofs.states.put_words.Tie as tie
 
 abbrev Inv-loop : tie.InvT-loop
-Inv-loop value unknown row₀ v₀ row v = (v ≤ 80) × (row ≡ sets row₀ 0 (listOf v (λ j. marked (getD value j 0) (getD unknown j false))))
+Inv-loop value unknown row₀ v₀ row v = (v ≤ 80) × (row ≡ sets row₀ 0 (listOf v (λ j. cellOf (valueAt value unknown j))))
 
 abbrev μ-loop : tie.MeasureT-loop
 μ-loop value unknown row₀ v₀ row v = 80 - v
@@ -24,12 +23,12 @@ loop-holds c = (omega arith, refl)
 
 loop-again : tie.Need-loop-again Inv-loop μ-loop
 loop-again c =
-    let at-loop = c .before .before .before .before in
+    let at-loop = c .before .before .before .before .before in
     let l = at-loop .loop in
     let a = at-loop .before .args in (
       omega arith,
-      rw (c .marked .ensures, l .inv .1)
-          (listOf-step (λ j. marked (getD (a .value .now) j 0) (getD (a .unknown .now) j false)) (a .row .now) (l .v)),
+      rw (c .store .ensures, c .before .value-at .ensures, l .inv .1)
+          (listOf-step (λ j. cellOf (valueAt (a .value .now) (a .unknown .now) j)) (a .row .now) (l .v)),
     )
 
 returns : tie.Need-returns Inv-loop μ-loop
@@ -45,9 +44,7 @@ put-words-spec =
     Inv-loop
     μ-loop
     loop-holds
-    (λ c. search needs)
-    (λ c. search needs)
-    (λ c. search needs)
+    (λ c κs. search needs)
     (λ c κs. search needs)
     (λ c. search needs)
     (λ c. search needs)

@@ -5,7 +5,7 @@ use Rattle.driving.proofs.states.registers_of.Statement.{statement}
 use Rattle.driving.proofs.states.registers_of.Tie as tie
 
 returns : tie.Need-returns
-returns c = registers-is _ _ _ _ (c .before .before .before .before .before .numbers-from .ensures) (c .before .flags-from .ensures)
+returns c = registers-is _ _ _ _ (c .before .before .before .before .before .numbers-from .ensures) (c .before .numbers-from2 .ensures)
 
 pub registers-of-spec : {M : Type 1} → statement M
 registers-of-spec =

@@ -7,7 +7,7 @@ use Rattle.prepared_cycles.proofs.rows.inputs_at.Tie as tie
 
 returns : tie.Need-returns
 unfolding rowInputs
-returns c = rw (c .before .before .numbers-at .ensures, c .before .flags-at .ensures, c .inputs .ensures) refl
+returns c = rw (c .before .before .numbers-at .ensures, c .before .numbers-at2 .ensures, c .inputs .ensures) refl
 
 pub inputs-at-spec : {M : Type 1} → statement M
 inputs-at-spec =

@@ -4,7 +4,7 @@ use Prim.Native.Nat.{_≤_, _-_, _+_, _*_}
 use native.Mathlib.Omega.{arith}
 use lib.ListN.{getD}
 use lib.Seq.{sets}
-use Rattle.state.specs.Saved.{listOf}
+use Rattle.state.specs.Rows.{listOf}
 use Rattle.state.proofs.Rows.{listOf-step}
 use Rattle.prepared_cycles.proofs.Items.{row-filled}
 use borrow.Author.Needs.{needs}
@@ -12,10 +12,10 @@ use Rattle.prepared_cycles.proofs.rows.numbers_at.Statement.{statement}
 use Rattle.prepared_cycles.proofs.rows.numbers_at.Tie as tie
 
 abbrev Inv-loop : tie.InvT-loop
-Inv-loop value row clock at a₀ v₀ a v = (v ≤ 16) × (a ≡ sets a₀ 0 (listOf v (λ k. getD value (16 * row + k) 0)))
+Inv-loop value row first at a₀ v₀ a v = (v ≤ 16) × (a ≡ sets a₀ 0 (listOf v (λ k. getD value (16 * row + k) 0)))
 
 abbrev μ-loop : tie.MeasureT-loop
-μ-loop value row clock at a₀ v₀ a v = 16 - v
+μ-loop value row first at a₀ v₀ a v = 16 - v
 
 loop-holds : tie.Need-loop-holds Inv-loop μ-loop
 unfolding listOf
@@ -32,7 +32,7 @@ returns c =
     let l = c .before in
     let p = l .before .args in
     let e : l .loop .v ≡ 16 = omega arith in
-    row-filled (p .value .now) 0 (l .before .args .clock) (p .row) _ _ refl (rw e at (l .loop .inv .1))
+    row-filled (p .value .now) (p .first) (p .row) _ _ refl (rw e at (l .loop .inv .1))
 
 pub numbers-at-spec : {M : Type 1} → statement M
 numbers-at-spec =

@@ -4,7 +4,7 @@ use Prim.Native.Nat.{_≤_, _-_}
 use native.Mathlib.Omega.{arith}
 use lib.ListN.{length, getD, length-set}
 use lib.Seq.{sets}
-use Rattle.state.specs.Saved.{listOf}
+use Rattle.state.specs.Rows.{listOf}
 use Rattle.prepared_cycles.specs.Traces.{wordIn}
 use Rattle.prepared_cycles.proofs.Items.{listOf-on}
 use borrow.Author.Needs.{needs}

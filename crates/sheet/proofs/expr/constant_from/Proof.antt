@@ -13,11 +13,11 @@ returns-2 c = constant-no-value _ _ _ (c .before .before .before .before .width 
 
 returns-3 : tie.Need-returns-3
 returns-3 c =
-    constant-fits _ _ _ (c .before .before .before .before .before .before .width .given .1) (c .before .before .before .value .given .1) (sym (c .before .fits2 .ensures) ∙ c .if1 .taken)
+    constant-fits _ _ _ (c .before .before .before .before .before .before .width .given .1) (c .before .before .before .value .given .1) (sym (c .before .below .ensures) ∙ c .if1 .taken)
 
 returns-4 : tie.Need-returns-4
 returns-4 c =
-    constant-wide _ _ _ (c .before .before .before .before .before .before .width .given .1) (c .before .before .before .value .given .1) (sym (c .before .fits2 .ensures) ∙ c .if1 .left)
+    constant-wide _ _ _ (c .before .before .before .before .before .before .width .given .1) (c .before .before .before .value .given .1) (sym (c .before .below .ensures) ∙ c .if1 .left)
 
 pub constant-from-spec : {M : Type 1} → statement M
 constant-from-spec =

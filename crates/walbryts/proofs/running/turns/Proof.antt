@@ -4,10 +4,12 @@ use Rattle.walbryts.proofs.running.turns.Statement.{statement}
 use Rattle.walbryts.proofs.running.turns.Tie as tie
 
 abbrev Inv-loop : tie.InvT-loop
-Inv-loop p plan lent table numbers names path buffer₀ text₀ waves₀ widths c₀ left₀ buffer text waves c left = Unit {0}
+Inv-loop p plan lent table numbers names path buffer₀ text₀ waves₀ value₀ unknown₀ trace₀ widths c₀ left₀ buffer text waves value unknown trace
+    c left = Unit {0}
 
 abbrev μ-loop : tie.MeasureT-loop
-μ-loop p plan lent table numbers names path buffer₀ text₀ waves₀ widths c₀ left₀ buffer text waves c left = left
+μ-loop p plan lent table numbers names path buffer₀ text₀ waves₀ value₀ unknown₀ trace₀ widths c₀ left₀ buffer text waves value unknown trace
+    c left = left
 
 pub turns-spec : {M : Type 1} → statement M
 turns-spec =
@@ -17,6 +19,7 @@ turns-spec =
     μ-loop
     (λ c κs. search needs)
     (λ c. tt)
+    (λ c κs. search needs)
     (λ c κs. search needs)
     (λ c κs. search needs)
     (λ c κs. search needs)

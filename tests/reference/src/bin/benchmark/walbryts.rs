@@ -6,7 +6,8 @@ use reference::extraction::{NODE_WORDS, REGISTERS, ROW_WORDS};
 use reference::library::{self, Planes, SAVED};
 use reference::module::Module;
 use reference::samples::Bench;
-use reference::state::{MARKS, MOST, PLACES, Slot};
+use reference::state::{MARKS, MOST, PLACES};
+use reference::value::{Value, mask};
 use reference::{saved, sheet};
 
 use crate::clock;
@@ -19,7 +20,7 @@ pub struct Walbryts {
     module: Module,
     /// Rows of 16.
     value: Vec<u32>,
-    unknown: Vec<bool>,
+    unknown: Vec<u32>,
 }
 
 impl Walbryts {
@@ -32,7 +33,7 @@ impl Walbryts {
             value.extend(row);
             value.resize(value.len() + 15 - row.len(), 0);
         }
-        let unknown = vec![false; value.len()];
+        let unknown = vec![0; value.len()];
         Walbryts { sheet, module, value, unknown }
     }
 
@@ -55,12 +56,13 @@ impl Walbryts {
     pub fn expressions(&self, cycles: usize) -> (Vec<String>, f64) {
         let (mut nodes, mut rows) = (vec![0; NODE_WORDS], vec![0; ROW_WORDS]);
         assert_eq!(library::extract(&self.sheet, &mut nodes, &mut rows), 0);
+        let marks = |variable| mask(self.module.widths.get(variable).copied().unwrap_or(32));
         let mut planes = Planes {
             value: [0; REGISTERS],
-            unknown: [true; REGISTERS],
+            unknown: std::array::from_fn(|r| marks(usize::from(self.module.inputs) + r)),
             places: [0; PLACES],
             wire: [0; MARKS],
-            unsure: [true; MARKS],
+            unsure: [u32::MAX; MARKS],
         };
         let (value, unknown) = (&self.value[..16 * cycles], &self.unknown[..16 * cycles]);
         let run = || library::cycles(&self.sheet, &nodes, &rows, &mut planes, value, unknown);
@@ -82,7 +84,7 @@ impl Walbryts {
     }
 }
 
-fn shown(slots: &[Slot]) -> Vec<String> {
-    let text = |slot: &Slot| if slot.unknown { "x".into() } else { slot.number.to_string() };
+fn shown(slots: &[Value]) -> Vec<String> {
+    let text = |value: &Value| value.as_known().map_or("x".into(), |n| n.to_string());
     slots.iter().map(text).collect()
 }

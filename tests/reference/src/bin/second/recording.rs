@@ -7,10 +7,10 @@ use reference::icarus::{self, Text};
 use reference::module::Module;
 use reference::random::Random;
 use reference::samples::{self, Bench};
-use reference::second::{self, Counts};
-use reference::stimulus::{self, Rows};
+use reference::second::Counts;
 use reference::trace::{Cycle, Trace};
-use reference::{sheet, verilog};
+use reference::value::Value;
+use reference::{operators, sheet, stimulus, verilog};
 
 use crate::printer::printed;
 use crate::{Outcome, SEED, STORED, folder};
@@ -21,16 +21,16 @@ const CYCLES: usize = 20;
 const BENCH_CYCLES: usize = 200;
 
 const HEAD: &str = "\
-# Traces of Icarus Verilog, made by `tests/run second record`. For each module its sheet, the registers
-# before the first cycle, then a line a cycle: inputs from 1 up, wires with the clock low, registers and
-# wires after its rise. Hexadecimal.
+# Traces of Icarus Verilog, made by `tests/run second record`. For each module its sheet, then from the
+# start, where all is x, a line a cycle: inputs from 1 up, wires with the clock low, registers and wires
+# after its rise. A value is its number and behind a ? the marks of its unknown bits, in hexadecimal.
 ";
 
 /// Icarus on a stored trace's module and inputs gives what is stored.
 pub fn again(trace: &Trace) -> Outcome<Counts> {
     let module = sheet::read(&trace.sheet).map_err(|refusal| format!("{refusal:?}"))?;
     let rows = trace.cycles.iter().map(|cycle| cycle.inputs.clone()).collect();
-    let again = recorded(&trace.name, &module, None, trace.start.clone(), rows)?;
+    let again = recorded(&trace.name, &module, None, rows)?;
     for (number, (stored, now)) in trace.cycles.iter().zip(&again.cycles).enumerate() {
         if stored != now {
             return Err(format!("cycle {number}: {now}, stored {stored}"));
@@ -39,17 +39,6 @@ pub fn again(trace: &Trace) -> Outcome<Counts> {
     match again.cycles.len() == trace.cycles.len() {
         true => Ok(Counts { cycles: again.cycles.len(), ..Counts::default() }),
         false => Err(format!("{} cycles", again.cycles.len())),
-    }
-}
-
-/// Both implementations come to known registers, and to other ones.
-pub fn differs_on_x() -> Outcome {
-    let module = second::differs_on_x();
-    let text = Text { name: verilog::NAME, clock: "i0", verilog: verilog::text(&module) };
-    let after = icarus::trace(&folder()?, &module, &text, &[], &vec![vec![]])?;
-    match after[0].registers == [0, 1] {
-        true => Ok(()),
-        false => Err(format!("Icarus on x: {:?}", after[0].registers)),
     }
 }
 
@@ -62,19 +51,19 @@ pub fn record() -> Outcome<usize> {
     for bench in samples::ALL {
         let module = sheet::read(&bench.sheet()).expect("an accepted sheet");
         let rows = stimulus::bench_rows(bench.name, BENCH_CYCLES, SEED);
-        let start = stimulus::registers(&module, &mut random);
-        let trace = recorded(bench.name, &module, Some(&bench), start, rows)?;
+        let rows = stimulus::blurred(&rows, &module, &mut random);
+        let trace = recorded(bench.name, &module, Some(&bench), rows)?;
         text.push_str(&trace.to_string());
     }
+    let trace = recorded("operators", &operators::module(), None, operators::rows())?;
+    text.push_str(&trace.to_string());
     for number in 0..MODULES {
-        let module = stimulus::known_module(&mut random);
-        let rows = stimulus::rows(&module, CYCLES, &mut random);
-        let start = stimulus::registers(&module, &mut random);
-        let trace = recorded(&format!("random{number}"), &module, None, start, rows)?;
+        let (module, rows) = stimulus::sample(CYCLES, number % 2 == 1, &mut random);
+        let trace = recorded(&format!("random{number}"), &module, None, rows)?;
         text.push_str(&trace.to_string());
     }
     fs::write(STORED, &text).map_err(|e| format!("{STORED}: {e}"))?;
-    println!("{} modules, {} bytes", samples::ALL.len() + MODULES, text.len());
+    println!("{} modules, {} bytes", samples::ALL.len() + 1 + MODULES, text.len());
     Ok(0)
 }
 
@@ -84,8 +73,7 @@ fn recorded(
     name: &str,
     module: &Module,
     bench: Option<&Bench>,
-    start: Vec<u32>,
-    rows: Rows,
+    rows: Vec<Vec<Value>>,
 ) -> Outcome<Trace> {
     let sheet = encode(module);
     let folder = folder()?;
@@ -102,8 +90,8 @@ fn recorded(
             Text { name: verilog::NAME, clock: "i0", verilog: verilog::text(module) }
         }
     };
-    let after = icarus::trace(&folder, module, &text, &start, &rows)
+    let after = icarus::trace(&folder, module, &text, &rows)
         .map_err(|error| format!("{name}: {error}"))?;
     let cycles = rows.into_iter().zip(after).map(|(inputs, after)| Cycle { inputs, after });
-    Ok(Trace { name: name.into(), sheet, start, cycles: cycles.collect() })
+    Ok(Trace { name: name.into(), sheet, cycles: cycles.collect() })
 }

@@ -1,0 +1,2 @@
+pub mod BinaryText
+pub mod Claims

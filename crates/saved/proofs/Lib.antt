@@ -1,0 +1,11 @@
+pub mod Stores
+pub mod Bytes
+pub mod Long
+pub mod Parts
+pub mod Laid
+pub mod Saved
+pub mod Widths
+pub mod Older
+pub mod Over
+pub mod Ways
+pub mod Samples

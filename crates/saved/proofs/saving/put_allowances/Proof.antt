@@ -1,0 +1,52 @@
+-- `saved::saving::put_allowances` meets its contract. The loop's invariant: the rows so far are put. Assumes nothing.
+use Prim.Native.Nat.{_≤_, _-_}
+use mathlib.Core.Path.{_≡_, refl, _∙_}
+use native.Mathlib.Omega.{arith}
+use borrow.Author.Needs.{needs}
+use lib.ListN.{getD}
+use lib.Seq.{sets}
+use Rattle.state.specs.Rows.{rows}
+use Rattle.saved.specs.Saved.{wordBytes, allowanceBytes}
+use Rattle.saved.proofs.Stores.{allowances-step}
+use Rattle.saved.proofs.saving.put_allowances.Statement.{statement}
+use Rattle.saved.proofs.saving.put_allowances.Tie as tie
+
+abbrev Inv-loop : tie.InvT-loop
+Inv-loop allowances out₀ u₀ out u = (u ≤ 4) × (out ≡ sets out₀ 1009 (rows u (λ k. wordBytes (getD allowances k 0))))
+
+abbrev μ-loop : tie.MeasureT-loop
+μ-loop allowances out₀ u₀ out u = 4 - u
+
+loop-holds : tie.Need-loop-holds Inv-loop μ-loop
+unfolding rows
+loop-holds c = (search needs, refl)
+
+loop-again : tie.Need-loop-again Inv-loop μ-loop
+loop-again c =
+    let l = c .before .before .before .before .loop in
+    let a = c .before .before .before .before .before .args in
+    (search needs, c .put-word .ensures ∙ rw (l .inv .1) (allowances-step (a .allowances .now) (a .out .now) (l .u)))
+
+returns : tie.Need-returns Inv-loop μ-loop
+unfolding allowanceBytes
+returns c =
+    let l = c .before .loop in
+    let e : l .u ≡ 4 = omega arith in
+    rw e at (l .inv .1)
+
+pub put-allowances-spec : {M : Type 1} → statement M
+put-allowances-spec =
+    tie.close
+    (tie.spec
+    Inv-loop
+    μ-loop
+    loop-holds
+    (λ c. search needs)
+    (λ c. search needs)
+    (λ c. search needs)
+    (λ c. search needs)
+    (λ c κs. search needs)
+    (λ c. search needs)
+    (λ c. search needs)
+    loop-again
+    returns)
