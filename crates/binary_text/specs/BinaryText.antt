@@ -1,4 +1,4 @@
--- A value bit by bit in text: "one digit a bit", most significant first, `x` where its mark stands.
+-- A value bit by bit in text: a digit for each bit, most significant first, `x` where its mark stands.
 use mathlib.Core.Bool.{Bool}
 use mathlib.Core.List.{List, [], _∷_, _++_}
 use Prim.Native.Nat.{ℕ, zero, suc, _/_, _%_}

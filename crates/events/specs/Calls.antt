@@ -55,7 +55,7 @@ unfoldable pub start : List ℕ → List ℕ → Chosen
 start s allowances = startOf (read s) allowances
 
 -- ---- 31: "state doesn't fit the sheet (value or pending too wide; place outside its thread ..; mark or pending past the
--- sheet's)", and "(a count above it is 31)"
+-- sheet's)", "with 0 in the first number under each mark (else 31, inputs 25)", and "(a count above it is 31)"
 
 unfoldable pub widthOf : Module Expr → ℕ → ℕ
 widthOf m v = getD (m .scope .widths) v 0
@@ -207,7 +207,7 @@ runPlain s st u n = judged (read s) st refused (λ m. pick (ltb u users) (runBy 
 unfoldable pub inputOf : Inputs → ℕ → Value
 inputOf a v = valueAt (a .value) (a .unknown) v
 
--- 25: "input values of wrong number or too wide"
+-- 25: "input values of wrong number or too wide", or with a number under a mark
 unfoldable pub inputsFit : Module Expr → Inputs → Bool
 inputsFit m a =
     eqb (a .count) (m .scope .inputs) && allBelow (m .scope .inputs) (λ v. fits (widthOf m v) (inputOf a v))

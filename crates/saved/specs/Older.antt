@@ -31,7 +31,7 @@ pub record Older : Type 0 where
   pub places : List ℕ
   pub due : List Bool
 
--- "A value is 5 bytes: 1 for x or 0 for a known number, then four bytes of number (handed on as they stand, also under x)."
+-- A value is 5 bytes: 1 for x or 0 for a known number, then four bytes of number, as they stand, also under x.
 unfoldable pub olderRow : List ℕ → List Bool → ℕ → List ℕ
 olderRow ns xs v = flagByte (getD xs v false) ∷ wordBytes (getD ns v 0)
 
@@ -46,7 +46,7 @@ olderBody o =
     ++ placeBytes (o .places)
     ++ dueBytes (o .due)
 
--- Form 1, "time and count (4 bytes each)": 641 bytes
+-- Form 1, a time and a count of 4 bytes each: 641 bytes
 unfoldable pub savedShort : Older → ℕ → ℕ → List ℕ
 savedShort o time count = 1 ∷ olderBody o ++ (wordBytes time ++ wordBytes count)
 
