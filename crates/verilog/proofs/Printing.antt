@@ -7,9 +7,10 @@ use mathlib.Core.List.{List, [], _++_, append-nil}
 use mathlib.Core.Bool.{Bool, true, false}
 use lib.ListN.{length, getD}
 use lib.Dec.{ltb, eqb}
-use borrow.Author.Tests.{lt-ltb, le-ltb, ne-eqb}
+use borrow.Author.Tests.{lt-ltb, le-ltb, ltb-true, ne-eqb}
 use Rattle.values.specs.Values.{pick}
 use Rattle.values.specs.Edges.{edgeOf}
+use Rattle.values.proofs.Values.{and-left}
 use Rattle.sheet.specs.Reading.{wordOf}
 use Rattle.writing.specs.Ascii.{ascii}
 use Rattle.writing.specs.Numbers.{decimal}
@@ -18,7 +19,7 @@ use Rattle.writing.proofs.Buffer.{both, puts-nil, puts-append}
 use Rattle.naming.specs.Naming.{plainName}
 use Rattle.signs.specs.Signs.{operands, lead, constantText, unknownText}
 use Rattle.verilog.specs.Verilog.{_&_, indent, before, edgeText, rangeText, directionText, portText, portsText, declarationText}
-use Rattle.verilog.specs.Printing.{Shown, shown, behind, Left, left, leaves, operandsAt, wordAt, shapeOf, bodiesOf, flat, innerLevel, endAt, closingAt, bodiesAt, nodeAt, shownAt, termAt, termsAt, assignAt, conditionAt, waitAt, headingAt, formAt, stmtAt, declarationsAt, wireAt, wiresAt, threadAt, threadsAt, moduleAt}
+use Rattle.verilog.specs.Printing.{Shown, shown, behind, Left, left, leaves, operandsAt, wordAt, shapeOf, bodiesOf, flat, innerLevel, endAt, closingAt, bodiesAt, nodeAt, shownAt, termAt, termsAt, assignAt, conditionAt, waitAt, headingAt, formAt, stmtAt, declarationsAt, wireAt, wiresAt, blockAt, waitingAt, opensAt, threadAt, threadsAt, moduleAt}
 
 -- ---- leaves
 
@@ -218,6 +219,18 @@ shape-map m b h = simp (ne-eqb m 0x0C h)
 pub shape-single : (m b : ℕ) → m ≡ 0x0C → (b ≡ 0x10 → ⊥) → (b ≡ 0x0C → ⊥) → 0x0C ≡ shapeOf m b
 unfolding shapeOf
 shape-single m b e h l = rw e (simp (ne-eqb b 0x10 h, ne-eqb b 0x0C l))
+
+pub opens-past : (s : List ℕ) (p : ℕ) → length s ≤ p → false ≡ opensAt s p
+unfolding opensAt
+opens-past s p h = rw (le-ltb p (length s) h) refl
+
+pub opens-below : (s : List ℕ) (p : ℕ) → opensAt s p ≡ true → p < length s
+unfolding opensAt
+opens-below s p h = ltb-true p (length s) (and-left (ltb p (length s)) (eqb (shapeOf (getD s p 0) (getD s (p + 1) 0)) 0x1C) h)
+
+pub opens-shape : (s : List ℕ) (p m : ℕ) → p < length s → m ≡ shapeOf (getD s p 0) (getD s (p + 1) 0) → eqb m 0x1C ≡ opensAt s p
+unfolding opensAt
+opens-shape s p m h e = rw (lt-ltb p (length s) h, ← e) refl
 
 -- ---- the parts of a sheet
 
@@ -465,12 +478,32 @@ module _ (i r : ℕ) (s : List ℕ) where
       leaves-text t _ _ _ (leaves-next c l _ el)
       (both _ _ _ _ _ ea (both _ _ _ _ _ eb (both _ _ _ _ _ ec (both _ _ _ _ _ (leaves-puts c l _ el) ee))))
 
-  pub thread-path : (p : ℕ) (t : Text) {a e : Text} {l : Left} → a ≡ puts t (ascii "  always begin\n")
+  pub block-path : (p : ℕ) (t : Text) {a e : Text} {l : Left} → a ≡ puts t (ascii "  always begin\n")
       → l ≡ leaves a (stmtAt i r s 64 2 p)
-      → e ≡ puts (l .text) (ascii "  end\n") → left (l .next) e ≡ leaves t (threadAt i r s p)
-  unfolding threadAt
-  thread-path p t {a = a} {l = l} ea el ee =
+      → e ≡ puts (l .text) (ascii "  end\n") → left (l .next) e ≡ leaves t (blockAt i r s p)
+  unfolding blockAt
+  block-path p t {a = a} {l = l} ea el ee =
       leaves-text t _ _ _ (leaves-next a l _ el) (both _ _ _ _ _ ea (both _ _ _ _ _ (leaves-puts a l _ el) ee))
+
+  pub waiting-path : (p : ℕ) (t : Text) {a e : Text} {w l : Left} → a ≡ puts t (ascii "  always ")
+      → w ≡ leaves a (waitAt i r s (ascii ") begin\n") 0 (p + 1))
+      → l ≡ leaves (w .text) (stmtAt i r s 63 2 (w .next))
+      → e ≡ puts (l .text) (ascii "  end\n") → left (l .next) e ≡ leaves t (waitingAt i r s p)
+  unfolding waitingAt
+  waiting-path p t {a = a} {w = w} {l = l} ea ew el ee =
+      let q = waitAt i r s (ascii ") begin\n") 0 (p + 1) in
+      let x : l ≡ leaves (w .text) (stmtAt i r s 63 2 (q .next)) = el ∙ ap
+      (λ (n : ℕ). leaves (w .text) (stmtAt i r s 63 2 n)) (leaves-next a w q ew) in
+      leaves-text t _ _ _ (leaves-next (w .text) l _ x)
+      (both _ _ _ _ _ ea (both _ _ _ _ _ (leaves-puts a w q ew) (both _ _ _ _ _ (leaves-puts (w .text) l _ x) ee)))
+
+  pub thread-waiting : (p : ℕ) → opensAt s p ≡ true → threadAt i r s p ≡ waitingAt i r s p
+  unfolding threadAt
+  thread-waiting p h = rw h refl
+
+  pub thread-block : (p : ℕ) → opensAt s p ≡ false → threadAt i r s p ≡ blockAt i r s p
+  unfolding threadAt
+  thread-block p h = rw h refl
 
   -- The module's parts printed one after the other.
   pub module-path : (w t f n x v : ℕ) (a : Text) {b c d e z : Text} {k l : Left} → f ≡ i + r → n ≡ i + r + w → x ≡ w → v ≡ i

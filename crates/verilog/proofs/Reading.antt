@@ -6,11 +6,12 @@ use mathlib.Core.List.{List, _∷_, _++_, append-nil, append-assoc}
 use lib.ListN.{length, getD, take, drop, length-map}
 use lib.Seq.{drop-cons}
 use lib.Dec.{leb, eqb}
+use borrow.Author.Tests.{ne-eqb}
 use Rattle.sheet.specs.declared.EdgeTerm.{EdgeTerm}
 use Rattle.sheet.specs.declared.SheetRead.{SheetRead}
 use Rattle.sheet.specs.Reading.{Res, ok, no, _>>=_, _>>_, check}
 use Rattle.sheet.specs.Expression.{Expr, Parsed, tree, located}
-use Rattle.sheet.specs.Statement.{Stmt, size, Scope, Body, readStmt}
+use Rattle.sheet.specs.Statement.{Stmt, sequence, size, Scope, Body, readStmt}
 use Rattle.sheet.specs.Module.{mapModule, Listed, Head, readHead, readWires, readThreads, Sheet, readSheet, read}
 use Rattle.sheet.specs.Answers.{layoutOf, sheetAnswer}
 use Rattle.sheet.proofs.Reading.{bind-ok, check-ok, ok-injective}
@@ -24,8 +25,8 @@ use Rattle.writing.specs.Buffer.{Text, filled, puts}
 use Rattle.naming.specs.Naming.{plainName}
 use Rattle.signs.specs.Signs.{sign, operands, lead}
 use Rattle.signs.proofs.Signs.{operands-one, operands-two, lead-first, lead-last}
-use Rattle.verilog.specs.Verilog.{_&_, indent, waiting, nesting, single, front, exprText, termText, termsText, sequenceText, stmtText, wiresText, threadsText, declarationsText, moduleText, verilogText, answer, printed, verilogOf}
-use Rattle.verilog.specs.Printing.{Shown, shown, behind, operandsAt, wordAt, shapeOf, bodiesOf, flat, innerLevel, endAt, closingAt, shownAt, termAt, termsAt, assignAt, conditionAt, waitAt, headingAt, formAt, stmtAt, declarationsAt, wireAt, wiresAt, threadAt, threadsAt, moduleAt}
+use Rattle.verilog.specs.Verilog.{_&_, indent, waiting, nesting, single, front, exprText, termText, termsText, sequenceText, stmtText, wiresText, opening, remainder, openedText, threadText, threadsText, declarationsText, moduleText, verilogText, answer, printed, verilogOf}
+use Rattle.verilog.specs.Printing.{Shown, shown, behind, operandsAt, wordAt, shapeOf, bodiesOf, flat, innerLevel, endAt, closingAt, shownAt, termAt, termsAt, assignAt, conditionAt, waitAt, headingAt, formAt, stmtAt, declarationsAt, wireAt, wiresAt, blockAt, waitingAt, opensAt, threadAt, threadsAt, moduleAt}
 use Rattle.verilog.proofs.Printing as Printing
 
 -- ---- a statement by its heading and its bodies
@@ -264,10 +265,62 @@ module _ (i r : ℕ) (c : Scope) (s : List ℕ) where
   unfolding threadsAt behind
   threads-step n p {t = t} e f = ap (λ (y : Shown). behind (y .text) (threadsAt i r s n (y .next))) e ∙ ap (behind t) f
 
-  thread-reads : (p : ℕ) {b : Body Expr} → ReadsStmt (tree s) c s 64 p b
+  -- In a block, where the statement's shape isn't that of one that opens with a wait.
+  block-reads : (p m : ℕ) {b : Body Expr} → p < length s → m ≡ shapeOf (getD s p 0) (getD s (p + 1) 0) → (m ≡ 0x1C → ⊥)
+      → ReadsStmt (tree s) c s 64 p b
       → threadAt i r s p ≡ shown (b .next) (ascii "  always begin\n" & stmtText (plainName i r) 2 (b .stmt) & ascii "  end\n")
-  unfolding threadAt
-  thread-reads p x = ap (λ (y : Shown). shown (y .next) (ascii "  always begin\n" & y .text & ascii "  end\n")) (stmt-reads x 2)
+  unfolding blockAt
+  block-reads p m h e n x =
+      Printing.thread-block i r s p (sym (Printing.opens-shape s p m h e) ∙ ne-eqb m 0x1C n)
+      ∙ ap (λ (y : Shown). shown (y .next) (ascii "  always begin\n" & y .text & ascii "  end\n")) (stmt-reads x 2)
+
+  map-reads : (p m : ℕ) {b : Body Expr} → p < length s → getD s p 0 ≡ m → (m ≡ 0x0C → ⊥) → (m ≡ 0x1C → ⊥)
+      → ReadsStmt (tree s) c s 64 p b
+      → threadAt i r s p ≡ shown (b .next) (ascii "  always begin\n" & stmtText (plainName i r) 2 (b .stmt) & ascii "  end\n")
+  map-reads p m h e k n x =
+      block-reads p m h
+      (Printing.shape-map m (getD s (p + 1) 0) k ∙ ap (λ (y : ℕ). shapeOf y (getD s (p + 1) 0)) (sym e)) n x
+
+  -- Behind the wait that the statement opens with.
+  waiting-reads : (p : ℕ) {k n : ℕ} {ts : List EdgeTerm} {b : Body Expr} → p < length s → getD s p 0 ≡ 0x0C → getD s (p + 1) 0 ≡ 0x10
+      → getD s (p + 1 + 1) 0 ≡ k → ReadsTerms (c .widths) s k (p + 1 + 2) ts → p + 1 + 2 + 2 * k ≡ n
+      → ReadsStmt (tree s) c s 63 n b
+      → threadAt i r s p ≡ shown (b .next)
+      (ascii "  always " & ascii "@(" & termsText (plainName i r) 0 ts & ascii ") begin\n" & stmtText (plainName i r) 2 (b .stmt) & ascii "  end\n")
+  unfolding waitingAt indent shapeOf
+  waiting-reads p {ts = ts} h m g k u e y =
+      Printing.thread-waiting i r s p (sym (Printing.opens-shape s p 0x1C h (shape-of p 0x10 m g)))
+      ∙ ap (λ (w : Shown). let q = stmtAt i r s 63 2 (w .next) in shown (q .next) (ascii "  always " & w .text & q .text & ascii "  end\n"))
+      (wait-reads (ascii ") begin\n") 0 (p + 1) k u
+      ∙ ap (λ (q : ℕ). shown q (indent 0 & ascii "@(" & termsText (plainName i r) 0 ts & ascii ") begin\n")) e)
+      ∙ ap (λ (q : Shown). shown (q .next)
+      (ascii "  always " & (indent 0 & ascii "@(" & termsText (plainName i r) 0 ts & ascii ") begin\n") & q .text & ascii "  end\n"))
+      (stmt-reads y 2)
+      ∙ simp append-assoc
+
+  opened-reads : (p : ℕ) {a b : Body Expr} → p < length s → getD s p 0 ≡ 0x0C → Fronted (p + 1) a
+      → ReadsStmt (tree s) c s 63 (a .next) b
+      → ReadsStmt (tree s) c s 64 p (record { stmt = sequence (a .stmt) (b .stmt); next = b .next })
+      → threadAt i r s p ≡ shown (b .next) (openedText (plainName i r) (front (a .stmt))
+      (λ l. stmtText (plainName i r) l (sequence (a .stmt) (b .stmt))) (λ l. stmtText (plainName i r) l (b .stmt)))
+  unfolding openedText shapeOf
+  opened-reads p h m (is-wait g k u f e) y z = rw f (waiting-reads p h m g k u e y)
+  opened-reads p h m (is-sequence g f) y z = rw f (block-reads p 0x2C h (shape-of p 0x0C m g) (omega arith) z)
+  opened-reads p h m (is-single g k f) y z = rw f (block-reads p 0x0C h (Printing.shape-single _ _ m g k) (omega arith) z)
+
+  thread-reads : (p : ℕ) {b : Body Expr} → ReadsStmt (tree s) c s 64 p b
+      → threadAt i r s p ≡ shown (b .next) (threadText (plainName i r) (b .stmt))
+  unfolding threadText opening remainder openedText
+  thread-reads p (an-empty l m) = map-reads p 0x00 l m (omega arith) (omega arith) (an-empty l m)
+  thread-reads p (an-assign l m t g e w) = map-reads p 0x03 (omega arith) m (omega arith) (omega arith) (an-assign l m t g e w)
+  thread-reads p (a-later l m t g e w) = map-reads p 0x23 (omega arith) m (omega arith) (omega arith) (a-later l m t g e w)
+  thread-reads p (a-sequence l m x y) = opened-reads p l m (front-reads x) y (a-sequence l m x y)
+  thread-reads p (an-if l m e x) = map-reads p 0x06 l m (omega arith) (omega arith) (an-if l m e x)
+  thread-reads p (an-if-else l m e x y) = map-reads p 0x0E l m (omega arith) (omega arith) (an-if-else l m e x y)
+  thread-reads p (a-while l m e x) = map-reads p 0x46 l m (omega arith) (omega arith) (a-while l m e x)
+  thread-reads p (a-forever l m x) = map-reads p 0x44 l m (omega arith) (omega arith) (a-forever l m x)
+  thread-reads p (a-wait m w ts f) =
+      let b = w .below in map-reads p 0x10 (omega arith) m (omega arith) (omega arith) (a-wait m w ts f)
 
   pub threads-reads : (n p : ℕ) {l : Listed (Stmt Expr)} → readThreads (tree s) c s n p ≡ ok l
       → threadsAt i r s n p ≡ shown (l .next) (threadsText (plainName i r) (l .items))
@@ -278,7 +331,7 @@ module _ (i r : ℕ) (c : Scope) (s : List ℕ) where
       let k = check-ok (leb (size (b .0 .stmt) + 1) 256) 11 p _ (b .2) in
       let bs = bind-ok (readThreads (tree s) c s n (b .0 .next)) _ (k .1) in
       rw (← ok-injective (bs .2)) (threads-step n p (thread-reads p (derive-stmt (tree s) c s 64 p (b .1)))
-      (threads-reads n (b .0 .next) (bs .1)) ∙ simp append-assoc)
+      (threads-reads n (b .0 .next) (bs .1)))
 
 -- ---- declarations
 

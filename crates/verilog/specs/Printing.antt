@@ -3,7 +3,7 @@ use Prim.Native.Nat.{ℕ, zero, suc, _+_, _*_}
 use mathlib.Core.List.{List, [], _++_}
 use lib.ListN.{length, getD}
 use lib.Dec.{ltb, eqb}
-use mathlib.Core.Bool.{Bool, true, false}
+use mathlib.Core.Bool.{Bool, true, false, _&&_}
 use Rattle.values.specs.Values.{pick, _is_then_else_}
 use Rattle.values.specs.Edges.{edgeOf}
 use Rattle.sheet.specs.Reading.{wordOf}
@@ -98,6 +98,10 @@ bodiesAt stmt m n (suc k) p =
     let a = stmt (innerLevel m (suc k) n) p in
     behind (a .text ++ closingAt m (suc k) n) (bodiesAt stmt m n k (a .next))
 
+-- Does the statement at p open with a wait, being a sequence whose first part is one?
+unfoldable pub opensAt : List ℕ → ℕ → Bool
+opensAt s p = ltb p (length s) && eqb (shapeOf (getD s p 0) (getD s (p + 1) 0)) 0x1C
+
 -- ---- the parts of a sheet s with i inputs and r registers
 
 module _ (i r : ℕ) (s : List ℕ) where
@@ -190,11 +194,20 @@ module _ (i r : ℕ) (s : List ℕ) where
   wiresAt zero v p = shown p []
   wiresAt (suc n) v p = behind (wireAt v p .text) (wiresAt n (v + 1) (wireAt v p .next))
 
-  -- The thread whose statement stands at p.
-  unfoldable pub threadAt : ℕ → Shown
-  threadAt p =
+  -- The thread whose statement stands at p: in a block, or behind the wait that it opens with.
+  unfoldable pub blockAt : ℕ → Shown
+  blockAt p =
       let a = stmtAt 64 2 p in
       shown (a .next) (ascii "  always begin\n" & a .text & ascii "  end\n")
+
+  unfoldable pub waitingAt : ℕ → Shown
+  waitingAt p =
+      let w = waitAt (ascii ") begin\n") 0 (p + 1) in
+      let a = stmtAt 63 2 (w .next) in
+      shown (a .next) (ascii "  always " & w .text & a .text & ascii "  end\n")
+
+  unfoldable pub threadAt : ℕ → Shown
+  threadAt p = pick (opensAt s p) (waitingAt p) (blockAt p)
 
   -- n threads, the first one's statement at p.
   unfoldable pub threadsAt : ℕ → ℕ → Shown

@@ -84,6 +84,30 @@ front (while e a) = single
 front (forever a) = single
 front (wait ts) = waiting ts
 
+-- ---- how a thread is printed: by the first part of a sequence, and what stands behind that part
+
+unfoldable pub opening : Stmt Expr → Front
+opening empty = single
+opening (assign t e) = single
+opening (later t e) = single
+opening (sequence a b) = front a
+opening (ifThen e a) = single
+opening (ifElse e a b) = single
+opening (while e a) = single
+opening (forever a) = single
+opening (wait ts) = single
+
+unfoldable pub remainder : Stmt Expr → Stmt Expr
+remainder empty = empty
+remainder (assign t e) = empty
+remainder (later t e) = empty
+remainder (sequence a b) = b
+remainder (ifThen e a) = empty
+remainder (ifElse e a b) = empty
+remainder (while e a) = empty
+remainder (forever a) = empty
+remainder (wait ts) = empty
+
 -- name gives a variable's name.
 module _ (name : ℕ → List ℕ) where
   -- ---- expressions: every operator with its operands stands in parentheses
@@ -162,10 +186,19 @@ module _ (name : ℕ → List ℕ) where
   wiresText v [] = []
   wiresText v (e ∷ es) = ascii "  assign " & name v & ascii " = " & exprText e & ascii ";\n" & wiresText (v + 1) es
 
-  -- "A thread is a forever of its statement".
+  -- "A thread is a forever of its statement": in a block, or, where the statement opens with a wait, in one behind that wait. Tools for
+  -- synthesis take the latter form, where the thread has no other wait.
+  unfoldable pub openedText : Front → (ℕ → List ℕ) → (ℕ → List ℕ) → List ℕ
+  openedText (waiting ts) whole rest = ascii "  always " & ascii "@(" & termsText 0 ts & ascii ") begin\n" & rest 2 & ascii "  end\n"
+  openedText nesting whole rest = ascii "  always begin\n" & whole 2 & ascii "  end\n"
+  openedText single whole rest = ascii "  always begin\n" & whole 2 & ascii "  end\n"
+
+  unfoldable pub threadText : Stmt Expr → List ℕ
+  threadText a = openedText (opening a) (λ l. stmtText l a) (λ l. stmtText l (remainder a))
+
   unfoldable pub threadsText : List (Stmt Expr) → List ℕ
   threadsText [] = []
-  threadsText (a ∷ bs) = ascii "  always begin\n" & stmtText 2 a & ascii "  end\n" & threadsText bs
+  threadsText (a ∷ bs) = threadText a & threadsText bs
 
   -- One line for a variable of width w.
   unfoldable pub declarationText : ℕ → ℕ → ℕ → ℕ → List ℕ

@@ -18,7 +18,8 @@ ghost use Rattle.verilog.specs.Verilog.{portText, answer, verilogOf};
 ghost use Rattle.verilog.specs.Printing.{told, leaves, operandsAt, wordAt, shapeOf, bodiesOf, flat, innerLevel, endAt};
 ghost use Rattle.verilog.specs.Printing.{closingAt, bodiesAt};
 ghost use Rattle.verilog.specs.Printing.{shownAt, termAt, termsAt, assignAt, conditionAt, waitAt, headingAt, stmtAt};
-ghost use Rattle.verilog.specs.Printing.{declarationsAt, wireAt, wiresAt, threadAt, threadsAt, moduleAt};
+ghost use Rattle.verilog.specs.Printing.{declarationsAt, wireAt, wiresAt, opensAt, blockAt, waitingAt, threadAt};
+ghost use Rattle.verilog.specs.Printing.{threadsAt, moduleAt};
 
 // What printing a part gives: the next place in the sheet and the next position in the buffer.
 pub struct Printed {
@@ -633,6 +634,62 @@ fn print_wires(
     Printed { next, pos: p }
 }
 
+// Does the statement at a place open with a wait?
+fn opens(sheet: &[u8], at: usize) -> bool
+    ensures { λ r. ⌜ r ≡ opensAt (now (sheet .entry)) at ⌝ }
+{
+    if sheet.len() <= at {
+        return false;
+    }
+    let map = byte_at(sheet, at);
+    let first = byte_at(sheet, at + 1);
+    shape_of(map, first) == 0x1C
+}
+
+// The thread whose statement stands at `at`, in a block.
+fn print_block(
+    sheet: &[u8],
+    at: usize,
+    inputs: u8,
+    registers: u8,
+    text: &mut [u8; 65536],
+    pos: usize,
+) -> Printed
+    ensures { λ r. ⌜ told r (now (text .exit)) ≡ leaves (filled (now (text .entry)) pos)
+        (blockAt inputs registers (now (sheet .entry)) at) ⌝ }
+{
+    let p = put_word(b"  always begin\n", text, pos);
+    let a = print_stmt(sheet, at, 64, 2, inputs, registers, text, p);
+    let end = put_word(b"  end\n", text, a.pos);
+    Printed {
+        next: a.next,
+        pos: end,
+    }
+}
+
+// The thread whose statement stands at `at` and opens with a wait: what follows stands in a block behind the wait.
+fn print_waiting(
+    sheet: &[u8],
+    at: usize,
+    inputs: u8,
+    registers: u8,
+    text: &mut [u8; 65536],
+    pos: usize,
+) -> Printed
+    requires { ⌜ at < length (now sheet) ⌝ }
+    ensures { λ r. ⌜ told r (now (text .exit)) ≡ leaves (filled (now (text .entry)) pos)
+        (waitingAt inputs registers (now (sheet .entry)) at) ⌝ }
+{
+    let p = put_word(b"  always ", text, pos);
+    let w = print_wait(sheet, at + 1, b") begin\n", 0, inputs, registers, text, p);
+    let a = print_stmt(sheet, w.next, 63, 2, inputs, registers, text, w.pos);
+    let end = put_word(b"  end\n", text, a.pos);
+    Printed {
+        next: a.next,
+        pos: end,
+    }
+}
+
 // The thread whose statement stands at `at`.
 fn print_thread(
     sheet: &[u8],
@@ -645,13 +702,10 @@ fn print_thread(
     ensures { λ r. ⌜ told r (now (text .exit)) ≡ leaves (filled (now (text .entry)) pos)
         (threadAt inputs registers (now (sheet .entry)) at) ⌝ }
 {
-    let p = put_word(b"  always begin\n", text, pos);
-    let a = print_stmt(sheet, at, 64, 2, inputs, registers, text, p);
-    let end = put_word(b"  end\n", text, a.pos);
-    Printed {
-        next: a.next,
-        pos: end,
+    if opens(sheet, at) {
+        return print_waiting(sheet, at, inputs, registers, text, pos);
     }
+    print_block(sheet, at, inputs, registers, text, pos)
 }
 
 // `n` threads, the first one's statement at `at`.

@@ -11,9 +11,9 @@ use Rattle.sheet.specs.Expression.{Expr, variable, constant, unknown, unary, bi
 use Rattle.sheet.specs.Statement.{Stmt, empty, assign as assigns, later, sequence, ifThen, ifElse, while, forever, wait}
 use Rattle.sheet.specs.Module.{Module}
 use Rattle.verilog_tokens.specs.Tokens.{Name}
-use Rattle.verilog_grammar.specs.AnnexA.{Binary, plus, minus, equals, less, conjunction, disjunction, exclusive, Statement, Statements, Item, input, reg, wire, one}
+use Rattle.verilog_grammar.specs.AnnexA.{Binary, plus, minus, equals, less, conjunction, disjunction, exclusive, Statement, block, Statements, Item, input, reg, wire, one}
 use Rattle.verilog_grammar.specs.Conditions.{precedence, level, Grouped, GroupedPrimary, isOpen, isOpenOrNull, Settled, SettledOrNull, SettledAll, Every, GroupedNet, SettledPart, SettledParts, Counts}
-use Rattle.verilog_back.specs.Tree.{Each, InExpr, InWidth, InStmt, InWire, InModule, binaryOf, rangeOf, primaryTree, sequenceTree, alone, within, declarationTree, threadTrees, wireTrees, declarationTrees, treeOf}
+use Rattle.verilog_back.specs.Tree.{Each, InExpr, InWidth, InStmt, InWire, InModule, binaryOf, rangeOf, primaryTree, sequenceTree, alone, within, openedTree, threadTree, declarationTree, threadTrees, wireTrees, declarationTrees, treeOf}
 
 below-eight : (o : Binary) → precedence o < 8
 unfolding precedence
@@ -77,10 +77,35 @@ module _ (called : ℕ → List ℕ) where
     within-settled (forever a) d = (within-settled a d, tt)
     within-settled (wait ts) d = (tt, tt)
 
+  opened-settled : (a b : Stmt Expr) (d : InStmt (sequence a b))
+      → Settled (openedTree called a (d .0) (within called b (d .1)) (block (within called (sequence a b) d)))
+  unfolding openedTree Settled SettledOrNull
+  opened-settled empty b d = within-settled (sequence empty b) d
+  opened-settled (assigns t e) b d = within-settled (sequence (assigns t e) b) d
+  opened-settled (later t e) b d = within-settled (sequence (later t e) b) d
+  opened-settled (sequence a c) b d = within-settled (sequence (sequence a c) b) d
+  opened-settled (ifThen e a) b d = within-settled (sequence (ifThen e a) b) d
+  opened-settled (ifElse e a c) b d = within-settled (sequence (ifElse e a c) b) d
+  opened-settled (while e a) b d = within-settled (sequence (while e a) b) d
+  opened-settled (forever a) b d = within-settled (sequence (forever a) b) d
+  opened-settled (wait ts) b d = within-settled b (d .1)
+
+  thread-settled : (a : Stmt Expr) (d : InStmt a) → Settled (threadTree called a d)
+  unfolding threadTree Settled
+  thread-settled empty d = within-settled empty d
+  thread-settled (assigns t e) d = within-settled (assigns t e) d
+  thread-settled (later t e) d = within-settled (later t e) d
+  thread-settled (ifThen e a) d = within-settled (ifThen e a) d
+  thread-settled (ifElse e a b) d = within-settled (ifElse e a b) d
+  thread-settled (while e a) d = within-settled (while e a) d
+  thread-settled (forever a) d = within-settled (forever a) d
+  thread-settled (wait ts) d = within-settled (wait ts) d
+  thread-settled (sequence a b) d = opened-settled a b d
+
   threads-settled : (bs : List (Stmt Expr)) (d : Each InStmt bs) → SettledParts (threadTrees called bs d)
-  unfolding threadTrees SettledParts SettledPart Settled
+  unfolding threadTrees SettledParts SettledPart
   threads-settled [] d = tt
-  threads-settled (a ∷ bs) d = (within-settled a (d .0), threads-settled bs (d .1))
+  threads-settled (a ∷ bs) d = (thread-settled a (d .0), threads-settled bs (d .1))
 
   wires-settled : (v : ℕ) (es : List Expr) (d : Each InWire es) (xs : List Item) → SettledParts xs
       → SettledParts (wireTrees called v es d xs)

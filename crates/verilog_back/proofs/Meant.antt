@@ -14,11 +14,11 @@ use Rattle.sheet.specs.Expression.{Expr, variable, constant, unknown, unary, bi
 use Rattle.sheet.specs.Statement.{Stmt, empty, assign as assigns, later, sequence, ifThen, ifElse, while, forever, wait, Scope}
 use Rattle.encoding.specs.Encoding.{encodeExpr, encodeStmt}
 use Rattle.encoding.specs.WellFormed.{WellTyped, IsTarget, IsAssignment, PairsFit, WellBuilt}
-use Rattle.verilog_grammar.specs.AnnexA.{Statement, Statements, none, more}
+use Rattle.verilog_grammar.specs.AnnexA.{Statement, block, Statements, none, more}
 use Rattle.verilog_grammar.specs.Meaning.{upTo, cut, numberExpr, nested, blockOf, exprOf, primaryOf, termOf, termsOf, controlOf, stmtOf, orNullOf, stmtsOf}
 use Rattle.verilog_source.specs.Written.{writtenStmt}
 use Rattle.verilog_back.specs.Returned.{isWait, returned}
-use Rattle.verilog_back.specs.Tree.{Each, InExpr, InTerm, InStmt, nameAt, primaryTree, termTree, termsTree, sequenceTree, alone, within}
+use Rattle.verilog_back.specs.Tree.{Each, InExpr, InTerm, InStmt, nameAt, primaryTree, termTree, termsTree, sequenceTree, alone, within, openedTree, threadTree}
 use Rattle.verilog_back.proofs.Cases.{unary-number, binary-number}
 
 pub upTo-same : (most n : ℕ) → n ≤ most → upTo most n ≡ n
@@ -146,6 +146,33 @@ module _ (called : ℕ → List ℕ) where
         let u : WellBuilt c (suc k) (wait ts) = rw e at t in
         (u .0 .0, u .0 .1, u .1)
 
+    -- A thread's statement means what its block does.
+    opened-block : (a b : Stmt Expr) (d : InStmt (sequence a b))
+        → stmtOf index (openedTree called a (d .0) (within called b (d .1)) (block (within called (sequence a b) d)))
+        ≡ blockOf (stmtsOf index (within called (sequence a b) d))
+    unfolding openedTree within sequenceTree stmtOf orNullOf stmtsOf blockOf nested
+    opened-block empty b d = refl
+    opened-block (assigns t e) b d = refl
+    opened-block (later t e) b d = refl
+    opened-block (sequence a c) b d = refl
+    opened-block (ifThen e a) b d = refl
+    opened-block (ifElse e a c) b d = refl
+    opened-block (while e a) b d = refl
+    opened-block (forever a) b d = refl
+    opened-block (wait ts) b d = refl
+
+    thread-block : (a : Stmt Expr) (d : InStmt a) → stmtOf index (threadTree called a d) ≡ blockOf (stmtsOf index (within called a d))
+    unfolding threadTree stmtOf
+    thread-block empty d = refl
+    thread-block (assigns t e) d = refl
+    thread-block (later t e) d = refl
+    thread-block (ifThen e a) d = refl
+    thread-block (ifElse e a b) d = refl
+    thread-block (while e a) d = refl
+    thread-block (forever a) d = refl
+    thread-block (wait ts) d = refl
+    thread-block (sequence a b) d = opened-block a b d
+
     module _ (bound : c .inputs + c .registers ≤ length (c .widths)) where
       set-meant : (v : ℕ) (e : Expr) → IsAssignment c v e → (p : ℕ) (d : InExpr e)
           → (index (called v) ≡ v) × (encodeExpr (primaryOf index (primaryTree called e d)) ≡ encodeExpr e)
@@ -198,5 +225,5 @@ module _ (called : ℕ → List ℕ) where
             rw (x, upTo-same 8 (length ts) (t .0 .1)) refl
 
       pub thread-meant : (a : Stmt Expr) → WellBuilt c 64 a → (d : InStmt a)
-          → writtenStmt (blockOf (stmtsOf index (within called a d))) ≡ encodeStmt (returned a)
-      thread-meant a t d = within-meant 64 a t d
+          → writtenStmt (stmtOf index (threadTree called a d)) ≡ encodeStmt (returned a)
+      thread-meant a t d = rw (thread-block a d) (within-meant 64 a t d)

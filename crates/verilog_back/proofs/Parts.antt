@@ -263,7 +263,7 @@ module _ (called : ℕ → List ℕ) where
         (bound : c .inputs + c .registers ≤ length (c .widths)) where
       pub threads-written : (bs : List (Stmt Expr)) → ThreadsFit c bs → (d : Each InStmt bs)
           → writtenThreads (threads (partsOf index (threadTrees called bs d))) ≡ encodeThreads (map returned bs)
-      unfolding ThreadsFit threadTrees partsOf partOf threads writtenThreads encodeThreads stmtOf
+      unfolding ThreadsFit threadTrees partsOf partOf threads writtenThreads encodeThreads
       threads-written [] t d = refl
       threads-written (a ∷ bs) t d = rw (thread-meant called index c right bound a (t .0) (d .0), threads-written bs (t .2) (d .1)) refl
 

@@ -11,7 +11,7 @@ use Rattle.writing.specs.Ascii.{ascii}
 use Rattle.writing.specs.Numbers.{digits, decimal}
 use Rattle.naming.specs.Naming.{plainMark, plainNumber, plainName}
 use Rattle.signs.specs.Signs.{sign}
-use Rattle.verilog.specs.Verilog.{indent, before, edgeText, rangeText, directionText, front, exprText, termText, termsText, sequenceText, stmtText, portText, portsText, wiresText, threadsText, declarationText, declarationsText, moduleText, verilogText}
+use Rattle.verilog.specs.Verilog.{indent, before, edgeText, rangeText, directionText, front, exprText, termText, termsText, sequenceText, stmtText, portText, portsText, wiresText, opening, remainder, openedText, threadText, threadsText, declarationText, declarationsText, moduleText, verilogText}
 use Rattle.verilog_tokens.specs.Tokens.{tokens}
 use Rattle.verilog_grammar.specs.Reader.{readModule}
 use Rattle.verilog_source.specs.Compiled.{unnumbered, partsOf, sheetOf}
@@ -20,7 +20,7 @@ use Rattle.verilog_source.proofs.Samples.{opened}
 -- A module's printed text, with every definition open that makes it and reads it.
 unfoldable printed : Module Expr → List ℕ
 unfolding opened ascii digits decimal plainMark plainNumber plainName sign indent before edgeText rangeText directionText front exprText
-    termText termsText sequenceText stmtText portText portsText wiresText threadsText declarationText declarationsText moduleText
+    termText termsText sequenceText stmtText portText portsText wiresText opening remainder openedText threadText threadsText declarationText declarationsText moduleText
     verilogText
 printed m = verilogText m
 

@@ -17,10 +17,10 @@ use Rattle.sheet.specs.Module.{Module}
 use Rattle.encoding.specs.WellFormed.{WellTyped, IsTarget, IsAssignment, PairsFit, WellBuilt, WiresFit, ThreadsFit, WellFormed}
 use Rattle.verilog_tokens.specs.Tokens.{Token, terminal, name, number, known, unknown as unvalued, Name}
 use Rattle.verilog_tokens.specs.Table.{nameIn, namesIn}
-use Rattle.verilog_grammar.specs.AnnexA.{mark, spellNumber, spell, spellPrimary, spellEvent, spellControl, Statement, Statements, spellCondition, spellStatement, spellOrNull, spellAll}
+use Rattle.verilog_grammar.specs.AnnexA.{mark, spellNumber, spell, spellPrimary, spellEvent, spellControl, Statement, block, Statements, spellCondition, spellStatement, spellOrNull, spellAll}
 use Rattle.verilog_grammar.specs.AnnexA.{one, spellListed, spellName, Range, noRange, downTo, spellRange, spellNet, Item, input, reg, wire, spellDeclared, spellPart, spellParts, yield}
 use Rattle.verilog_source.specs.Names.{isAmong, missing, used}
-use Rattle.verilog_back.specs.Tree.{Each, InExpr, InTerm, InWidth, InStmt, InWire, InPorts, InModule, rangeOf, nameAt, primaryTree, termTree, termsTree, sequenceTree, alone, within, portsTree, declarationTree, threadTrees, wireTrees, declarationTrees, treeOf}
+use Rattle.verilog_back.specs.Tree.{Each, InExpr, InTerm, InWidth, InStmt, InWire, InPorts, InModule, rangeOf, nameAt, primaryTree, termTree, termsTree, sequenceTree, alone, within, openedTree, threadTree, portsTree, declarationTree, threadTrees, wireTrees, declarationTrees, treeOf}
 
 module _ (called : ℕ → List ℕ) (ns : List Name) (c : Scope)
     (found : (p v : ℕ) → v < length (c .widths) → isAmong ns (nameAt called p v) ≡ true) where
@@ -150,10 +150,37 @@ module _ (called : ℕ → List ℕ) (ns : List Name) (c : Scope)
 
     -- ---- the module's parts
 
+    opened-named : (k : ℕ) (a b : Stmt Expr) → WellBuilt c (suc k) (sequence a b) → (d : InStmt (sequence a b))
+        → Whole (openedTree called a (d .0) (within called b (d .1)) (block (within called (sequence a b) d)))
+    unfolding WellBuilt Whole openedTree spellStatement spellControl spellOrNull Parts
+    opened-named k empty b t d rest h = sign (within-named (suc k) (sequence empty b) t d rest h)
+    opened-named k (assigns v e) b t d rest h = sign (within-named (suc k) (sequence (assigns v e) b) t d rest h)
+    opened-named k (later v e) b t d rest h = sign (within-named (suc k) (sequence (later v e) b) t d rest h)
+    opened-named k (sequence a c) b t d rest h = sign (within-named (suc k) (sequence (sequence a c) b) t d rest h)
+    opened-named k (ifThen e a) b t d rest h = sign (within-named (suc k) (sequence (ifThen e a) b) t d rest h)
+    opened-named k (ifElse e a c) b t d rest h = sign (within-named (suc k) (sequence (ifElse e a c) b) t d rest h)
+    opened-named k (while e a) b t d rest h = sign (within-named (suc k) (sequence (while e a) b) t d rest h)
+    opened-named k (forever a) b t d rest h = sign (within-named (suc k) (sequence (forever a) b) t d rest h)
+    opened-named zero (wait ts) b t d rest h = absurd (t .0)
+    opened-named (suc k) (wait ts) b t d rest h =
+        sign (sign (terms-named ts (d .0) _ (t .0 .0 .0) (t .0 .1) (sign (sign (within-named (suc k) b (t .1) (d .1) rest h)))))
+
+    thread-named : (k : ℕ) (a : Stmt Expr) → WellBuilt c (suc k) a → (d : InStmt a) → Whole (threadTree called a d)
+    unfolding Whole threadTree spellStatement Parts
+    thread-named k empty t d rest h = sign (within-named (suc k) empty t d rest h)
+    thread-named k (assigns v e) t d rest h = sign (within-named (suc k) (assigns v e) t d rest h)
+    thread-named k (later v e) t d rest h = sign (within-named (suc k) (later v e) t d rest h)
+    thread-named k (ifThen e a) t d rest h = sign (within-named (suc k) (ifThen e a) t d rest h)
+    thread-named k (ifElse e a b) t d rest h = sign (within-named (suc k) (ifElse e a b) t d rest h)
+    thread-named k (while e a) t d rest h = sign (within-named (suc k) (while e a) t d rest h)
+    thread-named k (forever a) t d rest h = sign (within-named (suc k) (forever a) t d rest h)
+    thread-named k (wait ts) t d rest h = sign (within-named (suc k) (wait ts) t d rest h)
+    thread-named k (sequence a b) t d rest h = opened-named k a b t d rest h
+
     threads-named : (bs : List (Stmt Expr)) → ThreadsFit c bs → (d : Each InStmt bs) → Named (spellParts (threadTrees called bs d) [])
-    unfolding ThreadsFit threadTrees spellParts spellPart spellStatement Parts
+    unfolding ThreadsFit threadTrees spellParts spellPart Whole
     threads-named [] t d = sign end
-    threads-named (a ∷ bs) t d = sign (sign (within-named 64 a (t .0) (d .0) _ (threads-named bs (t .2) (d .1))))
+    threads-named (a ∷ bs) t d = sign (thread-named 63 a (t .0) (d .0) _ (threads-named bs (t .2) (d .1)))
 
     wires-named : (v : ℕ) (es : List Expr) → WiresFit (c .widths) v es → v + length es ≤ length (c .widths) → (d : Each InWire es)
         (xs : List Item) → Named (spellParts xs []) → Named (spellParts (wireTrees called v es d xs) [])

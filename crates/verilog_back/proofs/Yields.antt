@@ -19,13 +19,13 @@ use Rattle.sheet.specs.Module.{Module}
 use Rattle.encoding.specs.WellFormed.{WellTyped, IsAssignment, WellBuilt, AreWidths, WiresFit, ThreadsFit, WellFormed}
 use Rattle.writing.specs.Ascii.{ascii}
 use Rattle.writing.specs.Numbers.{decimal}
-use Rattle.verilog.specs.Verilog.{front}
+use Rattle.verilog.specs.Verilog.{front, opening, remainder}
 use Rattle.verilog_tokens.specs.Tokens.{Token, terminal, name, number}
 use Rattle.verilog_grammar.specs.AnnexA.{mark, unarySign, binarySign, spellNumber, spell, spellPrimary, spellEvent, spellControl}
-use Rattle.verilog_grammar.specs.AnnexA.{Statements, none, more, spellCondition, spellStatement, spellOrNull, spellAll}
+use Rattle.verilog_grammar.specs.AnnexA.{block, Statements, none, more, spellCondition, spellStatement, spellOrNull, spellAll}
 use Rattle.verilog_grammar.specs.AnnexA.{one, spellListed, spellName, noRange, downTo, spellRange, spellNet, Item, input, reg, wire, spellDeclared, spellPart, spellParts, yield}
-use Rattle.verilog_lexed.specs.Lexed.{From, blanks, marks, names, counts, values, unknowns, between, spaced, indented, signTokens, orTokens, commaTokens, edgeTokens, rangeTokens, directionTokens, ended, opened, closed, exprTokens, termTokens, termsTokens, sequenceTokens, stmtTokens, portTokens, portsTokens, wiresTokens, threadsTokens, declarationTokens, declarationsTokens, moduleTokens, nothing}
-use Rattle.verilog_back.specs.Tree.{Each, InExpr, InTerm, InWidth, InStmt, InWire, InPorts, InModule, unaryOf, binaryOf, rangeOf, nameAt, primaryTree, exprTree, termTree, termsTree, sequenceTree, alone, within, portsTree, declarationTree, threadTrees, wireTrees, declarationTrees, treeOf}
+use Rattle.verilog_lexed.specs.Lexed.{From, blanks, marks, names, counts, values, unknowns, between, spaced, indented, signTokens, orTokens, commaTokens, edgeTokens, rangeTokens, directionTokens, ended, opened, closed, exprTokens, termTokens, termsTokens, sequenceTokens, stmtTokens, portTokens, portsTokens, wiresTokens, openedTokens, threadTokens, threadsTokens, declarationTokens, declarationsTokens, moduleTokens, nothing}
+use Rattle.verilog_back.specs.Tree.{Each, InExpr, InTerm, InWidth, InStmt, InWire, InPorts, InModule, unaryOf, binaryOf, rangeOf, nameAt, primaryTree, exprTree, termTree, termsTree, sequenceTree, alone, within, openedTree, threadTree, portsTree, declarationTree, threadTrees, wireTrees, declarationTrees, treeOf}
 use Rattle.verilog_back.proofs.Cases.{one-or-two, three-to-nine}
 
 -- ---- pieces
@@ -468,21 +468,83 @@ module _ (called : ℕ → List ℕ) where
 
   -- ---- threads
 
+  -- In a block.
+  block-yields : (a : Stmt Expr) → Yields a → (rest : From) (p : ℕ)
+      → (d : InStmt a) × (q : ℕ) × (indented 1 (spaced "always" (spaced "begin" (stmtTokens called 2 a (closed 1 rest)))) p
+      ≡ mark "always" ∷ mark "begin" ∷ spellAll (within called a d) (rest q))
+  unfolding indented blanks
+  block-yields a h rest p =
+      let inner = stmtTokens called 2 a (closed 1 rest) in
+      let s = spaced-at "always" (spaced "begin" inner) (p + 2 * 1) in
+      let u = spaced-at "begin" inner (s .0) in
+      let x = in-block a h 2 1 rest (u .0) in (
+        x .0,
+        x .1,
+        s .1 ∙ ap (λ (l : List Token). mark "always" ∷ l) (u .1 ∙ ap (λ (l : List Token). mark "begin" ∷ l) (x .2)),
+      )
+
+  -- Behind the wait that it opens with.
+  waiting-yields : (ts : List EdgeTerm) (b : Stmt Expr) → 1 ≤ length ts → Yields b → (rest : From) (p : ℕ)
+      → (d : Each InTerm ts) × (e : InStmt b) × (q : ℕ)
+      × (indented 1 (spaced "always" (marks "@" (marks "(" (termsTokens called 0 ts (opened (stmtTokens called 2 b (closed 1 rest))))))) p
+      ≡ mark "always" ∷ mark "@" ∷ mark "(" ∷ spellEvent (termsTree called ts d)
+      (mark ")" ∷ mark "begin" ∷ spellAll (within called b e) (rest q)))
+  unfolding indented blanks marks
+  waiting-yields ts b w k rest p =
+      let inner = stmtTokens called 2 b (closed 1 rest) in
+      let s = spaced-at "always" (marks "@" (marks "(" (termsTokens called 0 ts (opened inner)))) (p + 2 * 1) in
+      let t = terms-yields ts w (opened inner) (s .0 + length (ascii "@") + length (ascii "(")) in
+      let o = opened-at inner (t .1) in
+      let x = in-block b k 2 1 rest (o .0) in (
+        t .0,
+        x .0,
+        x .1,
+        s .1 ∙ ap (λ (l : List Token). mark "always" ∷ mark "@" ∷ mark "(" ∷ l)
+            (t .2 ∙ ap (λ (l : List Token). spellEvent (termsTree called ts (t .0)) l)
+            (o .1 ∙ ap (λ (l : List Token). mark ")" ∷ mark "begin" ∷ l) (x .2))),
+      )
+
+  opened-yields : (a b : Stmt Expr) → ((ts : List EdgeTerm) → a ≡ wait ts → 1 ≤ length ts) → Yields (sequence a b) → Yields b
+      → (rest : From) (p : ℕ) → (d : InStmt (sequence a b)) × (q : ℕ)
+      × (openedTokens called (front a) (λ l k. stmtTokens called l (sequence a b) k) (λ l k. stmtTokens called l b k) rest p
+      ≡ mark "always" ∷ spellStatement
+      (openedTree called a (d .0) (within called b (d .1)) (block (within called (sequence a b) d))) (rest q))
+  unfolding openedTokens front openedTree spellStatement spellControl spellOrNull
+  opened-yields empty b w h k rest p = block-yields (sequence empty b) h rest p
+  opened-yields (assigns t e) b w h k rest p = block-yields (sequence (assigns t e) b) h rest p
+  opened-yields (later t e) b w h k rest p = block-yields (sequence (later t e) b) h rest p
+  opened-yields (sequence a c) b w h k rest p = block-yields (sequence (sequence a c) b) h rest p
+  opened-yields (ifThen e a) b w h k rest p = block-yields (sequence (ifThen e a) b) h rest p
+  opened-yields (ifElse e a c) b w h k rest p = block-yields (sequence (ifElse e a c) b) h rest p
+  opened-yields (while e a) b w h k rest p = block-yields (sequence (while e a) b) h rest p
+  opened-yields (forever a) b w h k rest p = block-yields (sequence (forever a) b) h rest p
+  opened-yields (wait ts) b w h k rest p =
+      let x = waiting-yields ts b (w ts refl) k rest p in
+      ((x .0, x .1), x .2, x .3)
+
+  thread-yields : (c : Scope) (k : ℕ) (a : Stmt Expr) → WellBuilt c (suc k) a → (rest : From) (p : ℕ)
+      → (d : InStmt a) × (q : ℕ) × (threadTokens called a rest p ≡ mark "always" ∷ spellStatement (threadTree called a d) (rest q))
+  unfolding WellBuilt threadTokens openedTokens opening remainder threadTree spellStatement
+  thread-yields c k empty t rest p = block-yields empty (stmt-yields c (suc k) empty t) rest p
+  thread-yields c k (assigns v e) t rest p = block-yields (assigns v e) (stmt-yields c (suc k) (assigns v e) t) rest p
+  thread-yields c k (later v e) t rest p = block-yields (later v e) (stmt-yields c (suc k) (later v e) t) rest p
+  thread-yields c k (ifThen e a) t rest p = block-yields (ifThen e a) (stmt-yields c (suc k) (ifThen e a) t) rest p
+  thread-yields c k (ifElse e a b) t rest p = block-yields (ifElse e a b) (stmt-yields c (suc k) (ifElse e a b) t) rest p
+  thread-yields c k (while e a) t rest p = block-yields (while e a) (stmt-yields c (suc k) (while e a) t) rest p
+  thread-yields c k (forever a) t rest p = block-yields (forever a) (stmt-yields c (suc k) (forever a) t) rest p
+  thread-yields c k (wait ts) t rest p = block-yields (wait ts) (stmt-yields c (suc k) (wait ts) t) rest p
+  thread-yields c k (sequence a b) t rest p =
+      opened-yields a b (wait-terms c k a (t .0)) (stmt-yields c (suc k) (sequence a b) t) (stmt-yields c k b (t .1)) rest p
+
   threads-yield : (c : Scope) (bs : List (Stmt Expr)) → ThreadsFit c bs → (p : ℕ)
       → (d : Each InStmt bs) × (threadsTokens called bs (spaced "endmodule" nothing) p ≡ spellParts (threadTrees called bs d) [])
-  unfolding ThreadsFit threadsTokens threadTrees spellParts spellPart spellStatement indented blanks nothing
+  unfolding ThreadsFit threadsTokens threadTrees spellParts spellPart nothing
   threads-yield c [] h p = (tt, spaced-at "endmodule" nothing p .1)
   threads-yield c (a ∷ bs) h p =
       let after = threadsTokens called bs (spaced "endmodule" nothing) in
-      let s = spaced-at "always" (spaced "begin" (stmtTokens called 2 a (closed 1 after))) (p + 2 * 1) in
-      let u = spaced-at "begin" (stmtTokens called 2 a (closed 1 after)) (s .0) in
-      let x = in-block a (stmt-yields c 64 a (h .0)) 2 1 after (u .0) in
-      let y = threads-yield c bs (h .2) (x .1) in (
-        (x .0, y .0),
-        s .1 ∙ ap (λ (l : List Token). mark "always" ∷ l)
-            (u .1 ∙ ap (λ (l : List Token). mark "begin" ∷ l)
-            (x .2 ∙ ap (λ (l : List Token). spellAll (within called a (x .0)) l) (y .1))),
-      )
+      let x = thread-yields c 63 a (h .0) after p in
+      let y = threads-yield c bs (h .2) (x .1) in
+      ((x .0, y .0), x .2 ∙ ap (λ (l : List Token). mark "always" ∷ spellStatement (threadTree called a (x .0)) l) (y .1))
 
   -- ---- the module
 

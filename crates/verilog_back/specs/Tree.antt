@@ -158,6 +158,31 @@ module _ (called : ℕ → List ℕ) where
     within (forever a) d = more (endless (block (within a d))) none
     within (wait ts) d = more (after (among (termsTree ts d)) null) none
 
+  -- ---- a thread's statement: a block, or, where it opens with a wait, that wait with a block behind it
+
+  -- By the first part a of a sequence: ys is what the second part puts into a block, x the block of both.
+  unfoldable pub openedTree : (a : Stmt Expr) → InStmt a → Statements → Statement → Statement
+  openedTree empty d ys x = x
+  openedTree (assigns t e) d ys x = x
+  openedTree (later t e) d ys x = x
+  openedTree (sequence a b) d ys x = x
+  openedTree (ifThen e a) d ys x = x
+  openedTree (ifElse e a b) d ys x = x
+  openedTree (while e a) d ys x = x
+  openedTree (forever a) d ys x = x
+  openedTree (wait ts) d ys x = after (among (termsTree ts d)) (some (block ys))
+
+  unfoldable pub threadTree : (a : Stmt Expr) → InStmt a → Statement
+  threadTree empty d = block (within empty d)
+  threadTree (assigns t e) d = block (within (assigns t e) d)
+  threadTree (later t e) d = block (within (later t e) d)
+  threadTree (sequence a b) d = openedTree a (d .0) (within b (d .1)) (block (within (sequence a b) d))
+  threadTree (ifThen e a) d = block (within (ifThen e a) d)
+  threadTree (ifElse e a b) d = block (within (ifElse e a b) d)
+  threadTree (while e a) d = block (within (while e a) d)
+  threadTree (forever a) d = block (within (forever a) d)
+  threadTree (wait ts) d = block (within (wait ts) d)
+
   -- ---- the module's parts
 
   -- The names of n variables, from v on; a module has an input.
@@ -176,7 +201,7 @@ module _ (called : ℕ → List ℕ) where
   -- The threads, the wires from v on and the variables from v on, in front of other items.
   unfoldable pub threadTrees : (bs : List (Stmt Expr)) → Each InStmt bs → List Item
   threadTrees [] d = []
-  threadTrees (a ∷ bs) d = always (block (within a (d .0))) ∷ threadTrees bs (d .1)
+  threadTrees (a ∷ bs) d = always (threadTree a (d .0)) ∷ threadTrees bs (d .1)
 
   unfoldable pub wireTrees : (v : ℕ) (es : List Expr) → Each InWire es → List Item → List Item
   wireTrees v [] d xs = xs

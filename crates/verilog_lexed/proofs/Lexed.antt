@@ -20,10 +20,10 @@ use Rattle.writing.specs.Ascii.{ascii}
 use Rattle.writing.specs.Numbers.{decimal}
 use Rattle.naming.specs.Naming.{plainName}
 use Rattle.signs.specs.Signs.{sign, constantText, unknownText}
-use Rattle.verilog.specs.Verilog.{indent, before, edgeText, rangeText, directionText, Front, waiting, nesting, single, front, exprText, termText, termsText, sequenceText, stmtText, portText, portsText, wiresText, threadsText, declarationText, declarationsText, moduleText, verilogText}
+use Rattle.verilog.specs.Verilog.{indent, before, edgeText, rangeText, directionText, Front, waiting, nesting, single, front, exprText, termText, termsText, sequenceText, stmtText, portText, portsText, wiresText, opening, remainder, openedText, threadText, threadsText, declarationText, declarationsText, moduleText, verilogText}
 use Rattle.verilog_tokens.specs.declared.Class.the-variants.{Word, Decimal}
 use Rattle.verilog_tokens.specs.Characters.{span}
-use Rattle.verilog_lexed.specs.Lexed.{From, marks, counts, spaced, between, signTokens, orTokens, commaTokens, edgeTokens, rangeTokens, directionTokens, closed, exprTokens, termTokens, termsTokens, sequenceTokens, stmtTokens, portTokens, portsTokens, wiresTokens, threadsTokens, declarationTokens, declarationsTokens, moduleTokens, nothing, tokensOf}
+use Rattle.verilog_lexed.specs.Lexed.{From, marks, counts, spaced, between, signTokens, orTokens, commaTokens, edgeTokens, rangeTokens, directionTokens, closed, exprTokens, termTokens, termsTokens, sequenceTokens, stmtTokens, portTokens, portsTokens, wiresTokens, openedTokens, threadTokens, threadsTokens, declarationTokens, declarationsTokens, moduleTokens, nothing, tokensOf}
 use Rattle.verilog_lexed.specs.Claims.{PrintedTokens, ReadTokens}
 use Rattle.verilog_lexed.proofs.Steps.{Reads, reads-from, reads-none, reads-tokens}
 use Rattle.verilog_lexed.proofs.Pieces.{name-reads, count-reads, value-reads, unknown-reads}
@@ -290,14 +290,38 @@ module _ (i r : ℕ) where
       (expr-reads ws 16 e _ (h .0) (semicolon-ends _) (Words.ended-word (wires-reads ws (v + 1) es (h .1) s k x))))))
       (simp append-assoc)
 
+  opened-reads : (f : Front) (a b : ℕ → List ℕ) (x y : ℕ → From → From) → Prints (a 2) (x 2) → Prints (b 2) (y 2)
+      → Prints (openedText (plainName i r) f a b) (openedTokens (plainName i r) f x y)
+  unfolding openedText openedTokens
+  opened-reads (waiting ts) a b x y f g s k h =
+      reads-from
+      (Words.thread-word (Words.at-word (terms-reads 0 ts (opened-ends _ .word) (Words.opened-word (g _ _ (Words.thread-end h))))))
+      (simp append-assoc)
+  opened-reads nesting a b x y f g s k h = reads-from (Words.always-word (f _ _ (Words.thread-end h))) (simp append-assoc)
+  opened-reads single a b x y f g s k h = reads-from (Words.always-word (f _ _ (Words.thread-end h))) (simp append-assoc)
+
+  remainder-built : (c : Scope) (d : ℕ) (b : Stmt Expr) → WellBuilt c (suc (suc d)) b → WellBuilt c (suc d) (remainder b)
+  unfolding WellBuilt remainder
+  remainder-built c d empty h = tt
+  remainder-built c d (assign t e) h = tt
+  remainder-built c d (later t e) h = tt
+  remainder-built c d (sequence a b) h = h .1
+  remainder-built c d (ifThen e a) h = tt
+  remainder-built c d (ifElse e a b) h = tt
+  remainder-built c d (while e a) h = tt
+  remainder-built c d (forever a) h = tt
+  remainder-built c d (wait ts) h = tt
+
+  thread-reads : (c : Scope) (b : Stmt Expr) → WellBuilt c 64 b → Prints (threadText (plainName i r) b) (threadTokens (plainName i r) b)
+  unfolding threadText threadTokens
+  thread-reads c b h =
+      opened-reads (opening b) _ _ _ _ (stmt-reads c 64 b h 2) (stmt-reads c 63 (remainder b) (remainder-built c 62 b h) 2)
+
   threads-reads : (c : Scope) (bs : List (Stmt Expr)) → ThreadsFit c bs
       → Prints (threadsText (plainName i r) bs) (threadsTokens (plainName i r) bs)
   unfolding ThreadsFit threadsText threadsTokens
   threads-reads c [] h s k x = x
-  threads-reads c (b ∷ bs) h s k x =
-      reads-from
-      (Words.always-word (stmt-reads c 64 b (h .0) 2 _ _ (Words.thread-end (threads-reads c bs (h .2) s k x))))
-      (simp append-assoc)
+  threads-reads c (b ∷ bs) h s k x = reads-from (thread-reads c b (h .0) _ _ (threads-reads c bs (h .2) s k x)) (simp append-assoc)
 
   direction-reads : (v : ℕ) {s : List ℕ} {k : From} → Reads s k → Reads (directionText i r v ++ s) (directionTokens i r v k)
   unfolding directionText directionTokens

@@ -270,6 +270,10 @@ module _ {s : List ℕ} {k : From} (h : Reads s k) where
   unfolding ascii indented
   always-word = reads-blanks 2 (always-reads (begin-line-reads h))
 
+  pub thread-word : Reads (ascii "  always " ++ s) (indented 1 (spaced "always" k))
+  unfolding ascii indented
+  thread-word = reads-blanks 2 (always-reads h)
+
   pub assign-word : Reads (ascii "  assign " ++ s) (indented 1 (spaced "assign" k))
   unfolding ascii indented
   assign-word = reads-blanks 2 (assign-reads h)

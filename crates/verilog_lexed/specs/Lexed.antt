@@ -17,7 +17,7 @@ use Rattle.sheet.specs.Module.{Module}
 use Rattle.writing.specs.Ascii.{ascii}
 use Rattle.writing.specs.Numbers.{decimal}
 use Rattle.naming.specs.Naming.{plainName}
-use Rattle.verilog.specs.Verilog.{Front, waiting, nesting, single, front}
+use Rattle.verilog.specs.Verilog.{Front, waiting, nesting, single, front, opening, remainder}
 use Rattle.verilog_tokens.specs.Tokens.{Token, terminal, name, number, known, unknown as unvalued}
 
 -- The tokens of a text that begins at a place.
@@ -167,10 +167,18 @@ module _ (called : ℕ → List ℕ) where
   wiresTokens v (e ∷ es) rest =
       indented 1 (spaced "assign" (names (called v) (between "=" (exprTokens e (ended (wiresTokens (v + 1) es rest))))))
 
+  unfoldable pub openedTokens : Front → (ℕ → From → From) → (ℕ → From → From) → From → From
+  openedTokens (waiting ts) whole second rest =
+      indented 1 (spaced "always" (marks "@" (marks "(" (termsTokens 0 ts (opened (second 2 (closed 1 rest)))))))
+  openedTokens nesting whole second rest = indented 1 (spaced "always" (spaced "begin" (whole 2 (closed 1 rest))))
+  openedTokens single whole second rest = indented 1 (spaced "always" (spaced "begin" (whole 2 (closed 1 rest))))
+
+  unfoldable pub threadTokens : Stmt Expr → From → From
+  threadTokens a rest = openedTokens (opening a) (λ l k. stmtTokens l a k) (λ l k. stmtTokens l (remainder a) k) rest
+
   unfoldable pub threadsTokens : List (Stmt Expr) → From → From
   threadsTokens [] rest = rest
-  threadsTokens (a ∷ bs) rest =
-      indented 1 (spaced "always" (spaced "begin" (stmtTokens 2 a (closed 1 (threadsTokens bs rest)))))
+  threadsTokens (a ∷ bs) rest = threadTokens a (threadsTokens bs rest)
 
   unfoldable pub declarationTokens : ℕ → ℕ → ℕ → ℕ → From → From
   declarationTokens i r v w rest = indented 1 (directionTokens i r v (rangeTokens w (names (called v) (ended rest))))

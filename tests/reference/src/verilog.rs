@@ -106,11 +106,19 @@ impl<'a> Printer<'a> {
             writeln!(self.text, "  assign {} = {};", self.name(v), self.infix(wire))?;
         }
         for thread in &module.threads {
-            writeln!(self.text, "  always begin")?;
-            self.stmt(thread, 2)?;
-            writeln!(self.text, "  end")?;
+            self.thread(thread)?;
         }
         writeln!(self.text, "endmodule")
+    }
+
+    /// A thread's statement in a block, or in one behind the wait that it opens with.
+    fn thread(&mut self, thread: &'a Stmt) -> fmt::Result {
+        if let Stmt::Sequence(first, second) = thread
+            && let Stmt::Wait(terms) = first.as_ref()
+        {
+            return self.block(format!("always @({})", self.terms(terms)), second, 1);
+        }
+        self.block("always".into(), thread, 1)
     }
 
     fn line(&mut self, depth: usize, line: impl Display) -> fmt::Result {

@@ -173,10 +173,8 @@ module walbryts (i0, i1);
   input i0;
   input [7:0] i1;
   reg [7:0] r0;
-  always begin
-    @(posedge i0) begin
-      r0 <= i1;
-    end
+  always @(posedge i0) begin
+    r0 <= i1;
   end
 endmodule
 ";
