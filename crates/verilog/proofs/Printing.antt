@@ -16,7 +16,6 @@ use Rattle.writing.specs.Ascii.{ascii}
 use Rattle.writing.specs.Numbers.{decimal}
 use Rattle.writing.specs.Buffer.{Text, puts}
 use Rattle.writing.proofs.Buffer.{both, puts-nil, puts-append}
-use Rattle.naming.specs.Naming.{plainName}
 use Rattle.signs.specs.Signs.{operands, lead, constantText, unknownText}
 use Rattle.verilog.specs.Verilog.{_&_, indent, before, edgeText, rangeText, directionText, portText, portsText, declarationText}
 use Rattle.verilog.specs.Printing.{Shown, shown, behind, Left, left, leaves, operandsAt, wordAt, shapeOf, bodiesOf, flat, innerLevel, endAt, closingAt, bodiesAt, nodeAt, shownAt, termAt, termsAt, assignAt, conditionAt, waitAt, headingAt, formAt, stmtAt, declarationsAt, wireAt, wiresAt, blockAt, waitingAt, opensAt, threadAt, threadsAt, moduleAt}
@@ -234,108 +233,108 @@ opens-shape s p m h e = rw (lt-ltb p (length s) h, ← e) refl
 
 -- ---- the parts of a sheet
 
-module _ (i r : ℕ) (s : List ℕ) where
+module _ (name : ℕ → List ℕ) (s : List ℕ) where
   -- ---- nodeAt
 
   module _ (operand : ℕ → Shown) (p m b : ℕ) where
-    pub node-variable : m ≡ 0x02 → nodeAt i r s operand p m b ≡ shown (p + 2) (plainName i r b)
+    pub node-variable : m ≡ 0x02 → nodeAt name s operand p m b ≡ shown (p + 2) (name b)
     unfolding nodeAt
     node-variable e = rw e
 
-    pub node-constant : m ≡ 0x0C → nodeAt i r s operand p m b ≡ shown (p + 6) (constantText b (wordOf s (p + 2)))
+    pub node-constant : m ≡ 0x0C → nodeAt name s operand p m b ≡ shown (p + 6) (constantText b (wordOf s (p + 2)))
     unfolding nodeAt
     node-constant e = rw e
 
-    pub node-unknown : m ≡ 0x04 → nodeAt i r s operand p m b ≡ shown (p + 2) (unknownText b)
+    pub node-unknown : m ≡ 0x04 → nodeAt name s operand p m b ≡ shown (p + 2) (unknownText b)
     unfolding nodeAt
     node-unknown e = rw e
 
     pub node-operator : (m ≡ 0x02 → ⊥) → (m ≡ 0x0C → ⊥) → (m ≡ 0x04 → ⊥)
-        → nodeAt i r s operand p m b ≡ behind (ascii "(") (operandsAt operand b (operands b) (p + 2))
+        → nodeAt name s operand p m b ≡ behind (ascii "(") (operandsAt operand b (operands b) (p + 2))
     unfolding nodeAt
     node-operator x y z = simp (ne-eqb m 0x02 x, ne-eqb m 0x0C y, ne-eqb m 0x04 z)
 
   -- ---- shownAt
 
-  pub shown-deep : (d p : ℕ) → d ≡ 0 → shownAt i r s d p ≡ shown p []
+  pub shown-deep : (d p : ℕ) → d ≡ 0 → shownAt name s d p ≡ shown p []
   unfolding shownAt
   shown-deep d p e = rw e
 
-  pub shown-end : (d p : ℕ) → length s ≤ p → shownAt i r s d p ≡ shown p []
+  pub shown-end : (d p : ℕ) → length s ≤ p → shownAt name s d p ≡ shown p []
   unfolding shownAt
   shown-end zero p h = refl
   shown-end (suc d) p h = simp (le-ltb p (length s) h)
 
   pub shown-suc : (d p m b : ℕ) → p < length s → m ≡ getD s p 0 → b ≡ getD s (p + 1) 0
-      → shownAt i r s (suc d) p ≡ nodeAt i r s (shownAt i r s d) p m b
+      → shownAt name s (suc d) p ≡ nodeAt name s (shownAt name s d) p m b
   unfolding shownAt
   shown-suc d p m b h e f = rw (e, f) (simp (lt-ltb p (length s) h))
 
   pub shown-node : (d p m b : ℕ) → (d ≡ 0 → ⊥) → p < length s → m ≡ getD s p 0 → b ≡ getD s (p + 1) 0
-      → shownAt i r s d p ≡ nodeAt i r s (shownAt i r s (d - 1)) p m b
+      → shownAt name s d p ≡ nodeAt name s (shownAt name s (d - 1)) p m b
   shown-node zero p m b z h e f = absurd (z refl)
   shown-node (suc d) p m b z h e f = rw sub-one (shown-suc d p m b h e f)
 
   -- ---- termsAt
 
-  pub terms-turn : (n k p : ℕ) (t u : Text) → k < n → u ≡ puts t (termAt i r s k p)
-      → puts u (termsAt i r s (n - (k + 1)) (k + 1) (p + 2)) ≡ puts t (termsAt i r s (n - k) k p)
+  pub terms-turn : (n k p : ℕ) (t u : Text) → k < n → u ≡ puts t (termAt name s k p)
+      → puts u (termsAt name s (n - (k + 1)) (k + 1) (p + 2)) ≡ puts t (termsAt name s (n - k) k p)
   unfolding termsAt
   terms-turn n k p t u h e = let x : n - k ≡ suc (n - (k + 1)) = omega arith in rw (x, puts-append, e) refl
 
-  pub terms-end : (n k p : ℕ) → n ≤ k → termsAt i r s (n - k) k p ≡ []
+  pub terms-end : (n k p : ℕ) → n ≤ k → termsAt name s (n - k) k p ≡ []
   unfolding termsAt
   terms-end n k p h = let x : n - k ≡ 0 = omega arith in rw x refl
 
   -- ---- headingAt
 
   module _ (n p m : ℕ) where
-    pub heading-empty : m ≡ 0x00 → headingAt i r s n p m ≡ wordAt (ascii "begin end\n") n p
+    pub heading-empty : m ≡ 0x00 → headingAt name s n p m ≡ wordAt (ascii "begin end\n") n p
     unfolding headingAt
     heading-empty e = rw e
 
-    pub heading-assign : m ≡ 0x03 → headingAt i r s n p m ≡ assignAt i r s (ascii " = ") n p
+    pub heading-assign : m ≡ 0x03 → headingAt name s n p m ≡ assignAt name s (ascii " = ") n p
     unfolding headingAt
     heading-assign e = rw e
 
-    pub heading-later : m ≡ 0x23 → headingAt i r s n p m ≡ assignAt i r s (ascii " <= ") n p
+    pub heading-later : m ≡ 0x23 → headingAt name s n p m ≡ assignAt name s (ascii " <= ") n p
     unfolding headingAt
     heading-later e = rw e
 
-    pub heading-sequence : m ≡ 0x0C → headingAt i r s n p m ≡ shown (p + 1) []
+    pub heading-sequence : m ≡ 0x0C → headingAt name s n p m ≡ shown (p + 1) []
     unfolding headingAt
     heading-sequence e = rw e
 
-    pub heading-opening : m ≡ 0x1C → headingAt i r s n p m ≡ waitAt i r s (ascii ") begin\n") n (p + 1)
+    pub heading-opening : m ≡ 0x1C → headingAt name s n p m ≡ waitAt name s (ascii ") begin\n") n (p + 1)
     unfolding headingAt
     heading-opening e = rw e
 
-    pub heading-nesting : m ≡ 0x2C → headingAt i r s n p m ≡ wordAt (ascii "begin\n") n p
+    pub heading-nesting : m ≡ 0x2C → headingAt name s n p m ≡ wordAt (ascii "begin\n") n p
     unfolding headingAt
     heading-nesting e = rw e
 
-    pub heading-if : m ≡ 0x06 → headingAt i r s n p m ≡ conditionAt i r s (ascii "if (") n p
+    pub heading-if : m ≡ 0x06 → headingAt name s n p m ≡ conditionAt name s (ascii "if (") n p
     unfolding headingAt
     heading-if e = rw e
 
-    pub heading-if-else : m ≡ 0x0E → headingAt i r s n p m ≡ conditionAt i r s (ascii "if (") n p
+    pub heading-if-else : m ≡ 0x0E → headingAt name s n p m ≡ conditionAt name s (ascii "if (") n p
     unfolding headingAt
     heading-if-else e = rw e
 
-    pub heading-while : m ≡ 0x46 → headingAt i r s n p m ≡ conditionAt i r s (ascii "while (") n p
+    pub heading-while : m ≡ 0x46 → headingAt name s n p m ≡ conditionAt name s (ascii "while (") n p
     unfolding headingAt
     heading-while e = rw e
 
-    pub heading-forever : m ≡ 0x44 → headingAt i r s n p m ≡ wordAt (ascii "forever begin\n") n p
+    pub heading-forever : m ≡ 0x44 → headingAt name s n p m ≡ wordAt (ascii "forever begin\n") n p
     unfolding headingAt
     heading-forever e = rw e
 
-    pub heading-wait : m ≡ 0x10 → headingAt i r s n p m ≡ waitAt i r s (ascii ");\n") n p
+    pub heading-wait : m ≡ 0x10 → headingAt name s n p m ≡ waitAt name s (ascii ");\n") n p
     unfolding headingAt
     heading-wait e = rw e
 
     pub heading-other : (m ≡ 0x00 → ⊥) → (m ≡ 0x03 → ⊥) → (m ≡ 0x23 → ⊥) → (m ≡ 0x0C → ⊥) → (m ≡ 0x1C → ⊥) → (m ≡ 0x2C → ⊥)
-        → (m ≡ 0x06 → ⊥) → (m ≡ 0x0E → ⊥) → (m ≡ 0x46 → ⊥) → (m ≡ 0x44 → ⊥) → (m ≡ 0x10 → ⊥) → headingAt i r s n p m ≡ shown p []
+        → (m ≡ 0x06 → ⊥) → (m ≡ 0x0E → ⊥) → (m ≡ 0x46 → ⊥) → (m ≡ 0x44 → ⊥) → (m ≡ 0x10 → ⊥) → headingAt name s n p m ≡ shown p []
     unfolding headingAt
     heading-other a b c d x y e f g h j =
         simp (
@@ -356,19 +355,19 @@ module _ (i r : ℕ) (s : List ℕ) where
 
   module _ (n p : ℕ) (t : Text) where
     pub assign-path : (sign : List ℕ) {v w : ℕ} {a b c e : Text} {l : Left} → v ≡ getD s (p + 1) 0 → w ≡ v → a ≡ puts t (indent n)
-        → b ≡ puts a (plainName i r w) → c ≡ puts b sign → l ≡ leaves c (shownAt i r s 16 (p + 2)) → e ≡ puts (l .text)
+        → b ≡ puts a (name w) → c ≡ puts b sign → l ≡ leaves c (shownAt name s 16 (p + 2)) → e ≡ puts (l .text)
         (ascii ";\n")
-        → left (l .next) e ≡ leaves t (assignAt i r s sign n p)
+        → left (l .next) e ≡ leaves t (assignAt name s sign n p)
     unfolding assignAt
     assign-path sign {c = c} {l = l} ev ew ea eb ec el ee =
-        let name = ap (plainName i r) (ew ∙ ev) in
+        let called = ap name (ew ∙ ev) in
         leaves-text t _ _ _ (leaves-next c l _ el)
-        (both _ _ _ _ _ ea (both _ _ _ _ _ (eb ∙ ap (puts _) name)
+        (both _ _ _ _ _ ea (both _ _ _ _ _ (eb ∙ ap (puts _) called)
         (both _ _ _ _ _ ec (both _ _ _ _ _ (leaves-puts c l _ el) ee))))
 
     pub condition-path : (word : List ℕ) {a c e : Text} {l : Left} → a ≡ puts t (indent n) → c ≡ puts a word
-        → l ≡ leaves c (shownAt i r s 16 (p + 1)) → e ≡ puts (l .text) (ascii ") begin\n")
-        → left (l .next) e ≡ leaves t (conditionAt i r s word n p)
+        → l ≡ leaves c (shownAt name s 16 (p + 1)) → e ≡ puts (l .text) (ascii ") begin\n")
+        → left (l .next) e ≡ leaves t (conditionAt name s word n p)
     unfolding conditionAt
     condition-path word {c = c} {l = l} ea ec el ee =
         leaves-text t _ _ _ (leaves-next c l _ el)
@@ -376,151 +375,151 @@ module _ (i r : ℕ) (s : List ℕ) where
 
     pub wait-path : (word : List ℕ) {k w : ℕ} {a b c e : Text} → k ≡ getD s (p + 1) 0 → w ≡ k → a ≡ puts t (indent n)
         → b ≡ puts a (ascii "@(")
-        → c ≡ puts b (termsAt i r s k 0 (p + 2)) → e ≡ puts c word → left (p + 2 + 2 * w) e ≡ leaves t
-        (waitAt i r s word n p)
+        → c ≡ puts b (termsAt name s k 0 (p + 2)) → e ≡ puts c word → left (p + 2 + 2 * w) e ≡ leaves t
+        (waitAt name s word n p)
     unfolding waitAt
     wait-path word {b = b} ek ew ea eb ec ee =
         leaves-text t _ _ _ (ap (λ (x : ℕ). p + 2 + 2 * x) (ew ∙ ek))
-        (both _ _ _ _ _ ea (both _ _ _ _ _ eb (both _ _ _ _ _ (ec ∙ ap (λ (x : ℕ). puts b (termsAt i r s x 0 (p + 2))) ek) ee)))
+        (both _ _ _ _ _ ea (both _ _ _ _ _ eb (both _ _ _ _ _ (ec ∙ ap (λ (x : ℕ). puts b (termsAt name s x 0 (p + 2))) ek) ee)))
 
   -- ---- stmtAt
 
-  pub stmt-deep : (d n p : ℕ) → d ≡ 0 → stmtAt i r s d n p ≡ shown p []
+  pub stmt-deep : (d n p : ℕ) → d ≡ 0 → stmtAt name s d n p ≡ shown p []
   unfolding stmtAt
   stmt-deep d n p e = rw e
 
-  pub stmt-end : (d n p : ℕ) → length s ≤ p → stmtAt i r s d n p ≡ shown p []
+  pub stmt-end : (d n p : ℕ) → length s ≤ p → stmtAt name s d n p ≡ shown p []
   unfolding stmtAt
   stmt-end zero n p h = refl
   stmt-end (suc d) n p h = simp (le-ltb p (length s) h)
 
   pub stmt-suc : (d n p m : ℕ) → p < length s → m ≡ shapeOf (getD s p 0) (getD s (p + 1) 0)
-      → stmtAt i r s (suc d) n p ≡ formAt i r s (stmtAt i r s d) n p m
+      → stmtAt name s (suc d) n p ≡ formAt name s (stmtAt name s d) n p m
   unfolding stmtAt
   stmt-suc d n p m h e = rw e (simp (lt-ltb p (length s) h))
 
   -- A statement that is no sequence.
   pub stmt-map : (d n p m : ℕ) → p < length s → m ≡ getD s p 0 → (m ≡ 0x0C → ⊥)
-      → stmtAt i r s (suc d) n p ≡ formAt i r s (stmtAt i r s d) n p m
+      → stmtAt name s (suc d) n p ≡ formAt name s (stmtAt name s d) n p m
   stmt-map d n p m h e k =
       stmt-suc d n p m h (shape-map m (getD s (p + 1) 0) k ∙ ap (λ (x : ℕ). shapeOf x (getD s (p + 1) 0)) e)
 
   pub stmt-form : (d n p m : ℕ) → (d ≡ 0 → ⊥) → p < length s → m ≡ shapeOf (getD s p 0) (getD s (p + 1) 0)
-      → stmtAt i r s d n p ≡ formAt i r s (stmtAt i r s (d - 1)) n p m
+      → stmtAt name s d n p ≡ formAt name s (stmtAt name s (d - 1)) n p m
   stmt-form zero n p m z h e = absurd (z refl)
   stmt-form (suc d) n p m z h e = rw sub-one (stmt-suc d n p m h e)
 
   -- Heading and bodies printed one after the other.
   pub form-path : (d n p m k : ℕ) (t : Text) {h l : Left} → (d ≡ 0 → ⊥) → p < length s
       → m ≡ shapeOf (getD s p 0) (getD s (p + 1) 0) → k ≡ bodiesOf m
-      → h ≡ leaves t (headingAt i r s n p m) → l ≡ leaves (h .text) (bodiesAt (stmtAt i r s (d - 1)) m n k (h .next))
-      → l ≡ leaves t (stmtAt i r s d n p)
+      → h ≡ leaves t (headingAt name s n p m) → l ≡ leaves (h .text) (bodiesAt (stmtAt name s (d - 1)) m n k (h .next))
+      → l ≡ leaves t (stmtAt name s d n p)
   unfolding formAt
   form-path d n p m k t {h} {l} z b e f x y =
-      let q = headingAt i r s n p m in
+      let q = headingAt name s n p m in
       leaves-behind t (h .text) (q .text) l _ (stmt-form d n p m z b e) (leaves-puts t h q x)
-      (y ∙ ap (λ (c : ℕ). leaves (h .text) (bodiesAt (stmtAt i r s (d - 1)) m n c (h .next))) f
-      ∙ ap (λ (c : ℕ). leaves (h .text) (bodiesAt (stmtAt i r s (d - 1)) m n (bodiesOf m) c)) (leaves-next t h q x))
+      (y ∙ ap (λ (c : ℕ). leaves (h .text) (bodiesAt (stmtAt name s (d - 1)) m n c (h .next))) f
+      ∙ ap (λ (c : ℕ). leaves (h .text) (bodiesAt (stmtAt name s (d - 1)) m n (bodiesOf m) c)) (leaves-next t h q x))
 
   -- ---- the module's parts
 
-  pub declarations-turn : (n v w : ℕ) (t u : Text) → v < n → w ≡ getD s (4 + v) 0
-      → u ≡ puts t (declarationText (plainName i r) i r v w)
-      → puts u (declarationsAt i r s (n - (v + 1)) (v + 1)) ≡ puts t (declarationsAt i r s (n - v) v)
+  pub declarations-turn : (i r n v w : ℕ) (t u : Text) → v < n → w ≡ getD s (4 + v) 0
+      → u ≡ puts t (declarationText name i r v w)
+      → puts u (declarationsAt name s i r (n - (v + 1)) (v + 1)) ≡ puts t (declarationsAt name s i r (n - v) v)
   unfolding declarationsAt
-  declarations-turn n v w t u h f e = let x : n - v ≡ suc (n - (v + 1)) = omega arith in rw (x, puts-append, e, f) refl
+  declarations-turn i r n v w t u h f e = let x : n - v ≡ suc (n - (v + 1)) = omega arith in rw (x, puts-append, e, f) refl
 
-  pub declarations-end : (n v : ℕ) → n ≤ v → declarationsAt i r s (n - v) v ≡ []
+  pub declarations-end : (i r n v : ℕ) → n ≤ v → declarationsAt name s i r (n - v) v ≡ []
   unfolding declarationsAt
-  declarations-end n v h = let x : n - v ≡ 0 = omega arith in rw x refl
+  declarations-end i r n v h = let x : n - v ≡ 0 = omega arith in rw x refl
 
-  pub wires-turn : (n k v p : ℕ) (t : Text) {w : Left} → k < n → w ≡ leaves t (wireAt i r s (v + k) p)
-      → leaves (w .text) (wiresAt i r s (n - (k + 1)) (v + (k + 1)) (w .next)) ≡ leaves t (wiresAt i r s (n - k) (v + k) p)
+  pub wires-turn : (n k v p : ℕ) (t : Text) {w : Left} → k < n → w ≡ leaves t (wireAt name s (v + k) p)
+      → leaves (w .text) (wiresAt name s (n - (k + 1)) (v + (k + 1)) (w .next)) ≡ leaves t (wiresAt name s (n - k) (v + k) p)
   unfolding wiresAt
   wires-turn n k v p t {w} h e =
       let x : n - k ≡ suc (n - (k + 1)) = omega arith in
       let y : v + (k + 1) ≡ v + k + 1 = omega arith in
-      let q = wireAt i r s (v + k) p in
-      leaves-behind t (w .text) (q .text) _ (wiresAt i r s (n - (k + 1)) (v + k + 1) (q .next)) (rw x refl) (leaves-puts t w q e)
+      let q = wireAt name s (v + k) p in
+      leaves-behind t (w .text) (q .text) _ (wiresAt name s (n - (k + 1)) (v + k + 1) (q .next)) (rw x refl) (leaves-puts t w q e)
       (rw (y, leaves-next t w q e) refl)
 
-  pub wires-start : (n v p : ℕ) (t : Text) → leaves t (wiresAt i r s (n - 0) (v + 0) p) ≡ leaves t (wiresAt i r s n v p)
+  pub wires-start : (n v p : ℕ) (t : Text) → leaves t (wiresAt name s (n - 0) (v + 0) p) ≡ leaves t (wiresAt name s n v p)
   wires-start n v p t =
       let x : n - 0 ≡ n = omega arith in
       let y : v + 0 ≡ v = omega arith in
-      λ j. leaves t (wiresAt i r s (x j) (y j) p)
+      λ j. leaves t (wiresAt name s (x j) (y j) p)
 
-  pub wires-end : (n k v p : ℕ) (t : Text) → n ≤ k → left p t ≡ leaves t (wiresAt i r s (n - k) v p)
+  pub wires-end : (n k v p : ℕ) (t : Text) → n ≤ k → left p t ≡ leaves t (wiresAt name s (n - k) v p)
   unfolding wiresAt
   wires-end n k v p t h = let x : n - k ≡ 0 = omega arith in leaves-none t p (rw x refl)
 
-  pub threads-turn : (n k p : ℕ) (t : Text) {w : Left} → k < n → w ≡ leaves t (threadAt i r s p)
-      → leaves (w .text) (threadsAt i r s (n - (k + 1)) (w .next)) ≡ leaves t (threadsAt i r s (n - k) p)
+  pub threads-turn : (n k p : ℕ) (t : Text) {w : Left} → k < n → w ≡ leaves t (threadAt name s p)
+      → leaves (w .text) (threadsAt name s (n - (k + 1)) (w .next)) ≡ leaves t (threadsAt name s (n - k) p)
   unfolding threadsAt
   threads-turn n k p t {w} h e =
       let x : n - k ≡ suc (n - (k + 1)) = omega arith in
-      let q = threadAt i r s p in
-      leaves-behind t (w .text) (q .text) _ (threadsAt i r s (n - (k + 1)) (q .next)) (rw x refl) (leaves-puts t w q e)
+      let q = threadAt name s p in
+      leaves-behind t (w .text) (q .text) _ (threadsAt name s (n - (k + 1)) (q .next)) (rw x refl) (leaves-puts t w q e)
       (rw (leaves-next t w q e) refl)
 
-  pub threads-start : (n p : ℕ) (t : Text) → leaves t (threadsAt i r s (n - 0) p) ≡ leaves t (threadsAt i r s n p)
-  threads-start n p t = let x : n - 0 ≡ n = omega arith in λ j. leaves t (threadsAt i r s (x j) p)
+  pub threads-start : (n p : ℕ) (t : Text) → leaves t (threadsAt name s (n - 0) p) ≡ leaves t (threadsAt name s n p)
+  threads-start n p t = let x : n - 0 ≡ n = omega arith in λ j. leaves t (threadsAt name s (x j) p)
 
-  pub threads-end : (n k p : ℕ) (t : Text) → n ≤ k → left p t ≡ leaves t (threadsAt i r s (n - k) p)
+  pub threads-end : (n k p : ℕ) (t : Text) → n ≤ k → left p t ≡ leaves t (threadsAt name s (n - k) p)
   unfolding threadsAt
   threads-end n k p t h = let x : n - k ≡ 0 = omega arith in leaves-none t p (rw x refl)
 
-  pub wire-path : (v p : ℕ) (t : Text) {a b c e : Text} {l : Left} → a ≡ puts t (ascii "  assign ") → b ≡ puts a (plainName i r v)
-      → c ≡ puts b (ascii " = ") → l ≡ leaves c (shownAt i r s 16 p) → e ≡ puts (l .text) (ascii ";\n")
-      → left (l .next) e ≡ leaves t (wireAt i r s v p)
+  pub wire-path : (v p : ℕ) (t : Text) {a b c e : Text} {l : Left} → a ≡ puts t (ascii "  assign ") → b ≡ puts a (name v)
+      → c ≡ puts b (ascii " = ") → l ≡ leaves c (shownAt name s 16 p) → e ≡ puts (l .text) (ascii ";\n")
+      → left (l .next) e ≡ leaves t (wireAt name s v p)
   unfolding wireAt
   wire-path v p t {c = c} {l = l} ea eb ec el ee =
       leaves-text t _ _ _ (leaves-next c l _ el)
       (both _ _ _ _ _ ea (both _ _ _ _ _ eb (both _ _ _ _ _ ec (both _ _ _ _ _ (leaves-puts c l _ el) ee))))
 
   pub block-path : (p : ℕ) (t : Text) {a e : Text} {l : Left} → a ≡ puts t (ascii "  always begin\n")
-      → l ≡ leaves a (stmtAt i r s 64 2 p)
-      → e ≡ puts (l .text) (ascii "  end\n") → left (l .next) e ≡ leaves t (blockAt i r s p)
+      → l ≡ leaves a (stmtAt name s 64 2 p)
+      → e ≡ puts (l .text) (ascii "  end\n") → left (l .next) e ≡ leaves t (blockAt name s p)
   unfolding blockAt
   block-path p t {a = a} {l = l} ea el ee =
       leaves-text t _ _ _ (leaves-next a l _ el) (both _ _ _ _ _ ea (both _ _ _ _ _ (leaves-puts a l _ el) ee))
 
   pub waiting-path : (p : ℕ) (t : Text) {a e : Text} {w l : Left} → a ≡ puts t (ascii "  always ")
-      → w ≡ leaves a (waitAt i r s (ascii ") begin\n") 0 (p + 1))
-      → l ≡ leaves (w .text) (stmtAt i r s 63 2 (w .next))
-      → e ≡ puts (l .text) (ascii "  end\n") → left (l .next) e ≡ leaves t (waitingAt i r s p)
+      → w ≡ leaves a (waitAt name s (ascii ") begin\n") 0 (p + 1))
+      → l ≡ leaves (w .text) (stmtAt name s 63 2 (w .next))
+      → e ≡ puts (l .text) (ascii "  end\n") → left (l .next) e ≡ leaves t (waitingAt name s p)
   unfolding waitingAt
   waiting-path p t {a = a} {w = w} {l = l} ea ew el ee =
-      let q = waitAt i r s (ascii ") begin\n") 0 (p + 1) in
-      let x : l ≡ leaves (w .text) (stmtAt i r s 63 2 (q .next)) = el ∙ ap
-      (λ (n : ℕ). leaves (w .text) (stmtAt i r s 63 2 n)) (leaves-next a w q ew) in
+      let q = waitAt name s (ascii ") begin\n") 0 (p + 1) in
+      let x : l ≡ leaves (w .text) (stmtAt name s 63 2 (q .next)) = el ∙ ap
+      (λ (n : ℕ). leaves (w .text) (stmtAt name s 63 2 n)) (leaves-next a w q ew) in
       leaves-text t _ _ _ (leaves-next (w .text) l _ x)
       (both _ _ _ _ _ ea (both _ _ _ _ _ (leaves-puts a w q ew) (both _ _ _ _ _ (leaves-puts (w .text) l _ x) ee)))
 
-  pub thread-waiting : (p : ℕ) → opensAt s p ≡ true → threadAt i r s p ≡ waitingAt i r s p
+  pub thread-waiting : (p : ℕ) → opensAt s p ≡ true → threadAt name s p ≡ waitingAt name s p
   unfolding threadAt
   thread-waiting p h = rw h refl
 
-  pub thread-block : (p : ℕ) → opensAt s p ≡ false → threadAt i r s p ≡ blockAt i r s p
+  pub thread-block : (p : ℕ) → opensAt s p ≡ false → threadAt name s p ≡ blockAt name s p
   unfolding threadAt
   thread-block p h = rw h refl
 
   -- The module's parts printed one after the other.
-  pub module-path : (w t f n x v : ℕ) (a : Text) {b c d e z : Text} {k l : Left} → f ≡ i + r → n ≡ i + r + w → x ≡ w → v ≡ i
-      → b ≡ puts a (ascii "module walbryts (") → c ≡ puts b (portsText (plainName i r) v 0) → d ≡ puts c (ascii ");\n")
-      → e ≡ puts d (declarationsAt i r s n 0) → k ≡ leaves e (wiresAt i r s x f (4 + n)) → l ≡ leaves (k .text)
-      (threadsAt i r s t (k .next))
-      → z ≡ puts (l .text) (ascii "endmodule\n") → z ≡ puts a (moduleAt i r s w t)
+  pub module-path : (i r w t f n x v : ℕ) (a : Text) {b c d e z : Text} {k l : Left} → f ≡ i + r → n ≡ i + r + w → x ≡ w → v ≡ i
+      → b ≡ puts a (ascii "module walbryts (") → c ≡ puts b (portsText name v 0) → d ≡ puts c (ascii ");\n")
+      → e ≡ puts d (declarationsAt name s i r n 0) → k ≡ leaves e (wiresAt name s x f (4 + n)) → l ≡ leaves (k .text)
+      (threadsAt name s t (k .next))
+      → z ≡ puts (l .text) (ascii "endmodule\n") → z ≡ puts a (moduleAt name s i r w t)
   unfolding moduleAt
-  module-path w t f n x v a {b = b} {d = d} {e = e} {k = k} {l = l} ef en ex ev eb ec ed ee ek el ez =
-      let q = wiresAt i r s w (i + r) (4 + (i + r + w)) in
-      let wires : k ≡ leaves e q = ek ∙ (λ j. leaves e (wiresAt i r s (ex j) (ef j) (4 + en j))) in
-      let rest : l .text ≡ puts (k .text) (threadsAt i r s t (q .next) .text) = leaves-puts (k .text) l _ el ∙ ap
-      (λ (p : ℕ). puts (k .text) (threadsAt i r s t p .text)) (leaves-next e k q wires) in
+  module-path i r w t f n x v a {b = b} {d = d} {e = e} {k = k} {l = l} ef en ex ev eb ec ed ee ek el ez =
+      let q = wiresAt name s w (i + r) (4 + (i + r + w)) in
+      let wires : k ≡ leaves e q = ek ∙ (λ j. leaves e (wiresAt name s (ex j) (ef j) (4 + en j))) in
+      let rest : l .text ≡ puts (k .text) (threadsAt name s t (q .next) .text) = leaves-puts (k .text) l _ el ∙ ap
+      (λ (p : ℕ). puts (k .text) (threadsAt name s t p .text)) (leaves-next e k q wires) in
       both _ _ _ _ _ eb
-      (both _ _ _ _ _ (ec ∙ ap (λ (m : ℕ). puts b (portsText (plainName i r) m 0)) ev)
+      (both _ _ _ _ _ (ec ∙ ap (λ (m : ℕ). puts b (portsText name m 0)) ev)
       (both _ _ _ _ _ ed
-      (both _ _ _ _ _ (ee ∙ ap (λ (m : ℕ). puts d (declarationsAt i r s m 0)) en)
+      (both _ _ _ _ _ (ee ∙ ap (λ (m : ℕ). puts d (declarationsAt name s i r m 0)) en)
       (both _ _ _ _ _ (leaves-puts e k q wires) (both _ _ _ _ _ rest ez)))))
 
 -- ---- ports

@@ -22,7 +22,7 @@ use Rattle.sheet.proofs.Trees.{mapRes, trees, sheet-located, read-located}
 use Rattle.sheet.proofs.Numbers.{numbered-no, located-numbered, sheet-numbered}
 use Rattle.writing.specs.Ascii.{ascii}
 use Rattle.writing.specs.Buffer.{Text, filled, puts}
-use Rattle.naming.specs.Naming.{plainName}
+use Rattle.naming.specs.Naming.{nameOf}
 use Rattle.signs.specs.Signs.{sign, operands, lead}
 use Rattle.signs.proofs.Signs.{operands-one, operands-two, lead-first, lead-last}
 use Rattle.verilog.specs.Verilog.{_&_, indent, waiting, nesting, single, front, exprText, termText, termsText, sequenceText, stmtText, wiresText, opening, remainder, openedText, threadText, threadsText, declarationsText, moduleText, verilogText, answer, printed, verilogOf}
@@ -31,94 +31,94 @@ use Rattle.verilog.proofs.Printing as Printing
 
 -- ---- a statement by its heading and its bodies
 
-module _ (i r : ℕ) (s : List ℕ) (stmt : ℕ → ℕ → Shown) (n p m : ℕ) where
+module _ (name : ℕ → List ℕ) (s : List ℕ) (stmt : ℕ → ℕ → Shown) (n p m : ℕ) where
   -- A statement without a body.
-  form-none : {q : ℕ} {h : List ℕ} → headingAt i r s n p m ≡ shown q h → bodiesOf m ≡ 0 → formAt i r s stmt n p m ≡ shown q h
+  form-none : {q : ℕ} {h : List ℕ} → headingAt name s n p m ≡ shown q h → bodiesOf m ≡ 0 → formAt name s stmt n p m ≡ shown q h
   unfolding formAt behind
   form-none {q} {h} e k = rw (e, k)
       (ap (λ (x : Shown). behind h x) (Printing.bodies-none stmt m n 0 q refl) ∙ ap (shown q) (append-nil h))
 
   -- With one.
-  form-one : {q x : ℕ} {h t : List ℕ} → headingAt i r s n p m ≡ shown q h → bodiesOf m ≡ 1 → stmt (innerLevel m 1 n) q ≡ shown x t
-      → formAt i r s stmt n p m ≡ shown x (h ++ (t ++ closingAt m 1 n))
+  form-one : {q x : ℕ} {h t : List ℕ} → headingAt name s n p m ≡ shown q h → bodiesOf m ≡ 1 → stmt (innerLevel m 1 n) q ≡ shown x t
+      → formAt name s stmt n p m ≡ shown x (h ++ (t ++ closingAt m 1 n))
   unfolding formAt behind
   form-one {q} {h = h} e k f = rw (e, k) (ap (λ (x : Shown). behind h x) (Printing.bodies-one stmt m n q f))
 
   -- With two.
-  form-two : {q x y : ℕ} {h t u : List ℕ} → headingAt i r s n p m ≡ shown q h → bodiesOf m ≡ 2
+  form-two : {q x y : ℕ} {h t u : List ℕ} → headingAt name s n p m ≡ shown q h → bodiesOf m ≡ 2
       → stmt (innerLevel m 2 n) q ≡ shown x t
       → stmt (innerLevel m 1 n) x ≡ shown y u
-      → formAt i r s stmt n p m ≡ shown y (h ++ ((t ++ closingAt m 2 n) ++ (u ++ closingAt m 1 n)))
+      → formAt name s stmt n p m ≡ shown y (h ++ ((t ++ closingAt m 2 n) ++ (u ++ closingAt m 1 n)))
   unfolding formAt behind
   form-two {q} {h = h} e k f g = rw (e, k) (ap (λ (x : Shown). behind h x) (Printing.bodies-two stmt m n q f g))
 
 -- ---- expressions
 
 -- The operands of ?: by what is shown of each.
-module _ (i r : ℕ) (s : List ℕ) where
-  choice-shown : (d p : ℕ) {n m k : ℕ} {t u v : List ℕ} → shownAt i r s d p ≡ shown n t → shownAt i r s d n ≡ shown m u
-      → shownAt i r s d m ≡ shown k v
-      → operandsAt (shownAt i r s d) 10 (operands 10) p ≡ shown k (t & ascii " ? " & u & ascii " : " & v & ascii ")")
+module _ (name : ℕ → List ℕ) (s : List ℕ) where
+  choice-shown : (d p : ℕ) {n m k : ℕ} {t u v : List ℕ} → shownAt name s d p ≡ shown n t → shownAt name s d n ≡ shown m u
+      → shownAt name s d m ≡ shown k v
+      → operandsAt (shownAt name s d) 10 (operands 10) p ≡ shown k (t & ascii " ? " & u & ascii " : " & v & ascii ")")
   unfolding operands lead ascii
-  choice-shown d p e f g = Printing.operands-three (shownAt i r s d) 10 p e f g
+  choice-shown d p e f g = Printing.operands-three (shownAt name s d) 10 p e f g
 
-module _ (i r : ℕ) {ws s : List ℕ} where
+module _ (name : ℕ → List ℕ) {ws s : List ℕ} where
   pub shown-reads : {d p : ℕ} {q : Parsed Expr} → Reads ws s d p q
-      → shownAt i r s d p ≡ shown (q .next) (exprText (plainName i r) (q .item))
+      → shownAt name s d p ≡ shown (q .next) (exprText name (q .item))
   unfolding behind exprText
   shown-reads {p = p} (a-variable {d = d} m h e l) =
-      Printing.shown-suc i r s d p _ _ (omega arith) (sym m) (sym e) ∙ Printing.node-variable i r s _ p 0x02 _ refl
+      Printing.shown-suc name s d p _ _ (omega arith) (sym m) (sym e) ∙ Printing.node-variable name s _ p 0x02 _ refl
   shown-reads {p = p} (a-constant {d = d} m w h e l) =
       let x = w .below in
-      Printing.shown-suc i r s d p _ _ (omega arith) (sym m) (sym (w .same)) ∙ Printing.node-constant i r s _ p 0x0C _ refl ∙ rw e
+      Printing.shown-suc name s d p _ _ (omega arith) (sym m) (sym (w .same)) ∙ Printing.node-constant name s _ p 0x0C _ refl ∙ rw e
   shown-reads {p = p} (an-unknown {d = d} m w) =
       let x = w .below in
-      Printing.shown-suc i r s d p _ _ (omega arith) (sym m) (sym (w .same)) ∙ Printing.node-unknown i r s _ p 0x04 _ refl
+      Printing.shown-suc name s d p _ _ (omega arith) (sym m) (sym (w .same)) ∙ Printing.node-unknown name s _ p 0x04 _ refl
   shown-reads {p = p} (a-unary {d = d} {o = o} {a = a} m w x) =
       let b = w .below in
       let l = w .most in
-      Printing.shown-suc i r s d p _ _ (omega arith) (sym m) (sym (w .same))
-      ∙ Printing.node-operator i r s _ p 0x11 _ (omega arith) (omega arith) (omega arith)
-      ∙ ap (λ (n : ℕ). behind (ascii "(") (operandsAt (shownAt i r s d) o n (p + 2))) (operands-one o (omega arith))
-      ∙ ap (behind (ascii "(")) (Printing.operands-one (shownAt i r s d) o (p + 2) (shown-reads x))
+      Printing.shown-suc name s d p _ _ (omega arith) (sym m) (sym (w .same))
+      ∙ Printing.node-operator name s _ p 0x11 _ (omega arith) (omega arith) (omega arith)
+      ∙ ap (λ (n : ℕ). behind (ascii "(") (operandsAt (shownAt name s d) o n (p + 2))) (operands-one o (omega arith))
+      ∙ ap (behind (ascii "(")) (Printing.operands-one (shownAt name s d) o (p + 2) (shown-reads x))
       ∙ ap (λ (t : List ℕ). shown (a .next) (ascii "(" ++ t))
-      (rw (lead-last o (omega arith)) (append-assoc (sign o) (exprText (plainName i r) (a .item)) (ascii ")")))
+      (rw (lead-last o (omega arith)) (append-assoc (sign o) (exprText name (a .item)) (ascii ")")))
   shown-reads {p = p} (a-binary {d = d} {o = o} {a = a} {b = b} m w x y e) =
       let below = w .below in
       let low = w .least in
       let high = w .most in
-      Printing.shown-suc i r s d p _ _ (omega arith) (sym m) (sym (w .same))
-      ∙ Printing.node-operator i r s _ p 0x31 _ (omega arith) (omega arith) (omega arith)
-      ∙ ap (λ (n : ℕ). behind (ascii "(") (operandsAt (shownAt i r s d) o n (p + 2))) (operands-two o (omega arith) (omega arith))
-      ∙ ap (behind (ascii "(")) (Printing.operands-two (shownAt i r s d) o (p + 2) (shown-reads x) (shown-reads y))
+      Printing.shown-suc name s d p _ _ (omega arith) (sym m) (sym (w .same))
+      ∙ Printing.node-operator name s _ p 0x31 _ (omega arith) (omega arith) (omega arith)
+      ∙ ap (λ (n : ℕ). behind (ascii "(") (operandsAt (shownAt name s d) o n (p + 2))) (operands-two o (omega arith) (omega arith))
+      ∙ ap (behind (ascii "(")) (Printing.operands-two (shownAt name s d) o (p + 2) (shown-reads x) (shown-reads y))
       ∙ ap (λ (t : List ℕ). shown (b .next) (ascii "(" ++ t))
       (rw (lead-first o (omega arith), lead-last o (omega arith))
-      (ap (λ (t : List ℕ). exprText (plainName i r) (a .item) ++ t)
-      (append-assoc (sign o) (exprText (plainName i r) (b .item)) (ascii ")"))))
+      (ap (λ (t : List ℕ). exprText name (a .item) ++ t)
+      (append-assoc (sign o) (exprText name (b .item)) (ascii ")"))))
   shown-reads {p = p} (a-conditional {d = d} {o = o} {c = c} {a = a} {b = b} m w z x y e) =
       let below = w .below in
       let ten : o ≡ 10 = omega (arith, w .least, w .most) in
-      Printing.shown-suc i r s d p _ _ (omega arith) (sym m) (sym (w .same))
-      ∙ Printing.node-operator i r s _ p 0x71 _ (omega arith) (omega arith) (omega arith)
-      ∙ ap (λ (n : ℕ). behind (ascii "(") (operandsAt (shownAt i r s d) n (operands n) (p + 2))) ten
-      ∙ ap (behind (ascii "(")) (choice-shown i r s d (p + 2) (shown-reads z) (shown-reads x) (shown-reads y))
+      Printing.shown-suc name s d p _ _ (omega arith) (sym m) (sym (w .same))
+      ∙ Printing.node-operator name s _ p 0x71 _ (omega arith) (omega arith) (omega arith)
+      ∙ ap (λ (n : ℕ). behind (ascii "(") (operandsAt (shownAt name s d) n (operands n) (p + 2))) ten
+      ∙ ap (behind (ascii "(")) (choice-shown name s d (p + 2) (shown-reads z) (shown-reads x) (shown-reads y))
 
   -- ---- waits
 
   pub terms-reads : {n p : ℕ} {ts : List EdgeTerm} → ReadsTerms ws s n p ts → (k : ℕ)
-      → termsAt i r s n k p ≡ termsText (plainName i r) k ts
+      → termsAt name s n k p ≡ termsText name k ts
   unfolding termsAt termAt termsText termText
   terms-reads no-terms k = refl
   terms-reads (a-term w h e l ts) k = rw (w .same, e, terms-reads ts (k + 1)) refl
 
 -- ---- statements
 
-module _ (i r : ℕ) (c : Scope) (s : List ℕ) where
+module _ (name : ℕ → List ℕ) (c : Scope) (s : List ℕ) where
   -- An expression that was read.
   tree-shown : (p : ℕ) {e : Parsed Expr} → tree s (c .widths) p ≡ ok e
-      → shownAt i r s 16 p ≡ shown (e .next) (exprText (plainName i r) (e .item))
+      → shownAt name s 16 p ≡ shown (e .next) (exprText name (e .item))
   unfolding tree
-  tree-shown p h = shown-reads i r (derive (c .widths) s 16 p h)
+  tree-shown p h = shown-reads name (derive (c .widths) s 16 p h)
 
   word-shown : (n p : ℕ) (word : List ℕ) → wordAt word n p ≡ shown (p + 1) (indent n & word)
   unfolding wordAt
@@ -126,24 +126,24 @@ module _ (i r : ℕ) (c : Scope) (s : List ℕ) where
 
   module _ (n p : ℕ) {e : Parsed Expr} where
     condition-reads : (word : List ℕ) → tree s (c .widths) (p + 1) ≡ ok e
-        → conditionAt i r s word n p ≡ shown (e .next) (indent n & word & exprText (plainName i r) (e .item) & ascii ") begin\n")
+        → conditionAt name s word n p ≡ shown (e .next) (indent n & word & exprText name (e .item) & ascii ") begin\n")
     unfolding conditionAt
     condition-reads word h = ap (λ (x : Shown). shown (x .next) (indent n & word & x .text & ascii ") begin\n"))
         (tree-shown (p + 1) h)
 
     assign-reads : (sign : List ℕ) {t : ℕ} → getD s (p + 1) 0 ≡ t → tree s (c .widths) (p + 2) ≡ ok e
-        → assignAt i r s sign n p ≡ shown (e .next)
-        (indent n & plainName i r t & sign & exprText (plainName i r) (e .item) & ascii ";\n")
+        → assignAt name s sign n p ≡ shown (e .next)
+        (indent n & name t & sign & exprText name (e .item) & ascii ";\n")
     unfolding assignAt
     assign-reads sign {t} v h =
-        ap (λ (x : Shown). shown (x .next) (indent n & plainName i r (getD s (p + 1) 0) & sign & x .text & ascii ";\n"))
+        ap (λ (x : Shown). shown (x .next) (indent n & name (getD s (p + 1) 0) & sign & x .text & ascii ";\n"))
         (tree-shown (p + 2) h)
-        ∙ ap (λ (x : ℕ). shown (e .next) (indent n & plainName i r x & sign & exprText (plainName i r) (e .item) & ascii ";\n")) v
+        ∙ ap (λ (x : ℕ). shown (e .next) (indent n & name x & sign & exprText name (e .item) & ascii ";\n")) v
 
   wait-reads : (word : List ℕ) (n p : ℕ) {k : ℕ} {ts : List EdgeTerm} → getD s (p + 1) 0 ≡ k → ReadsTerms (c .widths) s k (p + 2) ts
-      → waitAt i r s word n p ≡ shown (p + 2 + 2 * k) (indent n & ascii "@(" & termsText (plainName i r) 0 ts & word)
+      → waitAt name s word n p ≡ shown (p + 2 + 2 * k) (indent n & ascii "@(" & termsText name 0 ts & word)
   unfolding waitAt
-  wait-reads word n p e ts = rw (e, terms-reads i r ts 0) refl
+  wait-reads word n p e ts = rw (e, terms-reads name ts 0) refl
 
   -- ---- sequences, by their first part
 
@@ -170,87 +170,87 @@ module _ (i r : ℕ) (c : Scope) (s : List ℕ) where
 
   module _ (d n p : ℕ) (a b : Body Expr) (l : p < length s) (m : getD s p 0 ≡ 0x0C) where
     sequence-reads : Fronted (p + 1) a
-        → ((l : ℕ) → stmtAt i r s d l (p + 1) ≡ shown (a .next) (stmtText (plainName i r) l (a .stmt)))
-        → ((l : ℕ) → stmtAt i r s d l (a .next) ≡ shown (b .next) (stmtText (plainName i r) l (b .stmt)))
-        → stmtAt i r s (suc d) n p ≡ shown (b .next)
-        (sequenceText (plainName i r) n (front (a .stmt)) (λ l. stmtText (plainName i r) l (a .stmt))
-        (λ l. stmtText (plainName i r) l (b .stmt)))
+        → ((l : ℕ) → stmtAt name s d l (p + 1) ≡ shown (a .next) (stmtText name l (a .stmt)))
+        → ((l : ℕ) → stmtAt name s d l (a .next) ≡ shown (b .next) (stmtText name l (b .stmt)))
+        → stmtAt name s (suc d) n p ≡ shown (b .next)
+        (sequenceText name n (front (a .stmt)) (λ l. stmtText name l (a .stmt))
+        (λ l. stmtText name l (b .stmt)))
     unfolding sequenceText bodiesOf innerLevel flat closingAt endAt shapeOf
     sequence-reads (is-wait {k} {ts} g h u f e) x y =
         rw f
-        (Printing.stmt-suc i r s d n p 0x1C l (shape-of p 0x10 m g)
-        ∙ form-one i r s _ n p 0x1C
-        (Printing.heading-opening i r s n p 0x1C refl ∙ wait-reads (ascii ") begin\n") n (p + 1) h u
-        ∙ ap (λ (q : ℕ). shown q (indent n & ascii "@(" & termsText (plainName i r) 0 ts & ascii ") begin\n")) e)
+        (Printing.stmt-suc name s d n p 0x1C l (shape-of p 0x10 m g)
+        ∙ form-one name s _ n p 0x1C
+        (Printing.heading-opening name s n p 0x1C refl ∙ wait-reads (ascii ") begin\n") n (p + 1) h u
+        ∙ ap (λ (q : ℕ). shown q (indent n & ascii "@(" & termsText name 0 ts & ascii ") begin\n")) e)
         refl (y (n + 1))
         ∙ simp append-assoc)
     sequence-reads (is-sequence g f) x y =
         rw f
-        (Printing.stmt-suc i r s d n p 0x2C l (shape-of p 0x0C m g)
-        ∙ form-two i r s _ n p 0x2C (Printing.heading-nesting i r s n p 0x2C refl ∙ word-shown n p (ascii "begin\n")) refl
+        (Printing.stmt-suc name s d n p 0x2C l (shape-of p 0x0C m g)
+        ∙ form-two name s _ n p 0x2C (Printing.heading-nesting name s n p 0x2C refl ∙ word-shown n p (ascii "begin\n")) refl
         (x (n + 1)) (y n)
         ∙ simp (append-nil, append-assoc))
     sequence-reads (is-single g h f) x y =
         rw f
-        (Printing.stmt-suc i r s d n p 0x0C l (Printing.shape-single _ _ m g h)
-        ∙ form-two i r s _ n p 0x0C (Printing.heading-sequence i r s n p 0x0C refl) refl (x n) (y n)
+        (Printing.stmt-suc name s d n p 0x0C l (Printing.shape-single _ _ m g h)
+        ∙ form-two name s _ n p 0x0C (Printing.heading-sequence name s n p 0x0C refl) refl (x n) (y n)
         ∙ simp append-nil)
 
   pub stmt-reads : {d p : ℕ} {b : Body Expr} → ReadsStmt (tree s) c s d p b → (n : ℕ)
-      → stmtAt i r s d n p ≡ shown (b .next) (stmtText (plainName i r) n (b .stmt))
+      → stmtAt name s d n p ≡ shown (b .next) (stmtText name n (b .stmt))
   unfolding stmtText bodiesOf innerLevel flat closingAt endAt
   stmt-reads {p = p} (an-empty {d = d} l m) n =
-      Printing.stmt-map i r s d n p 0x00 l (sym m) (omega arith) ∙ form-none i r s _ n p 0x00
-      (Printing.heading-empty i r s n p 0x00 refl ∙ word-shown n p (ascii "begin end\n")) refl
+      Printing.stmt-map name s d n p 0x00 l (sym m) (omega arith) ∙ form-none name s _ n p 0x00
+      (Printing.heading-empty name s n p 0x00 refl ∙ word-shown n p (ascii "begin end\n")) refl
   stmt-reads {p = p} (an-assign {d = d} l m t g e w) n =
-      Printing.stmt-map i r s d n p 0x03 (omega arith) (sym m) (omega arith)
-      ∙ form-none i r s _ n p 0x03 (Printing.heading-assign i r s n p 0x03 refl ∙ assign-reads n p (ascii " = ") t e) refl
+      Printing.stmt-map name s d n p 0x03 (omega arith) (sym m) (omega arith)
+      ∙ form-none name s _ n p 0x03 (Printing.heading-assign name s n p 0x03 refl ∙ assign-reads n p (ascii " = ") t e) refl
   stmt-reads {p = p} (a-later {d = d} l m t g e w) n =
-      Printing.stmt-map i r s d n p 0x23 (omega arith) (sym m) (omega arith)
-      ∙ form-none i r s _ n p 0x23 (Printing.heading-later i r s n p 0x23 refl ∙ assign-reads n p (ascii " <= ") t e) refl
+      Printing.stmt-map name s d n p 0x23 (omega arith) (sym m) (omega arith)
+      ∙ form-none name s _ n p 0x23 (Printing.heading-later name s n p 0x23 refl ∙ assign-reads n p (ascii " <= ") t e) refl
   stmt-reads {p = p} (a-sequence {d = d} {a = a} {b = b} l m x y) n =
       sequence-reads d n p a b l m (front-reads x) (λ k. stmt-reads x k) (λ k. stmt-reads y k)
   stmt-reads {p = p} (an-if {d = d} l m e x) n =
-      Printing.stmt-map i r s d n p 0x06 l (sym m) (omega arith)
-      ∙ form-one i r s _ n p 0x06 (Printing.heading-if i r s n p 0x06 refl ∙ condition-reads n p (ascii "if (") e) refl
+      Printing.stmt-map name s d n p 0x06 l (sym m) (omega arith)
+      ∙ form-one name s _ n p 0x06 (Printing.heading-if name s n p 0x06 refl ∙ condition-reads n p (ascii "if (") e) refl
       (stmt-reads x (n + 1))
       ∙ simp append-assoc
   stmt-reads {p = p} (an-if-else {d = d} l m e x y) n =
-      Printing.stmt-map i r s d n p 0x0E l (sym m) (omega arith)
-      ∙ form-two i r s _ n p 0x0E (Printing.heading-if-else i r s n p 0x0E refl ∙ condition-reads n p (ascii "if (") e) refl
+      Printing.stmt-map name s d n p 0x0E l (sym m) (omega arith)
+      ∙ form-two name s _ n p 0x0E (Printing.heading-if-else name s n p 0x0E refl ∙ condition-reads n p (ascii "if (") e) refl
       (stmt-reads x (n + 1)) (stmt-reads y (n + 1))
       ∙ simp append-assoc
   stmt-reads {p = p} (a-while {d = d} l m e x) n =
-      Printing.stmt-map i r s d n p 0x46 l (sym m) (omega arith)
-      ∙ form-one i r s _ n p 0x46 (Printing.heading-while i r s n p 0x46 refl ∙ condition-reads n p (ascii "while (") e) refl
+      Printing.stmt-map name s d n p 0x46 l (sym m) (omega arith)
+      ∙ form-one name s _ n p 0x46 (Printing.heading-while name s n p 0x46 refl ∙ condition-reads n p (ascii "while (") e) refl
       (stmt-reads x (n + 1))
       ∙ simp append-assoc
   stmt-reads {p = p} (a-forever {d = d} l m x) n =
-      Printing.stmt-map i r s d n p 0x44 l (sym m) (omega arith)
-      ∙ form-one i r s _ n p 0x44 (Printing.heading-forever i r s n p 0x44 refl ∙ word-shown n p (ascii "forever begin\n")) refl
+      Printing.stmt-map name s d n p 0x44 l (sym m) (omega arith)
+      ∙ form-one name s _ n p 0x44 (Printing.heading-forever name s n p 0x44 refl ∙ word-shown n p (ascii "forever begin\n")) refl
       (stmt-reads x (n + 1))
       ∙ simp append-assoc
   stmt-reads {p = p} (a-wait {d = d} {n = k} {ts = vs} m w ts f) n =
       let b = w .below in
-      Printing.stmt-map i r s d n p 0x10 (omega arith) (sym m) (omega arith)
-      ∙ form-none i r s _ n p 0x10 (Printing.heading-wait i r s n p 0x10 refl ∙ wait-reads (ascii ");\n") n p (w .same) ts) refl
+      Printing.stmt-map name s d n p 0x10 (omega arith) (sym m) (omega arith)
+      ∙ form-none name s _ n p 0x10 (Printing.heading-wait name s n p 0x10 refl ∙ wait-reads (ascii ");\n") n p (w .same) ts) refl
 
   -- ---- wires and threads
 
-  wires-step : (n v p : ℕ) {q x : ℕ} {t u : List ℕ} → wireAt i r s v p ≡ shown q t → wiresAt i r s n (v + 1) q ≡ shown x u
-      → wiresAt i r s (suc n) v p ≡ shown x (t ++ u)
+  wires-step : (n v p : ℕ) {q x : ℕ} {t u : List ℕ} → wireAt name s v p ≡ shown q t → wiresAt name s n (v + 1) q ≡ shown x u
+      → wiresAt name s (suc n) v p ≡ shown x (t ++ u)
   unfolding wiresAt behind
-  wires-step n v p {t = t} e f = ap (λ (y : Shown). behind (y .text) (wiresAt i r s n (v + 1) (y .next))) e ∙ ap (behind t) f
+  wires-step n v p {t = t} e f = ap (λ (y : Shown). behind (y .text) (wiresAt name s n (v + 1) (y .next))) e ∙ ap (behind t) f
 
   wire-reads : (v p : ℕ) {e : Parsed Expr} → tree s (c .widths) p ≡ ok e
-      → wireAt i r s v p ≡ shown (e .next)
-      (ascii "  assign " & plainName i r v & ascii " = " & exprText (plainName i r) (e .item) & ascii ";\n")
+      → wireAt name s v p ≡ shown (e .next)
+      (ascii "  assign " & name v & ascii " = " & exprText name (e .item) & ascii ";\n")
   unfolding wireAt
   wire-reads v p h = ap (λ (x : Shown). shown (x .next)
-      (ascii "  assign " & plainName i r v & ascii " = " & x .text & ascii ";\n")) (tree-shown p h)
+      (ascii "  assign " & name v & ascii " = " & x .text & ascii ";\n")) (tree-shown p h)
 
   pub wires-reads : (n v p : ℕ) {l : Listed Expr} → readWires (tree s) c s n v p ≡ ok l
-      → wiresAt i r s n v p ≡ shown (l .next) (wiresText (plainName i r) v (l .items))
+      → wiresAt name s n v p ≡ shown (l .next) (wiresText name v (l .items))
   unfolding readWires wiresAt wiresText
   wires-reads zero v p h = rw (← ok-injective h) refl
   wires-reads (suc n) v p h =
@@ -260,23 +260,23 @@ module _ (i r : ℕ) (c : Scope) (s : List ℕ) where
       rw (← ok-injective (es .2)) (wires-step n v p (wire-reads v p (e .1)) (wires-reads n (v + 1) (e .0 .next) (es .1))
       ∙ simp append-assoc)
 
-  threads-step : (n p : ℕ) {q x : ℕ} {t u : List ℕ} → threadAt i r s p ≡ shown q t → threadsAt i r s n q ≡ shown x u
-      → threadsAt i r s (suc n) p ≡ shown x (t ++ u)
+  threads-step : (n p : ℕ) {q x : ℕ} {t u : List ℕ} → threadAt name s p ≡ shown q t → threadsAt name s n q ≡ shown x u
+      → threadsAt name s (suc n) p ≡ shown x (t ++ u)
   unfolding threadsAt behind
-  threads-step n p {t = t} e f = ap (λ (y : Shown). behind (y .text) (threadsAt i r s n (y .next))) e ∙ ap (behind t) f
+  threads-step n p {t = t} e f = ap (λ (y : Shown). behind (y .text) (threadsAt name s n (y .next))) e ∙ ap (behind t) f
 
   -- In a block, where the statement's shape isn't that of one that opens with a wait.
   block-reads : (p m : ℕ) {b : Body Expr} → p < length s → m ≡ shapeOf (getD s p 0) (getD s (p + 1) 0) → (m ≡ 0x1C → ⊥)
       → ReadsStmt (tree s) c s 64 p b
-      → threadAt i r s p ≡ shown (b .next) (ascii "  always begin\n" & stmtText (plainName i r) 2 (b .stmt) & ascii "  end\n")
+      → threadAt name s p ≡ shown (b .next) (ascii "  always begin\n" & stmtText name 2 (b .stmt) & ascii "  end\n")
   unfolding blockAt
   block-reads p m h e n x =
-      Printing.thread-block i r s p (sym (Printing.opens-shape s p m h e) ∙ ne-eqb m 0x1C n)
+      Printing.thread-block name s p (sym (Printing.opens-shape s p m h e) ∙ ne-eqb m 0x1C n)
       ∙ ap (λ (y : Shown). shown (y .next) (ascii "  always begin\n" & y .text & ascii "  end\n")) (stmt-reads x 2)
 
   map-reads : (p m : ℕ) {b : Body Expr} → p < length s → getD s p 0 ≡ m → (m ≡ 0x0C → ⊥) → (m ≡ 0x1C → ⊥)
       → ReadsStmt (tree s) c s 64 p b
-      → threadAt i r s p ≡ shown (b .next) (ascii "  always begin\n" & stmtText (plainName i r) 2 (b .stmt) & ascii "  end\n")
+      → threadAt name s p ≡ shown (b .next) (ascii "  always begin\n" & stmtText name 2 (b .stmt) & ascii "  end\n")
   map-reads p m h e k n x =
       block-reads p m h
       (Printing.shape-map m (getD s (p + 1) 0) k ∙ ap (λ (y : ℕ). shapeOf y (getD s (p + 1) 0)) (sym e)) n x
@@ -285,31 +285,31 @@ module _ (i r : ℕ) (c : Scope) (s : List ℕ) where
   waiting-reads : (p : ℕ) {k n : ℕ} {ts : List EdgeTerm} {b : Body Expr} → p < length s → getD s p 0 ≡ 0x0C → getD s (p + 1) 0 ≡ 0x10
       → getD s (p + 1 + 1) 0 ≡ k → ReadsTerms (c .widths) s k (p + 1 + 2) ts → p + 1 + 2 + 2 * k ≡ n
       → ReadsStmt (tree s) c s 63 n b
-      → threadAt i r s p ≡ shown (b .next)
-      (ascii "  always " & ascii "@(" & termsText (plainName i r) 0 ts & ascii ") begin\n" & stmtText (plainName i r) 2 (b .stmt) & ascii "  end\n")
+      → threadAt name s p ≡ shown (b .next)
+      (ascii "  always " & ascii "@(" & termsText name 0 ts & ascii ") begin\n" & stmtText name 2 (b .stmt) & ascii "  end\n")
   unfolding waitingAt indent shapeOf
   waiting-reads p {ts = ts} h m g k u e y =
-      Printing.thread-waiting i r s p (sym (Printing.opens-shape s p 0x1C h (shape-of p 0x10 m g)))
-      ∙ ap (λ (w : Shown). let q = stmtAt i r s 63 2 (w .next) in shown (q .next) (ascii "  always " & w .text & q .text & ascii "  end\n"))
+      Printing.thread-waiting name s p (sym (Printing.opens-shape s p 0x1C h (shape-of p 0x10 m g)))
+      ∙ ap (λ (w : Shown). let q = stmtAt name s 63 2 (w .next) in shown (q .next) (ascii "  always " & w .text & q .text & ascii "  end\n"))
       (wait-reads (ascii ") begin\n") 0 (p + 1) k u
-      ∙ ap (λ (q : ℕ). shown q (indent 0 & ascii "@(" & termsText (plainName i r) 0 ts & ascii ") begin\n")) e)
+      ∙ ap (λ (q : ℕ). shown q (indent 0 & ascii "@(" & termsText name 0 ts & ascii ") begin\n")) e)
       ∙ ap (λ (q : Shown). shown (q .next)
-      (ascii "  always " & (indent 0 & ascii "@(" & termsText (plainName i r) 0 ts & ascii ") begin\n") & q .text & ascii "  end\n"))
+      (ascii "  always " & (indent 0 & ascii "@(" & termsText name 0 ts & ascii ") begin\n") & q .text & ascii "  end\n"))
       (stmt-reads y 2)
       ∙ simp append-assoc
 
   opened-reads : (p : ℕ) {a b : Body Expr} → p < length s → getD s p 0 ≡ 0x0C → Fronted (p + 1) a
       → ReadsStmt (tree s) c s 63 (a .next) b
       → ReadsStmt (tree s) c s 64 p (record { stmt = sequence (a .stmt) (b .stmt); next = b .next })
-      → threadAt i r s p ≡ shown (b .next) (openedText (plainName i r) (front (a .stmt))
-      (λ l. stmtText (plainName i r) l (sequence (a .stmt) (b .stmt))) (λ l. stmtText (plainName i r) l (b .stmt)))
+      → threadAt name s p ≡ shown (b .next) (openedText name (front (a .stmt))
+      (λ l. stmtText name l (sequence (a .stmt) (b .stmt))) (λ l. stmtText name l (b .stmt)))
   unfolding openedText shapeOf
   opened-reads p h m (is-wait g k u f e) y z = rw f (waiting-reads p h m g k u e y)
   opened-reads p h m (is-sequence g f) y z = rw f (block-reads p 0x2C h (shape-of p 0x0C m g) (omega arith) z)
   opened-reads p h m (is-single g k f) y z = rw f (block-reads p 0x0C h (Printing.shape-single _ _ m g k) (omega arith) z)
 
   thread-reads : (p : ℕ) {b : Body Expr} → ReadsStmt (tree s) c s 64 p b
-      → threadAt i r s p ≡ shown (b .next) (threadText (plainName i r) (b .stmt))
+      → threadAt name s p ≡ shown (b .next) (threadText name (b .stmt))
   unfolding threadText opening remainder openedText
   thread-reads p (an-empty l m) = map-reads p 0x00 l m (omega arith) (omega arith) (an-empty l m)
   thread-reads p (an-assign l m t g e w) = map-reads p 0x03 (omega arith) m (omega arith) (omega arith) (an-assign l m t g e w)
@@ -323,7 +323,7 @@ module _ (i r : ℕ) (c : Scope) (s : List ℕ) where
       let b = w .below in map-reads p 0x10 (omega arith) m (omega arith) (omega arith) (a-wait m w ts f)
 
   pub threads-reads : (n p : ℕ) {l : Listed (Stmt Expr)} → readThreads (tree s) c s n p ≡ ok l
-      → threadsAt i r s n p ≡ shown (l .next) (threadsText (plainName i r) (l .items))
+      → threadsAt name s n p ≡ shown (l .next) (threadsText name (l .items))
   unfolding readThreads threadsAt threadsText
   threads-reads zero p h = rw (← ok-injective h) refl
   threads-reads (suc n) p h =
@@ -335,23 +335,23 @@ module _ (i r : ℕ) (c : Scope) (s : List ℕ) where
 
 -- ---- declarations
 
-pub declarations-reads : (i r : ℕ) (s : List ℕ) (n v : ℕ) → 4 + v + n ≤ length s
-    → declarationsAt i r s n v ≡ declarationsText (plainName i r) i r v (take n (drop (4 + v) s))
+pub declarations-reads : (name : ℕ → List ℕ) (s : List ℕ) (i r n v : ℕ) → 4 + v + n ≤ length s
+    → declarationsAt name s i r n v ≡ declarationsText name i r v (take n (drop (4 + v) s))
 unfolding declarationsAt declarationsText
-declarations-reads i r s zero v h = refl
-declarations-reads i r s (suc n) v h =
+declarations-reads name s i r zero v h = refl
+declarations-reads name s i r (suc n) v h =
     let f : suc (4 + v) ≡ 4 + (v + 1) = omega arith in
     let e : drop (4 + v) s ≡ getD s (4 + v) 0 ∷ drop (4 + (v + 1)) s = drop-cons s (4 + v) 0 (omega arith) ∙ ap
     (λ (k : ℕ). getD s (4 + v) 0 ∷ drop k s) f in
-    rw (e, declarations-reads i r s n (v + 1) (omega arith)) refl
+    rw (e, declarations-reads name s i r n (v + 1) (omega arith)) refl
 
 -- ---- the sheet
 
-pub module-reads : (s : List ℕ) {x : Sheet Expr} → readSheet (tree s) s ≡ ok x
-    → moduleAt (x .contents .scope .inputs) (x .contents .scope .registers) s (length (x .contents .wires))
-    (length (x .contents .threads)) ≡ verilogText (x .contents)
-unfolding readSheet moduleAt verilogText moduleText
-module-reads s h =
+pub module-reads : (name : ℕ → List ℕ) (s : List ℕ) {x : Sheet Expr} → readSheet (tree s) s ≡ ok x
+    → moduleAt name s (x .contents .scope .inputs) (x .contents .scope .registers) (length (x .contents .wires))
+    (length (x .contents .threads)) ≡ moduleText name (x .contents)
+unfolding readSheet moduleAt moduleText
+module-reads name s h =
     let k = check-ok (leb (length s) 8192) 1 8192 _ h in
     let hd = bind-ok (readHead s) _ (k .1) in
     let c = hd .0 .scope in
@@ -365,15 +365,14 @@ module-reads s h =
     let widths : c .widths ≡ take n (drop 4 s) = ap (λ (g : Head). g .scope .widths) (y .same) in
     let next : hd .0 .next ≡ 4 + n = ap (λ (g : Head). g .next) (y .same) in
     let b = y .inside in
-    let wires : wiresAt (c .inputs) (c .registers) s (hd .0 .wires) (c .inputs + c .registers) (4 + n) ≡ shown (es .0 .next)
-    (wiresText (plainName (c .inputs) (c .registers)) (c .inputs + c .registers) (es .0 .items)) =
-    ap (wiresAt (c .inputs) (c .registers) s (hd .0 .wires) (c .inputs + c .registers)) (sym next)
-    ∙ wires-reads (c .inputs) (c .registers) c s (hd .0 .wires) (c .inputs + c .registers) (hd .0 .next) (es .1) in
-    let threads = threads-reads (c .inputs) (c .registers) c s (hd .0 .threads) (es .0 .next) (ts .1) in
-    let declared : declarationsAt (c .inputs) (c .registers) s n 0 ≡ declarationsText (plainName (c .inputs) (c .registers))
-    (c .inputs) (c .registers) 0 (c .widths) =
-    declarations-reads (c .inputs) (c .registers) s n 0 (omega arith) ∙ ap
-    (declarationsText (plainName (c .inputs) (c .registers)) (c .inputs) (c .registers) 0) (sym widths) in
+    let wires : wiresAt name s (hd .0 .wires) (c .inputs + c .registers) (4 + n) ≡ shown (es .0 .next)
+    (wiresText name (c .inputs + c .registers) (es .0 .items)) =
+    ap (wiresAt name s (hd .0 .wires) (c .inputs + c .registers)) (sym next)
+    ∙ wires-reads name c s (hd .0 .wires) (c .inputs + c .registers) (hd .0 .next) (es .1) in
+    let threads = threads-reads name c s (hd .0 .threads) (es .0 .next) (ts .1) in
+    let declared : declarationsAt name s (c .inputs) (c .registers) n 0 ≡ declarationsText name (c .inputs) (c .registers) 0 (c .widths) =
+    declarations-reads name s (c .inputs) (c .registers) n 0 (omega arith) ∙ ap
+    (declarationsText name (c .inputs) (c .registers) 0) (sym widths) in
     rw (← ok-injective (z .1)) (rw (← w, ← t) (rw (declared, wires, threads) refl))
 
 -- ---- what the call gives, by the answer of reading
@@ -381,29 +380,29 @@ module-reads s h =
 abbrev number-of : SheetRead → ℕ
 number-of a = a .number
 
-module _ (s buffer : List ℕ) (a : SheetRead) (e : a ≡ sheetAnswer (readSheet (located s) s)) where
-  pub print-refused : (a .number ≡ 0 → ⊥) → answer (a .number) (filled buffer 0) ≡ verilogOf s buffer
+module _ (s names buffer : List ℕ) (a : SheetRead) (e : a ≡ sheetAnswer (readSheet (located s) s)) where
+  pub print-refused : (a .number ≡ 0 → ⊥) → answer (a .number) (filled buffer 0) ≡ verilogOf s names buffer
   unfolding sheetAnswer verilogOf printed mapRes
-  print-refused h = by (readSheet (located s) s) refl ∙ ap (printed buffer) (sym (read-located s))
+  print-refused h = by (readSheet (located s) s) refl ∙ ap (printed names buffer) (sym (read-located s))
     where
       by : (x : Res (Sheet ℕ)) → readSheet (located s) s ≡ x
-          → answer (a .number) (filled buffer 0) ≡ printed buffer (mapRes (λ r. trees s r .contents) x)
+          → answer (a .number) (filled buffer 0) ≡ printed names buffer (mapRes (λ r. trees s r .contents) x)
       by (ok q) g = absurd (h (ap number-of e ∙ ap (λ (y : Res (Sheet ℕ)). sheetAnswer y .number) g))
       by (no n p) g = ap (λ (k : ℕ). answer k (filled buffer 0))
           (ap number-of e ∙ ap (λ (y : Res (Sheet ℕ)). sheetAnswer y .number) g)
 
   pub print-read : {t : Text} → a .number ≡ 0
-      → t ≡ puts (filled buffer 0) (moduleAt (a .layout .inputs) (a .layout .registers) s (a .layout .wires) (a .layout .threads))
-      → answer 0 t ≡ verilogOf s buffer
+      → t ≡ puts (filled buffer 0) (moduleAt (nameOf names) s (a .layout .inputs) (a .layout .registers) (a .layout .wires) (a .layout .threads))
+      → answer 0 t ≡ verilogOf s names buffer
   unfolding sheetAnswer layoutOf verilogOf printed mapRes trees mapModule
-  print-read {t} h f = by (readSheet (located s) s) refl ∙ ap (printed buffer) (sym (read-located s))
+  print-read {t} h f = by (readSheet (located s) s) refl ∙ ap (printed names buffer) (sym (read-located s))
     where
-      by : (x : Res (Sheet ℕ)) → readSheet (located s) s ≡ x → answer 0 t ≡ printed buffer (mapRes (λ r. trees s r .contents) x)
+      by : (x : Res (Sheet ℕ)) → readSheet (located s) s ≡ x → answer 0 t ≡ printed names buffer (mapRes (λ r. trees s r .contents) x)
       by (ok q) g =
           let l : a ≡ sheetAnswer (ok q) = e ∙ ap sheetAnswer g in
-          let m = module-reads s (sheet-located s ∙ ap (mapRes (trees s)) g) in
+          let m = module-reads (nameOf names) s (sheet-located s ∙ ap (mapRes (trees s)) g) in
           ap (answer 0) (f ∙ ap (λ (b : SheetRead). puts (filled buffer 0)
-          (moduleAt (b .layout .inputs) (b .layout .registers) s (b .layout .wires) (b .layout .threads))) l
+          (moduleAt (nameOf names) s (b .layout .inputs) (b .layout .registers) (b .layout .wires) (b .layout .threads))) l
           ∙ ap (puts (filled buffer 0)) (simp length-map at m))
       by (no n p) g =
           let k : n ≡ 0 = sym (ap number-of e ∙ ap (λ (y : Res (Sheet ℕ)). sheetAnswer y .number) g) ∙ h in

@@ -9,7 +9,6 @@ use Rattle.values.specs.Edges.{edgeOf}
 use Rattle.sheet.specs.Reading.{wordOf}
 use Rattle.writing.specs.Ascii.{ascii}
 use Rattle.writing.specs.Buffer.{Text, filled, puts}
-use Rattle.naming.specs.Naming.{plainName}
 use Rattle.signs.specs.Signs.{operands, lead, constantText, unknownText}
 use Rattle.verilog.specs.declared.Printed.{Printed}
 use Rattle.verilog.specs.Verilog.{_&_, indent, before, edgeText, portsText, declarationText}
@@ -102,15 +101,15 @@ bodiesAt stmt m n (suc k) p =
 unfoldable pub opensAt : List ℕ → ℕ → Bool
 opensAt s p = ltb p (length s) && eqb (shapeOf (getD s p 0) (getD s (p + 1) 0)) 0x1C
 
--- ---- the parts of a sheet s with i inputs and r registers
+-- ---- the parts of a sheet s, by the names of its variables
 
-module _ (i r : ℕ) (s : List ℕ) where
+module _ (name : ℕ → List ℕ) (s : List ℕ) where
   -- ---- expressions
 
   -- The node whose map stands at p, with the byte after it: variable, constant, unknown constant, operator.
   unfoldable pub nodeAt : (ℕ → Shown) → ℕ → ℕ → ℕ → Shown
   nodeAt operand p m b =
-      m is 0x02 then shown (p + 2) (plainName i r b) else
+      m is 0x02 then shown (p + 2) (name b) else
       m is 0x0C then shown (p + 6) (constantText b (wordOf s (p + 2))) else
       m is 0x04 then shown (p + 2) (unknownText b) else
       behind (ascii "(") (operandsAt operand b (operands b) (p + 2))
@@ -124,7 +123,7 @@ module _ (i r : ℕ) (s : List ℕ) where
 
   -- The pair of a wait at p, which is the wait's kth.
   unfoldable pub termAt : ℕ → ℕ → List ℕ
-  termAt k p = before (ascii " or ") k & edgeText (edgeOf (getD s p 0)) & plainName i r (getD s (p + 1) 0)
+  termAt k p = before (ascii " or ") k & edgeText (edgeOf (getD s p 0)) & name (getD s (p + 1) 0)
 
   -- n pairs of a wait, the first at p.
   unfoldable pub termsAt : ℕ → ℕ → ℕ → List ℕ
@@ -135,7 +134,7 @@ module _ (i r : ℕ) (s : List ℕ) where
   unfoldable pub assignAt : List ℕ → ℕ → ℕ → Shown
   assignAt sign n p =
       let e = shownAt 16 (p + 2) in
-      shown (e .next) (indent n & plainName i r (getD s (p + 1) 0) & sign & e .text & ascii ";\n")
+      shown (e .next) (indent n & name (getD s (p + 1) 0) & sign & e .text & ascii ";\n")
 
   -- A word, a condition and the beginning of a block.
   unfoldable pub conditionAt : List ℕ → ℕ → ℕ → Shown
@@ -178,16 +177,16 @@ module _ (i r : ℕ) (s : List ℕ) where
 
   -- ---- the module's parts
 
-  -- n variables from v on, their widths from byte 4 on.
-  unfoldable pub declarationsAt : ℕ → ℕ → List ℕ
-  declarationsAt zero v = []
-  declarationsAt (suc n) v = declarationText (plainName i r) i r v (getD s (4 + v) 0) & declarationsAt n (v + 1)
+  -- n variables from v on, with i inputs and r registers, their widths from byte 4 on.
+  unfoldable pub declarationsAt : ℕ → ℕ → ℕ → ℕ → List ℕ
+  declarationsAt i r zero v = []
+  declarationsAt i r (suc n) v = declarationText name i r v (getD s (4 + v) 0) & declarationsAt i r n (v + 1)
 
   -- The assignment of wire v, whose expression stands at p.
   unfoldable pub wireAt : ℕ → ℕ → Shown
   wireAt v p =
       let e = shownAt 16 p in
-      shown (e .next) (ascii "  assign " & plainName i r v & ascii " = " & e .text & ascii ";\n")
+      shown (e .next) (ascii "  assign " & name v & ascii " = " & e .text & ascii ";\n")
 
   -- n wires, the first variable v with its expression at p.
   unfoldable pub wiresAt : ℕ → ℕ → ℕ → Shown
@@ -214,13 +213,13 @@ module _ (i r : ℕ) (s : List ℕ) where
   threadsAt zero p = shown p []
   threadsAt (suc n) p = behind (threadAt p .text) (threadsAt n (threadAt p .next))
 
-  -- The module with w wires and t threads.
-  unfoldable pub moduleAt : ℕ → ℕ → List ℕ
-  moduleAt w t =
+  -- The module with i inputs, r registers, w wires and t threads.
+  unfoldable pub moduleAt : ℕ → ℕ → ℕ → ℕ → List ℕ
+  moduleAt i r w t =
       let n = i + r + w in
       let es = wiresAt w (i + r) (4 + n) in
-      ascii "module walbryts (" & portsText (plainName i r) i 0 & ascii ");\n"
-      & declarationsAt n 0
+      ascii "module walbryts (" & portsText name i 0 & ascii ");\n"
+      & declarationsAt i r n 0
       & es .text
       & threadsAt t (es .next) .text
       & ascii "endmodule\n"

@@ -33,7 +33,7 @@ use Rattle.sheet.specs.Module.{Module, read}
 use Rattle.writing.specs.Ascii.{ascii, byte}
 use Rattle.writing.specs.Numbers.{decimal}
 use Rattle.writing.specs.Buffer.{Text, filled, puts}
-use Rattle.naming.specs.Naming.{plainName}
+use Rattle.naming.specs.Naming.{plainName, nameOf}
 use Rattle.signs.specs.Signs.{sign, constantText, unknownText}
 
 infixr 60 _&_
@@ -223,8 +223,8 @@ module _ (name : ℕ → List ℕ) where
 unfoldable pub verilogText : Module Expr → List ℕ
 verilogText m = moduleText (plainName (m .scope .inputs) (m .scope .registers)) m
 
--- ---- printed: what the call gives: number 0 and the text at the front of the buffer, or the refusal's number and the buffer as
--- it was. What would pass the buffer's end isn't put.
+-- ---- printed: what the call gives: number 0 and the text, with the names of a table, at the front of the buffer, or the refusal's number
+-- and the buffer as it was. What would pass the buffer's end isn't put.
 
 pub record Answer : Type 0 where
   pub number : ℕ
@@ -233,9 +233,9 @@ pub record Answer : Type 0 where
 abbrev pub answer : ℕ → Text → Answer
 answer number text = record { number = number; text = text }
 
-unfoldable pub printed : List ℕ → Res (Module Expr) → Answer
-printed buffer (ok m) = answer 0 (puts (filled buffer 0) (verilogText m))
-printed buffer (no n p) = answer n (filled buffer 0)
+unfoldable pub printed : List ℕ → List ℕ → Res (Module Expr) → Answer
+printed names buffer (ok m) = answer 0 (puts (filled buffer 0) (moduleText (nameOf names) m))
+printed names buffer (no n p) = answer n (filled buffer 0)
 
-unfoldable pub verilogOf : List ℕ → List ℕ → Answer
-verilogOf s buffer = printed buffer (read s)
+unfoldable pub verilogOf : List ℕ → List ℕ → List ℕ → Answer
+verilogOf s names buffer = printed names buffer (read s)

@@ -1,6 +1,6 @@
 // The module as Verilog text (specs/Verilog.antt), written into a lent buffer of 65,536 bytes.
 // Every contract says: next place in the sheet, buffer and new position are what printing the text at the old position leaves.
-use naming::put_plain;
+use naming::put_name;
 use sheet::byte_at;
 use signs::put_lead;
 use writing::put_byte;
@@ -12,7 +12,7 @@ ghost use Prim.Native.Nat.{_+_, _-_, _<_, _≤_};
 ghost use lib.ListN.{length};
 ghost use Rattle.values.specs.Edges.{edgeOf};
 ghost use Rattle.writing.specs.Buffer.{filled, puts};
-ghost use Rattle.naming.specs.Naming.{plainName};
+ghost use Rattle.naming.specs.Naming.{nameOf};
 ghost use Rattle.verilog.specs.Verilog.{indent, before, edgeText, directionText, rangeText, portsText, declarationText};
 ghost use Rattle.verilog.specs.Verilog.{portText, answer, verilogOf};
 ghost use Rattle.verilog.specs.Printing.{told, leaves, operandsAt, wordAt, shapeOf, bodiesOf, flat, innerLevel, endAt};
@@ -49,23 +49,22 @@ fn print_operands(
     depth: u8,
     n: u8,
     op: u8,
-    inputs: u8,
-    registers: u8,
+    names: &[u8; 2560],
     text: &mut [u8; 65536],
     pos: usize,
 ) -> Printed
     ensures { λ r. ⌜ told r (now (text .exit)) ≡ leaves (filled (now (text .entry)) pos)
-        (operandsAt (shownAt inputs registers (now (sheet .entry)) depth) op n at) ⌝ }
+        (operandsAt (shownAt (nameOf (now (names .entry))) (now (sheet .entry)) depth) op n at) ⌝ }
 {
     if n == 0 {
         let p = put_byte(b')', text, pos);
         return Printed { next: at, pos: p };
     }
     let p = put_lead(op, n, text, pos);
-    let a = print_expr(sheet, at, depth, inputs, registers, text, p);
+    let a = print_expr(sheet, at, depth, names, text, p);
     let next = a.next;
     let q = a.pos;
-    print_operands(sheet, next, depth, n - 1, op, inputs, registers, text, q)
+    print_operands(sheet, next, depth, n - 1, op, names, text, q)
 }
 
 // The expression at a place of the sheet, with so many levels left.
@@ -73,13 +72,12 @@ fn print_expr(
     sheet: &[u8],
     at: usize,
     depth: u8,
-    inputs: u8,
-    registers: u8,
+    names: &[u8; 2560],
     text: &mut [u8; 65536],
     pos: usize,
 ) -> Printed
     ensures { λ r. ⌜ told r (now (text .exit)) ≡ leaves (filled (now (text .entry)) pos)
-        (shownAt inputs registers (now (sheet .entry)) depth at) ⌝ }
+        (shownAt (nameOf (now (names .entry))) (now (sheet .entry)) depth at) ⌝ }
 {
     if depth == 0 {
         return Printed { next: at, pos };
@@ -90,7 +88,7 @@ fn print_expr(
     let map = byte_at(sheet, at);
     let b = byte_at(sheet, at + 1);
     if map == 0x02 {
-        let p = put_plain(inputs, registers, wide(b), text, pos);
+        let p = put_name(names, wide(b), text, pos);
         return Printed {
             next: at + 2,
             pos: p,
@@ -113,7 +111,7 @@ fn print_expr(
     }
     let p = put_byte(b'(', text, pos);
     let n = signs::operands(b);
-    print_operands(sheet, at + 2, depth - 1, n, b, inputs, registers, text, p)
+    print_operands(sheet, at + 2, depth - 1, n, b, names, text, p)
 }
 
 // ---- waits
@@ -145,20 +143,19 @@ fn put_term(
     sheet: &[u8],
     at: usize,
     k: usize,
-    inputs: u8,
-    registers: u8,
+    names: &[u8; 2560],
     text: &mut [u8; 65536],
     pos: usize,
 ) -> usize
     requires { ⌜ at < length (now sheet) + 1000 ⌝ }
     ensures { λ r. ⌜ filled (now (text .exit)) r ≡
-        puts (filled (now (text .entry)) pos) (termAt inputs registers (now (sheet .entry)) k at) ⌝ }
+        puts (filled (now (text .entry)) pos) (termAt (nameOf (now (names .entry))) (now (sheet .entry)) k at) ⌝ }
 {
     let edge = byte_at(sheet, at);
     let v = byte_at(sheet, at + 1);
     let p = put_before(b" or ", k, text, pos);
     let q = put_edge(edge, text, p);
-    put_plain(inputs, registers, wide(v), text, q)
+    put_name(names, wide(v), text, q)
 }
 
 // The pairs of a wait, the first at a place.
@@ -166,21 +163,20 @@ fn put_terms(
     sheet: &[u8],
     at: usize,
     n: u8,
-    inputs: u8,
-    registers: u8,
+    names: &[u8; 2560],
     text: &mut [u8; 65536],
     pos: usize,
 ) -> usize
     requires { ⌜ at < length (now sheet) + 3 ⌝ }
     ensures { λ r. ⌜ filled (now (text .exit)) r ≡
-        puts (filled (now (text .entry)) pos) (termsAt inputs registers (now (sheet .entry)) n 0 at) ⌝ }
+        puts (filled (now (text .entry)) pos) (termsAt (nameOf (now (names .entry))) (now (sheet .entry)) n 0 at) ⌝ }
 {
     let count = wide(n);
     let mut p = pos;
     let mut k: usize = 0;
     let mut q = at;
     while k < count {
-        p = put_term(sheet, q, k, inputs, registers, text, p);
+        p = put_term(sheet, q, k, names, text, p);
         k += 1;
         q += 2;
     }
@@ -202,20 +198,19 @@ fn print_assign(
     at: usize,
     sign: &[u8],
     level: u8,
-    inputs: u8,
-    registers: u8,
+    names: &[u8; 2560],
     text: &mut [u8; 65536],
     pos: usize,
 ) -> Printed
     requires { ⌜ at < length (now sheet) ⌝ }
     ensures { λ r. ⌜ told r (now (text .exit)) ≡ leaves (filled (now (text .entry)) pos)
-        (assignAt inputs registers (now (sheet .entry)) (now (sign .entry)) level at) ⌝ }
+        (assignAt (nameOf (now (names .entry))) (now (sheet .entry)) (now (sign .entry)) level at) ⌝ }
 {
     let target = byte_at(sheet, at + 1);
     let p = put_indent(level, text, pos);
-    let q = put_plain(inputs, registers, wide(target), text, p);
+    let q = put_name(names, wide(target), text, p);
     let w = put_word(sign, text, q);
-    let e = print_expr(sheet, at + 2, 16, inputs, registers, text, w);
+    let e = print_expr(sheet, at + 2, 16, names, text, w);
     let end = put_word(b";\n", text, e.pos);
     Printed {
         next: e.next,
@@ -229,18 +224,17 @@ fn print_condition(
     at: usize,
     word: &[u8],
     level: u8,
-    inputs: u8,
-    registers: u8,
+    names: &[u8; 2560],
     text: &mut [u8; 65536],
     pos: usize,
 ) -> Printed
     requires { ⌜ at < length (now sheet) ⌝ }
     ensures { λ r. ⌜ told r (now (text .exit)) ≡ leaves (filled (now (text .entry)) pos)
-        (conditionAt inputs registers (now (sheet .entry)) (now (word .entry)) level at) ⌝ }
+        (conditionAt (nameOf (now (names .entry))) (now (sheet .entry)) (now (word .entry)) level at) ⌝ }
 {
     let p = put_indent(level, text, pos);
     let w = put_word(word, text, p);
-    let e = print_expr(sheet, at + 1, 16, inputs, registers, text, w);
+    let e = print_expr(sheet, at + 1, 16, names, text, w);
     let end = put_word(b") begin\n", text, e.pos);
     Printed {
         next: e.next,
@@ -254,19 +248,18 @@ fn print_wait(
     at: usize,
     word: &[u8],
     level: u8,
-    inputs: u8,
-    registers: u8,
+    names: &[u8; 2560],
     text: &mut [u8; 65536],
     pos: usize,
 ) -> Printed
     requires { ⌜ at < length (now sheet) + 1 ⌝ }
     ensures { λ r. ⌜ told r (now (text .exit)) ≡ leaves (filled (now (text .entry)) pos)
-        (waitAt inputs registers (now (sheet .entry)) (now (word .entry)) level at) ⌝ }
+        (waitAt (nameOf (now (names .entry))) (now (sheet .entry)) (now (word .entry)) level at) ⌝ }
 {
     let n = byte_at(sheet, at + 1);
     let p = put_indent(level, text, pos);
     let q = put_word(b"@(", text, p);
-    let w = put_terms(sheet, at + 2, n, inputs, registers, text, q);
+    let w = put_terms(sheet, at + 2, n, names, text, q);
     let end = put_word(word, text, w);
     Printed {
         next: at + 2 + 2 * wide(n),
@@ -294,36 +287,26 @@ fn print_heading(
     at: usize,
     shape: u8,
     level: u8,
-    inputs: u8,
-    registers: u8,
+    names: &[u8; 2560],
     text: &mut [u8; 65536],
     pos: usize,
 ) -> Printed
     requires { ⌜ at < length (now sheet) ⌝ }
     ensures { λ r. ⌜ told r (now (text .exit)) ≡ leaves (filled (now (text .entry)) pos)
-        (headingAt inputs registers (now (sheet .entry)) level at shape) ⌝ }
+        (headingAt (nameOf (now (names .entry))) (now (sheet .entry)) level at shape) ⌝ }
 {
     match shape {
         0x00 => print_word(b"begin end\n", at, level, text, pos),
-        0x03 => print_assign(sheet, at, b" = ", level, inputs, registers, text, pos),
-        0x23 => print_assign(sheet, at, b" <= ", level, inputs, registers, text, pos),
+        0x03 => print_assign(sheet, at, b" = ", level, names, text, pos),
+        0x23 => print_assign(sheet, at, b" <= ", level, names, text, pos),
         0x0C => Printed { next: at + 1, pos },
-        0x1C => print_wait(
-            sheet,
-            at + 1,
-            b") begin\n",
-            level,
-            inputs,
-            registers,
-            text,
-            pos,
-        ),
+        0x1C => print_wait(sheet, at + 1, b") begin\n", level, names, text, pos),
         0x2C => print_word(b"begin\n", at, level, text, pos),
-        0x06 => print_condition(sheet, at, b"if (", level, inputs, registers, text, pos),
-        0x0E => print_condition(sheet, at, b"if (", level, inputs, registers, text, pos),
-        0x46 => print_condition(sheet, at, b"while (", level, inputs, registers, text, pos),
+        0x06 => print_condition(sheet, at, b"if (", level, names, text, pos),
+        0x0E => print_condition(sheet, at, b"if (", level, names, text, pos),
+        0x46 => print_condition(sheet, at, b"while (", level, names, text, pos),
         0x44 => print_word(b"forever begin\n", at, level, text, pos),
-        0x10 => print_wait(sheet, at, b");\n", level, inputs, registers, text, pos),
+        0x10 => print_wait(sheet, at, b");\n", level, names, text, pos),
         _ => Printed { next: at, pos },
     }
 }
@@ -411,34 +394,22 @@ fn print_bodies(
     k: u8,
     shape: u8,
     level: u8,
-    inputs: u8,
-    registers: u8,
+    names: &[u8; 2560],
     text: &mut [u8; 65536],
     pos: usize,
 ) -> Printed
     requires { ⌜ level + depth < 128 ⌝ }
     ensures { λ r. ⌜ told r (now (text .exit)) ≡ leaves (filled (now (text .entry)) pos)
-        (bodiesAt (stmtAt inputs registers (now (sheet .entry)) depth) shape level k at) ⌝ }
+        (bodiesAt (stmtAt (nameOf (now (names .entry))) (now (sheet .entry)) depth) shape level k at) ⌝ }
 {
     if k == 0 {
         return Printed { next: at, pos };
     }
     let inner = inner_level(shape, k, level);
-    let a = print_stmt(sheet, at, depth, inner, inputs, registers, text, pos);
+    let a = print_stmt(sheet, at, depth, inner, names, text, pos);
     let next = a.next;
     let p = put_closing(shape, k, level, text, a.pos);
-    print_bodies(
-        sheet,
-        next,
-        depth,
-        k - 1,
-        shape,
-        level,
-        inputs,
-        registers,
-        text,
-        p,
-    )
+    print_bodies(sheet, next, depth, k - 1, shape, level, names, text, p)
 }
 
 // The statement at a place of the sheet, with so many levels left.
@@ -447,14 +418,13 @@ fn print_stmt(
     at: usize,
     depth: u8,
     level: u8,
-    inputs: u8,
-    registers: u8,
+    names: &[u8; 2560],
     text: &mut [u8; 65536],
     pos: usize,
 ) -> Printed
     requires { ⌜ level + depth ≤ 128 ⌝ }
     ensures { λ r. ⌜ told r (now (text .exit)) ≡ leaves (filled (now (text .entry)) pos)
-        (stmtAt inputs registers (now (sheet .entry)) depth level at) ⌝ }
+        (stmtAt (nameOf (now (names .entry))) (now (sheet .entry)) depth level at) ⌝ }
 {
     if depth == 0 {
         return Printed { next: at, pos };
@@ -465,22 +435,11 @@ fn print_stmt(
     let map = byte_at(sheet, at);
     let first = byte_at(sheet, at + 1);
     let shape = shape_of(map, first);
-    let h = print_heading(sheet, at, shape, level, inputs, registers, text, pos);
+    let h = print_heading(sheet, at, shape, level, names, text, pos);
     let next = h.next;
     let p = h.pos;
     let k = bodies_of(shape);
-    print_bodies(
-        sheet,
-        next,
-        depth - 1,
-        k,
-        shape,
-        level,
-        inputs,
-        registers,
-        text,
-        p,
-    )
+    print_bodies(sheet, next, depth - 1, k, shape, level, names, text, p)
 }
 
 // ---- the module's parts
@@ -520,6 +479,7 @@ fn put_range(width: u8, text: &mut [u8; 65536], pos: usize) -> usize
 
 // The line of a variable.
 fn put_declaration(
+    names: &[u8; 2560],
     inputs: u8,
     registers: u8,
     v: usize,
@@ -528,12 +488,12 @@ fn put_declaration(
     pos: usize,
 ) -> usize
     ensures { λ r. ⌜ filled (now (text .exit)) r ≡
-        puts (filled (now (text .entry)) pos) (declarationText (plainName inputs registers) inputs registers v width) ⌝ }
+        puts (filled (now (text .entry)) pos) (declarationText (nameOf (now (names .entry))) inputs registers v width) ⌝ }
 {
     let p = put_word(b"  ", text, pos);
     let q = put_direction(inputs, registers, v, text, p);
     let w = put_range(width, text, q);
-    let e = put_plain(inputs, registers, v, text, w);
+    let e = put_name(names, v, text, w);
     put_word(b";\n", text, e)
 }
 
@@ -541,6 +501,7 @@ fn put_declaration(
 fn put_declarations(
     sheet: &[u8],
     n: usize,
+    names: &[u8; 2560],
     inputs: u8,
     registers: u8,
     text: &mut [u8; 65536],
@@ -548,36 +509,36 @@ fn put_declarations(
 ) -> usize
     requires { ⌜ n < 1000 ⌝ }
     ensures { λ r. ⌜ filled (now (text .exit)) r ≡
-        puts (filled (now (text .entry)) pos) (declarationsAt inputs registers (now (sheet .entry)) n 0) ⌝ }
+        puts (filled (now (text .entry)) pos) (declarationsAt (nameOf (now (names .entry))) (now (sheet .entry)) inputs registers n 0) ⌝ }
 {
     let mut p = pos;
     let mut v = 0;
     while v < n {
         let width = byte_at(sheet, 4 + v);
-        p = put_declaration(inputs, registers, v, width, text, p);
+        p = put_declaration(names, inputs, registers, v, width, text, p);
         v += 1;
     }
     p
 }
 
 // A name behind a comma, the first behind nothing.
-fn put_port(inputs: u8, registers: u8, v: usize, text: &mut [u8; 65536], pos: usize) -> usize
+fn put_port(names: &[u8; 2560], v: usize, text: &mut [u8; 65536], pos: usize) -> usize
     ensures { λ r. ⌜ filled (now (text .exit)) r ≡
-        puts (filled (now (text .entry)) pos) (portText (plainName inputs registers) v) ⌝ }
+        puts (filled (now (text .entry)) pos) (portText (nameOf (now (names .entry))) v) ⌝ }
 {
     let p = put_before(b", ", v, text, pos);
-    put_plain(inputs, registers, v, text, p)
+    put_name(names, v, text, p)
 }
 
 // The names of the first `n` variables.
-fn put_ports(n: usize, inputs: u8, registers: u8, text: &mut [u8; 65536], pos: usize) -> usize
+fn put_ports(n: usize, names: &[u8; 2560], text: &mut [u8; 65536], pos: usize) -> usize
     ensures { λ r. ⌜ filled (now (text .exit)) r ≡
-        puts (filled (now (text .entry)) pos) (portsText (plainName inputs registers) n 0) ⌝ }
+        puts (filled (now (text .entry)) pos) (portsText (nameOf (now (names .entry))) n 0) ⌝ }
 {
     let mut p = pos;
     let mut v = 0;
     while v < n {
-        p = put_port(inputs, registers, v, text, p);
+        p = put_port(names, v, text, p);
         v += 1;
     }
     p
@@ -588,18 +549,17 @@ fn print_wire(
     sheet: &[u8],
     at: usize,
     v: usize,
-    inputs: u8,
-    registers: u8,
+    names: &[u8; 2560],
     text: &mut [u8; 65536],
     pos: usize,
 ) -> Printed
     ensures { λ r. ⌜ told r (now (text .exit)) ≡ leaves (filled (now (text .entry)) pos)
-        (wireAt inputs registers (now (sheet .entry)) v at) ⌝ }
+        (wireAt (nameOf (now (names .entry))) (now (sheet .entry)) v at) ⌝ }
 {
     let p = put_word(b"  assign ", text, pos);
-    let q = put_plain(inputs, registers, v, text, p);
+    let q = put_name(names, v, text, p);
     let w = put_word(b" = ", text, q);
-    let e = print_expr(sheet, at, 16, inputs, registers, text, w);
+    let e = print_expr(sheet, at, 16, names, text, w);
     let end = put_word(b";\n", text, e.pos);
     Printed {
         next: e.next,
@@ -613,20 +573,19 @@ fn print_wires(
     at: usize,
     n: usize,
     first: usize,
-    inputs: u8,
-    registers: u8,
+    names: &[u8; 2560],
     text: &mut [u8; 65536],
     pos: usize,
 ) -> Printed
     requires { ⌜ first + n < 1000 ⌝ }
     ensures { λ r. ⌜ told r (now (text .exit)) ≡ leaves (filled (now (text .entry)) pos)
-        (wiresAt inputs registers (now (sheet .entry)) n first at) ⌝ }
+        (wiresAt (nameOf (now (names .entry))) (now (sheet .entry)) n first at) ⌝ }
 {
     let mut next = at;
     let mut p = pos;
     let mut k = 0;
     while k < n {
-        let w = print_wire(sheet, next, first + k, inputs, registers, text, p);
+        let w = print_wire(sheet, next, first + k, names, text, p);
         next = w.next;
         p = w.pos;
         k += 1;
@@ -650,16 +609,15 @@ fn opens(sheet: &[u8], at: usize) -> bool
 fn print_block(
     sheet: &[u8],
     at: usize,
-    inputs: u8,
-    registers: u8,
+    names: &[u8; 2560],
     text: &mut [u8; 65536],
     pos: usize,
 ) -> Printed
     ensures { λ r. ⌜ told r (now (text .exit)) ≡ leaves (filled (now (text .entry)) pos)
-        (blockAt inputs registers (now (sheet .entry)) at) ⌝ }
+        (blockAt (nameOf (now (names .entry))) (now (sheet .entry)) at) ⌝ }
 {
     let p = put_word(b"  always begin\n", text, pos);
-    let a = print_stmt(sheet, at, 64, 2, inputs, registers, text, p);
+    let a = print_stmt(sheet, at, 64, 2, names, text, p);
     let end = put_word(b"  end\n", text, a.pos);
     Printed {
         next: a.next,
@@ -671,18 +629,17 @@ fn print_block(
 fn print_waiting(
     sheet: &[u8],
     at: usize,
-    inputs: u8,
-    registers: u8,
+    names: &[u8; 2560],
     text: &mut [u8; 65536],
     pos: usize,
 ) -> Printed
     requires { ⌜ at < length (now sheet) ⌝ }
     ensures { λ r. ⌜ told r (now (text .exit)) ≡ leaves (filled (now (text .entry)) pos)
-        (waitingAt inputs registers (now (sheet .entry)) at) ⌝ }
+        (waitingAt (nameOf (now (names .entry))) (now (sheet .entry)) at) ⌝ }
 {
     let p = put_word(b"  always ", text, pos);
-    let w = print_wait(sheet, at + 1, b") begin\n", 0, inputs, registers, text, p);
-    let a = print_stmt(sheet, w.next, 63, 2, inputs, registers, text, w.pos);
+    let w = print_wait(sheet, at + 1, b") begin\n", 0, names, text, p);
+    let a = print_stmt(sheet, w.next, 63, 2, names, text, w.pos);
     let end = put_word(b"  end\n", text, a.pos);
     Printed {
         next: a.next,
@@ -694,18 +651,17 @@ fn print_waiting(
 fn print_thread(
     sheet: &[u8],
     at: usize,
-    inputs: u8,
-    registers: u8,
+    names: &[u8; 2560],
     text: &mut [u8; 65536],
     pos: usize,
 ) -> Printed
     ensures { λ r. ⌜ told r (now (text .exit)) ≡ leaves (filled (now (text .entry)) pos)
-        (threadAt inputs registers (now (sheet .entry)) at) ⌝ }
+        (threadAt (nameOf (now (names .entry))) (now (sheet .entry)) at) ⌝ }
 {
     if opens(sheet, at) {
-        return print_waiting(sheet, at, inputs, registers, text, pos);
+        return print_waiting(sheet, at, names, text, pos);
     }
-    print_block(sheet, at, inputs, registers, text, pos)
+    print_block(sheet, at, names, text, pos)
 }
 
 // `n` threads, the first one's statement at `at`.
@@ -713,19 +669,18 @@ fn print_threads(
     sheet: &[u8],
     at: usize,
     n: u8,
-    inputs: u8,
-    registers: u8,
+    names: &[u8; 2560],
     text: &mut [u8; 65536],
     pos: usize,
 ) -> Printed
     ensures { λ r. ⌜ told r (now (text .exit)) ≡ leaves (filled (now (text .entry)) pos)
-        (threadsAt inputs registers (now (sheet .entry)) n at) ⌝ }
+        (threadsAt (nameOf (now (names .entry))) (now (sheet .entry)) n at) ⌝ }
 {
     let mut next = at;
     let mut p = pos;
     let mut k: u8 = 0;
     while k < n {
-        let a = print_thread(sheet, next, inputs, registers, text, p);
+        let a = print_thread(sheet, next, names, text, p);
         next = a.next;
         p = a.pos;
         k += 1;
@@ -736,6 +691,7 @@ fn print_threads(
 // The module with these counts.
 fn print_module(
     sheet: &[u8],
+    names: &[u8; 2560],
     inputs: u8,
     registers: u8,
     wires: u8,
@@ -743,16 +699,16 @@ fn print_module(
     text: &mut [u8; 65536],
 ) -> usize
     ensures { λ r. ⌜ filled (now (text .exit)) r ≡
-        puts (filled (now (text .entry)) 0) (moduleAt inputs registers (now (sheet .entry)) wires threads) ⌝ }
+        puts (filled (now (text .entry)) 0) (moduleAt (nameOf (now (names .entry))) (now (sheet .entry)) inputs registers wires threads) ⌝ }
 {
     let first = wide(inputs) + wide(registers);
     let n = first + wide(wires);
     let a = put_word(b"module walbryts (", text, 0);
-    let b = put_ports(wide(inputs), inputs, registers, text, a);
+    let b = put_ports(wide(inputs), names, text, a);
     let c = put_word(b");\n", text, b);
-    let d = put_declarations(sheet, n, inputs, registers, text, c);
-    let w = print_wires(sheet, 4 + n, wide(wires), first, inputs, registers, text, d);
-    let t = print_threads(sheet, w.next, threads, inputs, registers, text, w.pos);
+    let d = put_declarations(sheet, n, names, inputs, registers, text, c);
+    let w = print_wires(sheet, 4 + n, wide(wires), first, names, text, d);
+    let t = print_threads(sheet, w.next, threads, names, text, w.pos);
     put_word(b"endmodule\n", text, t.pos)
 }
 
@@ -760,9 +716,9 @@ fn print_module(
 
 // The module of a sheet as Verilog text at the front of the buffer. What would pass the buffer's end isn't put. A refused sheet
 // leaves the buffer as it was.
-pub fn print(sheet: &[u8], text: &mut [u8; 65536]) -> Text
+pub fn print(sheet: &[u8], names: &[u8; 2560], text: &mut [u8; 65536]) -> Text
     ensures { λ r. ⌜ answer (r .number) (filled (now (text .exit)) (r .length)) ≡
-        verilogOf (now (sheet .entry)) (now (text .entry)) ⌝ }
+        verilogOf (now (sheet .entry)) (now (names .entry)) (now (text .entry)) ⌝ }
 {
     let read = sheet::read(sheet);
     let number = read.number;
@@ -770,6 +726,14 @@ pub fn print(sheet: &[u8], text: &mut [u8; 65536]) -> Text
         return Text { number, length: 0 };
     }
     let l = read.layout;
-    let length = print_module(sheet, l.inputs, l.registers, l.wires, l.threads, text);
+    let length = print_module(
+        sheet,
+        names,
+        l.inputs,
+        l.registers,
+        l.wires,
+        l.threads,
+        text,
+    );
     Text { number: 0, length }
 }

@@ -10,5 +10,6 @@ pub mod Plain
 pub mod Sheet
 pub mod Unique
 pub mod Limits
+pub mod Named
 pub mod Back
 pub mod Samples

@@ -8,9 +8,17 @@ use Rattle.sheet.specs.Reading as Sheet
 use Rattle.sheet.specs.Expression.{Expr}
 use Rattle.sheet.specs.Module.{Module, read}
 use Rattle.encoding.specs.Encoding.{Bytes, encode}
-use Rattle.verilog.specs.Verilog.{verilogText}
+use Rattle.writing.specs.Buffer.{filled, puts}
+use Rattle.naming.specs.Naming.{plainTable}
+use Rattle.verilog.specs.Verilog.{verilogText, answer, verilogOf}
 use Rattle.verilog_source.specs.Compiled.{accepted, judged, compiled}
 use Rattle.verilog_back.specs.Returned.{returnedModule, Fits, allOpen, codeOf}
+
+-- ---- With the table of the plain names the call prints the text with these names, which the claims below speak of.
+
+unfoldable pub PlainlyPrinted : Type 0
+PlainlyPrinted = (s buffer : List ℕ) (m : Module Expr) → Bytes s → read s ≡ Sheet.ok m
+    → verilogOf s (plainTable (m .scope .inputs) (m .scope .registers)) buffer ≡ answer 0 (puts (filled buffer 0) (verilogText m))
 
 -- ---- The printed Verilog of every sheet is text of the language (never 42), and its names have no fault (never 43). So where its length
 -- and the lent bytes' are right, it has the answer of the sheet that comes back: this sheet and its length, or its own number.

@@ -5,11 +5,11 @@ use Rattle.verilog.proofs.print.Statement.{statement}
 use Rattle.verilog.proofs.print.Tie as tie
 
 returns : tie.Need-returns
-returns c = print-refused _ _ _ (c .before .read .ensures) (c .if1 .taken)
+returns c = print-refused _ _ _ _ (c .before .read .ensures) (c .if1 .taken)
 
 returns-2 : tie.Need-returns-2
 returns-2 c =
-    print-read _ _ _ (c .before .before .before .before .read .ensures) (c .before .before .before .if1 .left)
+    print-read _ _ _ _ (c .before .before .before .before .read .ensures) (c .before .before .before .if1 .left)
     (c .print-module .ensures)
 
 pub print-spec : {M : Type 1} → statement M

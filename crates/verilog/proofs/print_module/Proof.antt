@@ -4,6 +4,7 @@ use Prim.Native.Nat.{_+_}
 use native.Mathlib.Omega.{arith}
 use borrow.Author.Needs.{needs}
 use Rattle.writing.specs.Ascii.{ascii}
+use Rattle.naming.specs.Naming.{nameOf}
 use Rattle.verilog.proofs.Printing.{module-path}
 use Rattle.verilog.proofs.print_module.Statement.{statement}
 use Rattle.verilog.proofs.print_module.Tie as tie
@@ -20,7 +21,7 @@ returns c =
     let count : c3 .before .wide .result + c3 .wide2 .result + c2 .before .before .before .before .before .before .wide3 .result
     ≡ a .inputs + a .registers + a .wires = omega
     (arith, c3 .before .wide .ensures, c3 .wide2 .ensures, c2 .before .before .before .before .before .before .wide3 .ensures) in
-    module-path (a .inputs) (a .registers) (a .sheet .now) (a .wires) (a .threads) _ _ _ _ _ first count (c1 .wide5 .ensures)
+    module-path (nameOf (a .names .now)) (a .sheet .now) (a .inputs) (a .registers) (a .wires) (a .threads) _ _ _ _ _ first count (c1 .wide5 .ensures)
     (c2 .before .before .wide4 .ensures) (c2 .before .before .before .put-word .ensures) (c2 .put-ports .ensures)
     (c1 .before .before .before .put-word2 .ensures) (c1 .before .put-declarations .ensures)
     (c .before .before .before .before .before .print-wires .ensures) (c .before .before .before .print-threads .ensures)

@@ -9,7 +9,7 @@ returns : tie.Need-returns
 unfolding ascii
 returns c =
     let c1 = c .before .before .before .before .before in
-    wait-path _ _ _ _ _ _ _ (c1 .before .before .before .before .before .byte-at .ensures) (c .wide .ensures)
+    wait-path _ _ _ _ _ _ (c1 .before .before .before .before .before .byte-at .ensures) (c .wide .ensures)
     (c1 .before .before .before .put-indent .ensures) (c1 .put-word .ensures)
     (c .before .before .before .put-terms .ensures) (c .before .put-word2 .ensures)
 

@@ -13,7 +13,7 @@ returns c =
     both _ _ _ _ _ (c1 .before .before .put-word .ensures)
     (both _ _ _ _ _ (c1 .put-direction .ensures)
     (both _ _ _ _ _ (c .before .before .before .before .before .put-range .ensures)
-    (both _ _ _ _ _ (c .before .before .before .put-plain .ensures) (c .put-word2 .ensures))))
+    (both _ _ _ _ _ (c .before .before .before .put-name .ensures) (c .put-word2 .ensures))))
 
 pub put-declaration-spec : {M : Type 1} → statement M
 put-declaration-spec =

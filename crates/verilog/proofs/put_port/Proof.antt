@@ -8,7 +8,7 @@ use Rattle.verilog.proofs.put_port.Tie as tie
 
 returns : tie.Need-returns
 unfolding ascii portText
-returns c = both _ _ _ _ _ (c .before .before .put-before .ensures) (c .put-plain .ensures)
+returns c = both _ _ _ _ _ (c .before .before .put-before .ensures) (c .put-name .ensures)
 
 pub put-port-spec : {M : Type 1} → statement M
 put-port-spec =

@@ -5,33 +5,33 @@ use native.Mathlib.Omega.{arith}
 use borrow.Author.Needs.{needs}
 use Rattle.writing.specs.Buffer.{filled, puts}
 use Rattle.writing.proofs.Buffer.{puts-nil}
-use Rattle.naming.specs.Naming.{plainName}
+use Rattle.naming.specs.Naming.{nameOf}
 use Rattle.verilog.specs.Verilog.{portsText}
 use Rattle.verilog.proofs.Printing.{ports-turn, ports-end}
 use Rattle.verilog.proofs.put_ports.Statement.{statement}
 use Rattle.verilog.proofs.put_ports.Tie as tie
 
 abbrev Inv-loop : tie.InvT-loop
-Inv-loop n inputs registers text₀ pos p₀ v₀ text p v =
+Inv-loop n names text₀ pos p₀ v₀ text p v =
     (v ≤ n)
-    × (puts (filled text p) (portsText (plainName inputs registers) (n - v) v) ≡ puts (filled text₀ pos)
-    (portsText (plainName inputs registers) n 0))
+    × (puts (filled text p) (portsText (nameOf names) (n - v) v) ≡ puts (filled text₀ pos)
+    (portsText (nameOf names) n 0))
 
 abbrev μ-loop : tie.MeasureT-loop
-μ-loop n inputs registers text₀ pos p₀ v₀ text p v = n - v
+μ-loop n names text₀ pos p₀ v₀ text p v = n - v
 
 loop-holds : tie.Need-loop-holds Inv-loop μ-loop
 loop-holds c =
     let a = c .args in
     let whole : a .n - 0 ≡ a .n = omega arith in
-    (search needs, ap (λ m. puts (filled (a .text .now) (a .pos)) (portsText (plainName (a .inputs) (a .registers)) m 0)) whole)
+    (search needs, ap (λ m. puts (filled (a .text .now) (a .pos)) (portsText (nameOf (a .names .now)) m 0)) whole)
 
 loop-again : tie.Need-loop-again Inv-loop μ-loop
 loop-again c =
     let a = c .before .before .before .before .args in
     let l = c .before .before .before .loop in (
       search needs,
-      ports-turn (plainName (a .inputs) (a .registers)) (a .n) (l .v) (filled (l .text) (l .p)) _
+      ports-turn (nameOf (a .names .now)) (a .n) (l .v) (filled (l .text) (l .p)) _
           (c .before .before .loop-test .taken) (c .put-port .ensures)
           ∙ l .inv .1,
     )
@@ -40,7 +40,7 @@ returns : tie.Need-returns Inv-loop μ-loop
 returns c =
     let a = c .before .before .args in
     let l = c .before .loop in
-    let e = ports-end (plainName (a .inputs) (a .registers)) (a .n) (l .v) (c .loop-test .left) in
+    let e = ports-end (nameOf (a .names .now)) (a .n) (l .v) (c .loop-test .left) in
     sym (puts-nil _) ∙ ap (λ x. puts (filled (l .text) (l .p)) x) (sym e) ∙ l .inv .1
 
 pub put-ports-spec : {M : Type 1} → statement M

@@ -12,7 +12,7 @@ returns c =
     let c1 = c .before .before .before .before .before .before .before .before in
     rw (← c1 .before .byte-at .ensures, ← c1 .byte-at2 .ensures, ← c .before .before .wide .ensures)
     (both _ _ _ _ _ (c .before .before .before .before .before .put-before .ensures)
-    (both _ _ _ _ _ (c .before .before .before .put-edge .ensures) (c .put-plain .ensures)))
+    (both _ _ _ _ _ (c .before .before .before .put-edge .ensures) (c .put-name .ensures)))
 
 pub put-term-spec : {M : Type 1} → statement M
 put-term-spec =

@@ -5,19 +5,20 @@ use native.Mathlib.Omega.{arith}
 use borrow.Author.Needs.{needs}
 use Rattle.writing.specs.Buffer.{filled, puts}
 use Rattle.writing.proofs.Buffer.{puts-nil}
+use Rattle.naming.specs.Naming.{nameOf}
 use Rattle.verilog.specs.Printing.{termsAt}
 use Rattle.verilog.proofs.Printing.{terms-turn, terms-end}
 use Rattle.verilog.proofs.put_terms.Statement.{statement}
 use Rattle.verilog.proofs.put_terms.Tie as tie
 
 abbrev Inv-loop : tie.InvT-loop
-Inv-loop sheet at n inputs registers text₀ pos count p₀ k₀ q₀ text p k q =
+Inv-loop sheet at n names text₀ pos count p₀ k₀ q₀ text p k q =
     (k ≤ count) × (q ≡ at + 2 * k)
-    × (puts (filled text p) (termsAt inputs registers sheet (count - k) k q) ≡ puts (filled text₀ pos)
-    (termsAt inputs registers sheet n 0 at))
+    × (puts (filled text p) (termsAt (nameOf names) sheet (count - k) k q) ≡ puts (filled text₀ pos)
+    (termsAt (nameOf names) sheet n 0 at))
 
 abbrev μ-loop : tie.MeasureT-loop
-μ-loop sheet at n inputs registers text₀ pos count p₀ k₀ q₀ text p k q = count - k
+μ-loop sheet at n names text₀ pos count p₀ k₀ q₀ text p k q = count - k
 
 loop-holds : tie.Need-loop-holds Inv-loop μ-loop
 loop-holds c =
@@ -26,7 +27,7 @@ loop-holds c =
       search needs,
       search needs,
       ap
-          (λ m. puts (filled (a .text .now) (a .pos)) (termsAt (a .inputs) (a .registers) (a .sheet .now) m 0 (a .at))) whole,
+          (λ m. puts (filled (a .text .now) (a .pos)) (termsAt (nameOf (a .names .now)) (a .sheet .now) m 0 (a .at))) whole,
     )
 
 put-term-requires : tie.Need-put-term-requires Inv-loop μ-loop
@@ -40,7 +41,7 @@ loop-again c =
     let l = c .before .before .before .loop in (
       search needs,
       search needs,
-      terms-turn (a .inputs) (a .registers) (a .sheet .now) (c .before .before .before .before .wide .result) (l .k) (l .q)
+      terms-turn (nameOf (a .names .now)) (a .sheet .now) (c .before .before .before .before .wide .result) (l .k) (l .q)
           (filled (l .text) (l .p)) _ (c .before .before .loop-test .taken) (c .put-term .ensures)
           ∙ l .inv .2,
     )
@@ -49,7 +50,7 @@ returns : tie.Need-returns Inv-loop μ-loop
 returns c =
     let a = c .before .before .before .before .args in
     let l = c .before .loop in
-    let e = terms-end (a .inputs) (a .registers) (a .sheet .now) (c .before .before .wide .result) (l .k) (l .q)
+    let e = terms-end (nameOf (a .names .now)) (a .sheet .now) (c .before .before .wide .result) (l .k) (l .q)
     (c .loop-test .left) in
     sym (puts-nil _) ∙ ap (λ x. puts (filled (l .text) (l .p)) x) (sym e) ∙ l .inv .2
 
