@@ -11,7 +11,7 @@ use lib.Pow.{areBytes}
 use borrow.Author.Tests.{ltb-true}
 use Rattle.values.specs.Edges.{edgeNumber}
 use Rattle.sheet.specs.declared.EdgeTerm.{EdgeTerm}
-use Rattle.sheet.specs.Expression.{Expr, variable, constant, unknown, unary, binary, conditional}
+use Rattle.sheet.specs.Expression.{Expr, variable, constant, unknown, unary, binary, conditional, call}
 use Rattle.sheet.specs.Statement.{Stmt, empty, assign, later, sequence, ifThen, ifElse, while, forever, wait, Scope}
 use Rattle.sheet.specs.Module.{Module}
 use Rattle.encoding.specs.Encoding.{Bytes, encodeWord, encodeExpr, encodeTerms, encodeStmt, encodeWires, encodeThreads, encode}
@@ -70,6 +70,7 @@ module _ (ws : List ℕ) (few : length ws ≤ 256) where
       (bytes-append
       (bytes-append (expr-bytes d c (t .0 .0) (t .0 .1)) (expr-bytes d a w (t .1)))
       (expr-bytes d b w (t .2))))
+  expr-bytes (suc d) (call n k ys b) w t = absurd t
 
   pub terms-bytes : (ts : List EdgeTerm) → PairsFit ws ts → AllBytes (encodeTerms ts)
   unfolding PairsFit encodeTerms

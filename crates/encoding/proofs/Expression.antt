@@ -8,7 +8,7 @@ use mathlib.Core.List.{List, _++_}
 use lib.ListN.{length, getD}
 use lib.Pow.{pow-mono}
 use Rattle.sheet.specs.Reading.{ok}
-use Rattle.sheet.specs.Expression.{Expr, variable, constant, unknown, unary, binary, conditional, Parsed, tree}
+use Rattle.sheet.specs.Expression.{Expr, variable, constant, unknown, unary, binary, conditional, call, Parsed, tree}
 use Rattle.sheet.proofs.Reading.{Within}
 use Rattle.sheet.proofs.Expression.{Reads, a-variable, a-constant, an-unknown, a-unary, a-binary, a-conditional, derive, accept}
 use Rattle.encoding.specs.Encoding.{Bytes, encodeWord, encodeExpr}
@@ -82,6 +82,7 @@ spells-reads {d = suc d} (conditional c a b) t r =
     (spells-reads a (t .1) (x .1))
     (spells-reads b (t .2) (y .1))
     refl
+spells-reads {d = suc d} (call n k ys b) t r = absurd t
 
 -- ---- tree
 

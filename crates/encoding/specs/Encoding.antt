@@ -5,7 +5,7 @@ use mathlib.Core.List.{List, [], _∷_, _++_}
 use lib.ListN.{length, getD}
 use Rattle.values.specs.Edges.{edgeNumber}
 use Rattle.sheet.specs.declared.EdgeTerm.{EdgeTerm}
-use Rattle.sheet.specs.Expression.{Expr, variable, constant, unknown, unary, binary, conditional}
+use Rattle.sheet.specs.Expression.{Expr, variable, constant, unknown, unary, binary, conditional, call, Arguments, no-more, argument}
 use Rattle.sheet.specs.Statement.{Stmt, empty, assign, later, sequence, ifThen, ifElse, while, forever, wait}
 use Rattle.sheet.specs.Module.{Module}
 
@@ -22,13 +22,20 @@ encodeWord n = n % 256 ∷ n / 256 % 256 ∷ n / 65536 % 256 ∷ n / 16777216 % 
 
 -- "Expression bits: 0 operator byte; 1 variable byte; 2 constant's width; 3 constant's value (4 bytes);
 -- 4, 5, 6 operands." An operator's width isn't written: it is its operands'.
-unfoldable pub encodeExpr : Expr → List ℕ
-encodeExpr (variable v) = 0x02 ∷ v ∷ []
-encodeExpr (constant w v) = 0x0C ∷ w ∷ encodeWord v
-encodeExpr (unknown w) = 0x04 ∷ w ∷ []
-encodeExpr (unary o w a) = 0x11 ∷ o ∷ encodeExpr a
-encodeExpr (binary o w a b) = 0x31 ∷ o ∷ (encodeExpr a ++ encodeExpr b)
-encodeExpr (conditional c a b) = 0x71 ∷ 10 ∷ (encodeExpr c ++ encodeExpr a ++ encodeExpr b)
+unfoldable mutual
+  pub encodeExpr : Expr → List ℕ
+  encodeExpr (variable v) = 0x02 ∷ v ∷ []
+  encodeExpr (constant w v) = 0x0C ∷ w ∷ encodeWord v
+  encodeExpr (unknown w) = 0x04 ∷ w ∷ []
+  encodeExpr (unary o w a) = 0x11 ∷ o ∷ encodeExpr a
+  encodeExpr (binary o w a b) = 0x31 ∷ o ∷ (encodeExpr a ++ encodeExpr b)
+  encodeExpr (conditional c a b) = 0x71 ∷ 10 ∷ (encodeExpr c ++ encodeExpr a ++ encodeExpr b)
+  -- Document 02, [5]: "expression map 80h holds a function number [..], then the arguments".
+  encodeExpr (call n w ys b) = 0x80 ∷ n ∷ encodeAll ys
+
+  pub encodeAll : Arguments → List ℕ
+  encodeAll no-more = []
+  encodeAll (argument e ys) = encodeExpr e ++ encodeAll ys
 
 -- ---- statements
 

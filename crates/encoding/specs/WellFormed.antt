@@ -7,7 +7,7 @@ use Rattle.values.specs.Operators.{unaryWidth, binaryWidth}
 use Rattle.values.specs.declared.Edge.{Edge}
 use Rattle.values.specs.declared.Edge.the-variants.{Change, Posedge, Negedge}
 use Rattle.sheet.specs.declared.EdgeTerm.{EdgeTerm}
-use Rattle.sheet.specs.Expression.{Expr, variable, constant, unknown, unary, binary, conditional}
+use Rattle.sheet.specs.Expression.{Expr, variable, constant, unknown, unary, binary, conditional, call}
 use Rattle.sheet.specs.Statement.{Stmt, empty, assign, later, sequence, ifThen, ifElse, while, forever, wait, size, Scope}
 use Rattle.sheet.specs.Module.{Module}
 use Rattle.encoding.specs.Encoding.{encode}
@@ -32,6 +32,8 @@ WellTyped ws (suc d) (unary o k a) w = Between 1 2 o × WellTyped ws d a k × (w
 WellTyped ws (suc d) (binary o k a b) w = Between 3 9 o × WellTyped ws d a k × WellTyped ws d b k × (w ≡ binaryWidth o k)
 -- "71h with 10 ?:": equal widths "have the last two of 10"; the condition has any.
 WellTyped ws (suc d) (conditional c a b) w = ((k : ℕ) × WellTyped ws d c k) × WellTyped ws d a w × WellTyped ws d b w
+-- A sheet without functions has no map for a call.
+WellTyped ws (suc d) (call n k ys b) w = ⊥
 
 -- "Depth at most 16."
 abbrev pub HasWidth : List ℕ → Expr → ℕ → Type 0

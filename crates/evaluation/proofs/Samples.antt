@@ -1,11 +1,14 @@
--- Worked examples, computed: what the code answers at place 0 of some bytes, by its definition.
+-- Worked examples, computed: what the code answers at place 0 of some bytes, by its definition; what a call is worth.
 use mathlib.Core.Path.{_≡_, refl}
+use mathlib.Core.Bool.{true, false}
 use mathlib.Core.List.{List, [], _∷_}
 use Prim.Native.Nat.{ℕ, zero, suc}
 use Rattle.values.specs.declared.Value.{Value}
 use Rattle.values.specs.Values.{known, ones, allUnknown, holds}
 use Rattle.values.specs.Operators.{binaryWidth, sum, difference, flag, possible, marked, between, certain, both, binary, agreed, choice}
 use Rattle.sheet.specs.Reading.{word, wordOf}
+use Rattle.sheet.specs.Expression as trees
+use Rattle.evaluation.specs.Evaluation.{eval, reads}
 use Rattle.evaluation.specs.Bytes.{nothing, variableNode, binaryNode, conditionalNode, innerNode, nodeAt, evalAt}
 
 -- Variable 0 is the clock, 1 and 2 have width 4, 3 has width 8.
@@ -52,3 +55,26 @@ sample-deep = refl
 pub sample-empty : evalAt 16 [] widths env 0 ≡ nothing
 unfolding evalAt nodeAt innerNode
 sample-empty = refl
+
+-- ---- calls
+
+-- f(a, limit): if (limit < a) f = limit; else f = a; called as f(v1, v2).
+abbrev clamp : trees.Expr
+clamp =
+    trees.call 0 4 (trees.argument (trees.variable 1) (trees.argument (trees.variable 2) trees.no-more))
+    (trees.ifElse (trees.binary 9 4 (trees.variable 1) (trees.variable 0)) (trees.result (trees.variable 1)) (trees.result (trees.variable 0)))
+
+-- 15 with the limit 5.
+pub sample-clamp : eval env clamp ≡ known 5
+unfolding eval binary certain marked known flag holds
+sample-clamp = refl
+
+-- "the result, the only target, which starts unknown": a body that assigns nothing.
+pub sample-result : eval (λ v. known 7) (trees.call 0 4 (trees.argument (trees.variable 1) trees.no-more) trees.nothing) ≡ allUnknown 4
+unfolding eval
+sample-result = refl
+
+-- It reads variables 1 and 2; its body's variable 0 is the first argument.
+pub sample-reads : (reads clamp 0 ≡ false) × (reads clamp 1 ≡ true) × (reads clamp 2 ≡ true)
+unfolding reads
+sample-reads = (refl, refl, refl)

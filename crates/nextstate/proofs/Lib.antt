@@ -1,4 +1,5 @@
 pub mod Samples
+pub mod Calls
 pub mod Watchdog
 pub mod Numbers
 pub mod Ruled

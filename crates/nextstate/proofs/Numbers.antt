@@ -11,14 +11,15 @@ use lib.Dec.{ltb, eqb}
 use borrow.Author.Tests.{eq-eqb, ne-eqb}
 use Rattle.values.specs.Values.{pick}
 use Rattle.sheet.specs.Reading.{Res, ok, no, _>>=_, _>>_, check}
-use Rattle.sheet.specs.Expression.{Expr, variable, constant, unknown, unary, binary, conditional, tree}
+use Rattle.sheet.specs.Expression.{Expr, variable, constant, unknown, unary, binary, conditional, call, Arguments, no-more, argument, tree}
+use Rattle.sheet.specs.Expression.{Body, nothing, result, inTurn, ifThen, ifElse}
 use Rattle.sheet.specs.Module.{Module, Sheet, readSheet, read}
 use Rattle.sheet.proofs.Numbers.{numbered-no, tree-numbered, sheet-numbered}
 use Rattle.pseudocode.specs.Translation.{Instr, wait!, set!, later!, go, ifnot}
 use Rattle.events.specs.Cycle.{codeOf, instrAt, isWait}
 use Rattle.nextstate.specs.Rules.{writes, rule}
 use Rattle.nextstate.specs.Nodes.{Node, allWords, padded}
-use Rattle.nextstate.specs.Walk.{emit, express, Held, Walked, mergeOne, merge, visit, walk}
+use Rattle.nextstate.specs.Walk.{Emitted, emit, heldIn, ends, express, expressAll, follow, Held, Walked, mergeOne, merge, visit, walk}
 use Rattle.nextstate.specs.Accepted.{Acceptable, AcceptsExactly}
 use Rattle.nextstate.specs.Extraction.{Tables, walkFrom, walksBelow, threadsBelow, extracted, expressions, filled, rightLengths, extract}
 
@@ -50,19 +51,47 @@ emit-numbered : (t : List Node) (n : Node) → Numbered (emit t n)
 unfolding emit
 emit-numbered t n = checked (ltb (length t) 4096) 21 0 _ (omega arith) (taken _)
 
-express-numbered : (held : ℕ → ℕ) (e : Expr) (t : List Node) → Numbered (express held e t)
-unfolding express
-express-numbered held (variable v) t = taken _
-express-numbered held (constant w n) t = emit-numbered t _
-express-numbered held (unknown w) t = emit-numbered t _
-express-numbered held (unary o w a) t = bind (express held a t) _ (express-numbered held a t) (λ x. emit-numbered (x .nodes) _)
-express-numbered held (binary o w a b) t =
-    bind (express held a t) _ (express-numbered held a t)
-    (λ x. bind (express held b (x .nodes)) _ (express-numbered held b (x .nodes)) (λ y. emit-numbered (y .nodes) _))
-express-numbered held (conditional c a b) t =
-    bind (express held c t) _ (express-numbered held c t)
-    (λ x. bind (express held a (x .nodes)) _ (express-numbered held a (x .nodes))
-    (λ y. bind (express held b (y .nodes)) _ (express-numbered held b (y .nodes)) (λ z. emit-numbered (z .nodes) _)))
+mutual
+  unfolding express
+
+  express-numbered : (held : ℕ → ℕ) (e : Expr) (t : List Node) → Numbered (express held e t)
+  express-numbered held (variable v) t = taken _
+  express-numbered held (constant w n) t = emit-numbered t _
+  express-numbered held (unknown w) t = emit-numbered t _
+  express-numbered held (unary o w a) t = bind (express held a t) _ (express-numbered held a t) (λ x. emit-numbered (x .nodes) _)
+  express-numbered held (binary o w a b) t =
+      bind (express held a t) _ (express-numbered held a t)
+      (λ x. bind (express held b (x .nodes)) _ (express-numbered held b (x .nodes)) (λ y. emit-numbered (y .nodes) _))
+  express-numbered held (conditional c a b) t =
+      bind (express held c t) _ (express-numbered held c t)
+      (λ x. bind (express held a (x .nodes)) _ (express-numbered held a (x .nodes))
+      (λ y. bind (express held b (y .nodes)) _ (express-numbered held b (y .nodes)) (λ z. emit-numbered (z .nodes) _)))
+  express-numbered held (call n w ys b) t =
+      bind (expressAll held ys t) _ (all-numbered held ys t)
+      (λ x. bind (emit (x .nodes) _) _ (emit-numbered (x .nodes) _)
+      (λ y. follow-numbered (x .all) b ends (λ r u. taken _) (y .node) (y .nodes)))
+
+  all-numbered : (held : ℕ → ℕ) (ys : Arguments) (t : List Node) → Numbered (expressAll held ys t)
+  all-numbered held no-more t = taken _
+  all-numbered held (argument e ys) t =
+      bind (express held e t) _ (express-numbered held e t)
+      (λ x. bind (expressAll held ys (x .nodes)) _ (all-numbered held ys (x .nodes)) (λ y. taken _))
+
+  follow-numbered : (ys : List ℕ) (b : Body) (next : ℕ → List Node → Res Emitted) → ((r : ℕ) (t : List Node) → Numbered (next r t)) →
+      (r : ℕ) (t : List Node) → Numbered (follow ys b next r t)
+  follow-numbered ys nothing next on r t = on r t
+  follow-numbered ys (result e) next on r t =
+      bind (express (heldIn ys r) e t) _ (express-numbered (heldIn ys r) e t) (λ x. on (x .node) (x .nodes))
+  follow-numbered ys (inTurn a b) next on r t =
+      follow-numbered ys a (follow ys b next) (λ s u. follow-numbered ys b next on s u) r t
+  follow-numbered ys (ifThen e a) next on r t =
+      bind (express (heldIn ys r) e t) _ (express-numbered (heldIn ys r) e t)
+      (λ c. bind (follow ys a next r (c .nodes)) _ (follow-numbered ys a next on r (c .nodes))
+      (λ x. bind (next r (x .nodes)) _ (on r (x .nodes)) (λ y. emit-numbered (y .nodes) _)))
+  follow-numbered ys (ifElse e a b) next on r t =
+      bind (express (heldIn ys r) e t) _ (express-numbered (heldIn ys r) e t)
+      (λ c. bind (follow ys a next r (c .nodes)) _ (follow-numbered ys a next on r (c .nodes))
+      (λ x. bind (follow ys b next r (x .nodes)) _ (follow-numbered ys b next on r (x .nodes)) (λ y. emit-numbered (y .nodes) _)))
 
 module _ (m : Module Expr) (i : ℕ) where
   merge-numbered : (c : ℕ) (a b : List ℕ) (n : ℕ) (t : List Node) → Numbered (merge m i c a b n t)

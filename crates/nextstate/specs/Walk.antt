@@ -1,11 +1,12 @@
--- The walk from a wait to the next (document 01, "Extraction and the cycle run", after 003, section 4.2).
+-- The walk from a wait to the next (document 01, "Extraction and the cycle run", after 003, section 4.2; document 02, [5]).
 use Prim.Native.Nat.{ℕ, zero, suc, _+_, _-_}
 use mathlib.Core.List.{List, [], _∷_, _++_}
 use lib.ListN.{length, getD, set}
 use lib.Dec.{ltb}
 use Rattle.values.specs.Values.{pick}
 use Rattle.sheet.specs.Reading.{Res, ok, _>>=_, _>>_, check}
-use Rattle.sheet.specs.Expression.{Expr, variable, constant, unknown, unary, binary, conditional}
+use Rattle.sheet.specs.Expression.{Expr, variable, constant, unknown, unary, binary, conditional, call, Arguments, no-more, argument}
+use Rattle.sheet.specs.Expression.{Body, nothing, result, inTurn, ifThen, ifElse}
 use Rattle.sheet.specs.Statement.{isRegister}
 use Rattle.sheet.specs.Module.{Module}
 use Rattle.pseudocode.specs.Translation.{Instr, wait!, set!, later!, go, ifnot}
@@ -28,22 +29,67 @@ emit t n = do
 
 -- ---- "those of each instruction's expression, operands first, left first (a variable takes the node held)"
 
-unfoldable pub express : (ℕ → ℕ) → Expr → List Node → Res Emitted
-express held (variable v) t = ok (record { nodes = t; node = held v })
-express held (constant w n) t = emit t (aConstant w n)
-express held (unknown w) t = emit t (anUnknown w)
-express held (unary o w a) t = do
-  x ← express held a t
-  emit (x .nodes) (aUnary o (x .node))
-express held (binary o w a b) t = do
-  x ← express held a t
-  y ← express held b (x .nodes)
-  emit (y .nodes) (aBinary o (x .node) (y .node))
-express held (conditional c a b) t = do
-  x ← express held c t
-  y ← express held a (x .nodes)
-  z ← express held b (y .nodes)
-  emit (z .nodes) (aConditional (x .node) (y .node) (z .node))
+-- The nodes, and the numbers of the arguments' nodes.
+pub record EmittedAll : Type 0 where
+  pub nodes : List Node
+  pub all : List ℕ
+
+-- The node held for a variable of a body: an argument's, or the result's.
+abbrev pub heldIn : List ℕ → ℕ → ℕ → ℕ
+heldIn ys r v = getD (ys ++ (r ∷ [])) v 0
+
+-- What a walk of a body goes on to where the body ends: the result's node is the call's.
+abbrev pub ends : ℕ → List Node → Res Emitted
+ends r t = ok (record { nodes = t; node = r })
+
+unfoldable mutual
+  pub express : (ℕ → ℕ) → Expr → List Node → Res Emitted
+  express held (variable v) t = ok (record { nodes = t; node = held v })
+  express held (constant w n) t = emit t (aConstant w n)
+  express held (unknown w) t = emit t (anUnknown w)
+  express held (unary o w a) t = do
+    x ← express held a t
+    emit (x .nodes) (aUnary o (x .node))
+  express held (binary o w a b) t = do
+    x ← express held a t
+    y ← express held b (x .nodes)
+    emit (y .nodes) (aBinary o (x .node) (y .node))
+  express held (conditional c a b) t = do
+    x ← express held c t
+    y ← express held a (x .nodes)
+    z ← express held b (y .nodes)
+    emit (z .nodes) (aConditional (x .node) (y .node) (z .node))
+  -- "Extraction puts for a call its arguments, an unknown node for the result, then its body's walk, branching that alone."
+  express held (call n w ys b) t = do
+    x ← expressAll held ys t
+    y ← emit (x .nodes) (anUnknown w)
+    follow (x .all) b ends (y .node) (y .nodes)
+
+  pub expressAll : (ℕ → ℕ) → Arguments → List Node → Res EmittedAll
+  expressAll held no-more t = ok (record { nodes = t; all = [] })
+  expressAll held (argument e ys) t = do
+    x ← express held e t
+    y ← expressAll held ys (x .nodes)
+    ok (record { nodes = y .nodes; all = x .node ∷ y .all })
+
+  -- A body's walk from where the result has node r, on the arguments' nodes; `next` walks on behind the body. At an if: the
+  -- condition, the leg where it holds and the other leg, each on to the body's end, then one branch node, for the result.
+  pub follow : List ℕ → Body → (ℕ → List Node → Res Emitted) → ℕ → List Node → Res Emitted
+  follow ys nothing next r t = next r t
+  follow ys (result e) next r t = do
+    x ← express (heldIn ys r) e t
+    next (x .node) (x .nodes)
+  follow ys (inTurn a b) next r t = follow ys a (follow ys b next) r t
+  follow ys (ifThen e a) next r t = do
+    c ← express (heldIn ys r) e t
+    x ← follow ys a next r (c .nodes)
+    y ← next r (x .nodes)
+    emit (y .nodes) (aBranch (c .node) (x .node) (y .node))
+  follow ys (ifElse e a b) next r t = do
+    c ← express (heldIn ys r) e t
+    x ← follow ys a next r (c .nodes)
+    y ← follow ys b next r (x .nodes)
+    emit (y .nodes) (aBranch (c .node) (x .node) (y .node))
 
 -- ---- "It holds the current and the later value, two rows of 32 node numbers."
 

@@ -14,7 +14,7 @@ use Rattle.values.specs.Values.{pick, _is_then_else_}
 use Rattle.values.specs.Operators.{unaryWidth, binaryWidth}
 use Rattle.values.proofs.Values.{below-wider}
 use Rattle.sheet.specs.Reading.{wordOf}
-use Rattle.sheet.specs.Expression.{Expr, variable, constant, unknown, unary, binary, conditional, Parsed}
+use Rattle.sheet.specs.Expression.{Expr, variable, constant, unknown, unary, binary, conditional, call, Parsed}
 use Rattle.sheet.proofs.Expression as reading
 use Rattle.sheet.proofs.Expression.{Reads, reads-after}
 use Rattle.plan.specs.Plan.{Node, node, nodeAt, widthAt}
@@ -108,6 +108,8 @@ count (unknown w) = 1
 count (unary o w a) = suc (count a)
 count (binary o w a b) = suc (count a + count b)
 count (conditional c a b) = suc (count c + count a + count b)
+-- No call is laid out.
+count (call n w ys b) = 0
 
 -- ---- what was laid out
 

@@ -9,14 +9,29 @@ use Rattle.sheet.specs.Reading.{Res, ok, no, _>>=_, _>>_, check, byteAt,
 
 -- ---- trees
 
--- An operator stands by its number (1 ~, 2 !, 3 &, 4 |, 5 ^, 6 +, 7 -, 8 ==, 9 <) and its operands' width.
-pub data Expr : Type 0 where
-  variable : ℕ → Expr
-  constant : ℕ → ℕ → Expr
-  unknown : ℕ → Expr
-  unary : ℕ → ℕ → Expr → Expr
-  binary : ℕ → ℕ → Expr → Expr → Expr
-  conditional : Expr → Expr → Expr → Expr
+mutual
+  -- An operator stands by its number (1 ~, 2 !, 3 &, 4 |, 5 ^, 6 +, 7 -, 8 ==, 9 <) and its operands' width. A call holds its
+  -- function's number, the result's width, the arguments and the body: a function calls earlier ones only, so that a tree is finite.
+  pub data Expr : Type 0 where
+    variable : ℕ → Expr
+    constant : ℕ → ℕ → Expr
+    unknown : ℕ → Expr
+    unary : ℕ → ℕ → Expr → Expr
+    binary : ℕ → ℕ → Expr → Expr → Expr
+    conditional : Expr → Expr → Expr → Expr
+    call : ℕ → ℕ → Arguments → Body → Expr
+
+  pub data Arguments : Type 0 where
+    no-more : Arguments
+    argument : Expr → Arguments → Arguments
+
+  -- Document 02, [5]: "the result, the only target": a body has no wait, loop or later assignment.
+  pub data Body : Type 0 where
+    nothing : Body
+    result : Expr → Body
+    inTurn : Body → Body → Body
+    ifThen : Expr → Body → Body
+    ifElse : Expr → Body → Body → Body
 
 -- What was read, its width and the next place in the sheet.
 pub record Parsed (E : Type 0) : Type 0 where

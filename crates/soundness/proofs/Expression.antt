@@ -2,18 +2,18 @@
 -- Assumes nothing.
 use mathlib.Core.Path.{_≡_, refl}
 use mathlib.Core.Bool.{Bool, true, false, _||_}
-use mathlib.Core.List.{List}
+use mathlib.Core.List.{List, [], _∷_}
 use Prim.Native.Nat.{ℕ, _<_}
 use native.Mathlib.Omega.{arith}
 use lib.ListN.{length}
 use borrow.Author.Tests.{eqb-true}
 use Rattle.sheet.specs.Reading.{ok}
-use Rattle.sheet.specs.Expression.{Expr, Parsed, tree}
+use Rattle.sheet.specs.Expression.{Expr, variable, constant, unknown, unary, binary, conditional, call, Arguments, no-more, argument, Parsed, tree}
 use Rattle.sheet.specs.Statement.{Scope}
-use Rattle.sheet.proofs.Expression.{Reads, a-variable, a-constant, an-unknown, a-unary, a-binary, a-conditional, derive}
-use Rattle.encoding.proofs.Expression.{tree-typed}
-use Rattle.evaluation.specs.Evaluation.{reads}
-use Rattle.evaluation.proofs.Evaluation.{eval-fits}
+use Rattle.sheet.proofs.Expression.{derive}
+use Rattle.evaluation.specs.Evaluation.{reads, readsAll}
+use Rattle.evaluation.specs.Widths.{Typed, AllTyped}
+use Rattle.evaluation.proofs.Evaluation.{read-typed, eval-fits}
 use Rattle.soundness.specs.Soundness.{SoundExpr}
 
 -- ---- reads
@@ -25,20 +25,28 @@ false≢true h = let z : _≡_ {A = ℕ} 0 1 = cc in absurd (omega arith)
 ||-elim true b f g h = f refl
 ||-elim false b f g h = g h
 
-pub reads-below : {ws s : List ℕ} {d p : ℕ} {q : Parsed Expr} → Reads ws s d p q →
-    (v : ℕ) → reads (q .item) v ≡ true → v < length ws
-unfolding reads
-reads-below (a-variable {v = w} m h e l) v r = let x = eqb-true w v r in omega arith
-reads-below (a-constant m w h e l) v r = false≢true r
-reads-below (an-unknown m w) v r = false≢true r
-reads-below (a-unary m o a) v r = reads-below a v r
-reads-below (a-binary {a = x} {b = y} m o a b e) v r =
-    ||-elim (reads (x .item) v) (reads (y .item) v) (λ h. reads-below a v h) (λ h. reads-below b v h) r
-reads-below (a-conditional {c = z} {a = x} {b = y} m o c a b e) v r =
-    ||-elim (reads (z .item) v || reads (x .item) v) (reads (y .item) v)
-    (||-elim (reads (z .item) v) (reads (x .item) v) (λ h. reads-below c v h) (λ h. reads-below a v h))
-    (λ h. reads-below b v h)
-    r
+mutual
+  unfolding reads Typed
+
+  pub reads-below : (ws : List ℕ) (e : Expr) (w : ℕ) → Typed ws e w → (v : ℕ) → reads e v ≡ true → v < length ws
+  reads-below ws (variable u) w t v r = let x = eqb-true u v r in omega (arith, t .0)
+  reads-below ws (constant k n) w t v r = false≢true r
+  reads-below ws (unknown k) w t v r = false≢true r
+  reads-below ws (unary o k a) w t v r = reads-below ws a k (t .2) v r
+  reads-below ws (binary o k a b) w t v r =
+      ||-elim (reads a v) (reads b v) (λ h. reads-below ws a k (t .2) v h) (λ h. reads-below ws b k (t .3) v h) r
+  reads-below ws (conditional c a b) w t v r =
+      ||-elim (reads c v || reads a v) (reads b v)
+      (||-elim (reads c v) (reads a v) (λ h. reads-below ws c (t .0 .0) (t .0 .1) v h) (λ h. reads-below ws a w (t .1) v h))
+      (λ h. reads-below ws b w (t .2) v h)
+      r
+  reads-below ws (call n k ys b) w t v r = all-below ws ys (t .2 .0) (t .2 .1) v r
+
+  all-below : (ws : List ℕ) (ys : Arguments) (ps : List ℕ) → AllTyped ws ys ps → (v : ℕ) → readsAll ys v ≡ true → v < length ws
+  all-below ws no-more ps t v r = false≢true r
+  all-below ws (argument e ys) [] t v r = absurd t
+  all-below ws (argument e ys) (p ∷ ps) t v r =
+      ||-elim (reads e v) (readsAll ys v) (λ h. reads-below ws e p (t .0) v h) (λ h. all-below ws ys ps (t .1) v h) r
 
 -- ---- tree
 
@@ -46,5 +54,9 @@ pub tree-sound : (c : Scope) (s : List ℕ) (p : ℕ) {q : Parsed Expr} → tree
     SoundExpr c (q .width) (q .item)
 unfolding tree
 tree-sound c s p h =
-    let r = derive (c .widths) s 16 p h in
-    record { typed = tree-typed (c .widths) s p h; reads-within = reads-below r; fits-width = λ f g. eval-fits f g r }
+    let t = read-typed (derive (c .widths) s 16 p h) in
+    record {
+      typed = t;
+      reads-within = reads-below (c .widths) _ _ t;
+      fits-width = λ f g. eval-fits (c .widths) f g _ _ t;
+    }

@@ -11,8 +11,8 @@ use Rattle.sheet.specs.declared.EdgeTerm.{EdgeTerm}
 use Rattle.sheet.specs.Expression.{Expr, unknown}
 use Rattle.sheet.specs.Statement.{Scope, empty}
 use Rattle.sheet.specs.Module.{Module}
-use Rattle.encoding.specs.WellFormed.{HasWidth}
 use Rattle.evaluation.specs.Evaluation.{eval, reads}
+use Rattle.evaluation.specs.Widths.{Typed}
 use Rattle.pseudocode.specs.Translation.{Instr, wait!, set!, later!, go, ifnot, threadCode}
 
 -- ---- expressions of a scope
@@ -23,7 +23,7 @@ Fitting c f = (v : ℕ) → v < length (c .widths) → fits (getD (c .widths) v 
 
 -- An expression of width w that reads variables of the scope only, and gives values of that width.
 pub record SoundExpr (c : Scope) (w : ℕ) (e : Expr) : Type 0 where
-  pub typed : HasWidth (c .widths) e w
+  pub typed : Typed (c .widths) e w
   pub reads-within : (v : ℕ) → reads e v ≡ true → v < length (c .widths)
   pub fits-width : (f : ℕ → Value) → Fitting c f → fits w (eval f e) ≡ true
 

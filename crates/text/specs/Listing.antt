@@ -1,11 +1,11 @@
--- The listing (document 01, "Samples from the stands"): what the listing program prints for a sheet.
+-- The listing (document 01, "Samples from the stands"; document 02, [5]): what the listing program prints for a sheet.
 use Prim.Native.Nat.{ℕ, _+_}
 use mathlib.Core.List.{List, [], _∷_, _++_}
 use lib.ListN.{length}
 use Rattle.values.specs.Edges.{edgeNumber}
 use Rattle.sheet.specs.declared.EdgeTerm.{EdgeTerm}
 use Rattle.sheet.specs.Reading.{Res, ok, no}
-use Rattle.sheet.specs.Expression.{Expr, variable, constant, unknown, unary, binary, conditional}
+use Rattle.sheet.specs.Expression.{Expr, variable, constant, unknown, unary, binary, conditional, call, Arguments, no-more, argument}
 use Rattle.sheet.specs.Statement.{Stmt}
 use Rattle.sheet.specs.Module.{Module, read}
 use Rattle.pseudocode.specs.Translation.{Instr, wait!, set!, later!, go, ifnot, threadCode}
@@ -19,13 +19,21 @@ _␣_ a b = a ++ (byte " " ∷ b)
 
 -- ---- expressions: "Expressions stand operator first: `o6 v1 c8:5`, and `u8` for an 8-bit x."
 
-unfoldable pub showExpr : Expr → List ℕ
-showExpr (variable v) = byte "v" ∷ decimal v
-showExpr (constant w v) = byte "c" ∷ (decimal w ++ (byte ":" ∷ decimal v))
-showExpr (unknown w) = byte "u" ∷ decimal w
-showExpr (unary o w a) = byte "o" ∷ decimal o ␣ showExpr a
-showExpr (binary o w a b) = byte "o" ∷ decimal o ␣ showExpr a ␣ showExpr b
-showExpr (conditional c a b) = byte "o" ∷ decimal 10 ␣ showExpr c ␣ showExpr a ␣ showExpr b
+unfoldable mutual
+  pub showExpr : Expr → List ℕ
+  showExpr (variable v) = byte "v" ∷ decimal v
+  showExpr (constant w v) = byte "c" ∷ (decimal w ++ (byte ":" ∷ decimal v))
+  showExpr (unknown w) = byte "u" ∷ decimal w
+  showExpr (unary o w a) = byte "o" ∷ decimal o ␣ showExpr a
+  showExpr (binary o w a b) = byte "o" ∷ decimal o ␣ showExpr a ␣ showExpr b
+  showExpr (conditional c a b) = byte "o" ∷ decimal 10 ␣ showExpr c ␣ showExpr a ␣ showExpr b
+  -- Of a call "the listing prints `f` with the number before" the arguments.
+  showExpr (call n w ys b) = byte "f" ∷ (decimal n ++ showAll ys)
+
+  -- Each behind a space.
+  pub showAll : Arguments → List ℕ
+  showAll no-more = []
+  showAll (argument e ys) = byte " " ∷ (showExpr e ++ showAll ys)
 
 -- ---- instructions
 

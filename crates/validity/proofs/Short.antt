@@ -7,7 +7,8 @@ use native.Mathlib.Omega.{arith}
 use lib.ListN.{length, getD, length-append}
 use Rattle.values.specs.Values.{pick}
 use Rattle.sheet.specs.Reading.{Res, ok, _>>=_}
-use Rattle.sheet.specs.Expression.{Expr, variable, constant, unknown, unary, binary, conditional}
+use Rattle.sheet.specs.Expression.{Expr, variable, constant, unknown, unary, binary, conditional, call, Arguments, no-more, argument}
+use Rattle.sheet.specs.Expression.{Body, nothing, result, inTurn, ifThen, ifElse}
 use Rattle.sheet.specs.Module.{Module}
 use Rattle.sheet.proofs.Reading.{ok-injective, bind-ok}
 use Rattle.pseudocode.specs.Translation.{Instr, wait!, set!, later!, go, ifnot}
@@ -16,7 +17,8 @@ use Rattle.soundness.specs.Soundness.{Sound}
 use Rattle.events.specs.Cycle.{variables, codeOf, instrAt, isWait}
 use Rattle.nextstate.specs.Rules.{writes}
 use Rattle.nextstate.specs.Nodes.{Node, aVariable, aConstant, aBranch}
-use Rattle.nextstate.specs.Walk.{Emitted, emit, express, Held, Walked, Merged, ownRows, heldNode, mergeOne, merge, visit, walk}
+use Rattle.nextstate.specs.Walk.{Emitted, emit, heldIn, ends, express, expressAll, follow}
+use Rattle.nextstate.specs.Walk.{Held, Walked, Merged, ownRows, heldNode, mergeOne, merge, visit, walk}
 use Rattle.nextstate.specs.Extraction.{Tables, variableNodes, walkFrom, walksBelow, threadsBelow, extracted}
 use Rattle.nextstate.proofs.Numbers.{extracted-walks}
 use Rattle.walking.proofs.Growing.{emit-ok, ok-walked}
@@ -28,21 +30,50 @@ emit-short : (t : List Node) (n : Node) (y : Emitted) → emit t n ≡ ok y → 
 unfolding Short
 emit-short t n y h = let s = emit-ok t n h in omega (arith, s .room, ap length (s .nodes), length-append t (n ∷ []))
 
-express-short : (held : ℕ → ℕ) (e : Expr) (t : List Node) (y : Emitted) → Short t → express held e t ≡ ok y → Short (y .nodes)
-unfolding express
-express-short held (variable v) t y s h = rw (sym (ap (λ (u : Emitted). u .nodes) (ok-injective h))) s
-express-short held (constant w n) t y s h = emit-short t _ y h
-express-short held (unknown w) t y s h = emit-short t _ y h
-express-short held (unary o w a) t y s h = let x = bind-ok (express held a t) _ h in emit-short _ _ y (x .2)
-express-short held (binary o w a b) t y s h =
-    let x = bind-ok (express held a t) _ h in
-    let z = bind-ok (express held b (x .0 .nodes)) _ (x .2) in
-    emit-short _ _ y (z .2)
-express-short held (conditional c a b) t y s h =
-    let x = bind-ok (express held c t) _ h in
-    let z = bind-ok (express held a (x .0 .nodes)) _ (x .2) in
-    let u = bind-ok (express held b (z .0 .nodes)) _ (z .2) in
-    emit-short _ _ y (u .2)
+-- What a body's walk goes on to, from nodes that are short.
+abbrev Stays : (ℕ → List Node → Res Emitted) → Type 0
+Stays next = (r : ℕ) (t : List Node) (y : Emitted) → Short t → next r t ≡ ok y → Short (y .nodes)
+
+mutual
+  unfolding express
+
+  express-short : (held : ℕ → ℕ) (e : Expr) (t : List Node) (y : Emitted) → Short t → express held e t ≡ ok y → Short (y .nodes)
+  express-short held (variable v) t y s h = rw (sym (ap (λ (u : Emitted). u .nodes) (ok-injective h))) s
+  express-short held (constant w n) t y s h = emit-short t _ y h
+  express-short held (unknown w) t y s h = emit-short t _ y h
+  express-short held (unary o w a) t y s h = let x = bind-ok (express held a t) _ h in emit-short _ _ y (x .2)
+  express-short held (binary o w a b) t y s h =
+      let x = bind-ok (express held a t) _ h in
+      let z = bind-ok (express held b (x .0 .nodes)) _ (x .2) in
+      emit-short _ _ y (z .2)
+  express-short held (conditional c a b) t y s h =
+      let x = bind-ok (express held c t) _ h in
+      let z = bind-ok (express held a (x .0 .nodes)) _ (x .2) in
+      let u = bind-ok (express held b (z .0 .nodes)) _ (z .2) in
+      emit-short _ _ y (u .2)
+  express-short held (call n w ys b) t y s h =
+      let x = bind-ok (expressAll held ys t) _ h in
+      let z = bind-ok (emit (x .0 .nodes) _) _ (x .2) in
+      follow-short (x .0 .all) b ends (λ r u v k e. rw (sym (ap (λ (i : Emitted). i .nodes) (ok-injective e))) k)
+      (z .0 .node) (z .0 .nodes) y (emit-short (x .0 .nodes) _ (z .0) (z .1)) (z .2)
+
+  follow-short : (ys : List ℕ) (b : Body) (next : ℕ → List Node → Res Emitted) → Stays next → Stays (follow ys b next)
+  follow-short ys nothing next on r t y s h = on r t y s h
+  follow-short ys (result e) next on r t y s h =
+      let x = bind-ok (express (heldIn ys r) e t) _ h in
+      on (x .0 .node) (x .0 .nodes) y (express-short (heldIn ys r) e t (x .0) s (x .1)) (x .2)
+  follow-short ys (inTurn a b) next on r t y s h =
+      follow-short ys a (follow ys b next) (λ q u z k e. follow-short ys b next on q u z k e) r t y s h
+  follow-short ys (ifThen e a) next on r t y s h =
+      let c = bind-ok (express (heldIn ys r) e t) _ h in
+      let x = bind-ok (follow ys a next r (c .0 .nodes)) _ (c .2) in
+      let z = bind-ok (next r (x .0 .nodes)) _ (x .2) in
+      emit-short (z .0 .nodes) _ y (z .2)
+  follow-short ys (ifElse e a b) next on r t y s h =
+      let c = bind-ok (express (heldIn ys r) e t) _ h in
+      let x = bind-ok (follow ys a next r (c .0 .nodes)) _ (c .2) in
+      let z = bind-ok (follow ys b next r (x .0 .nodes)) _ (x .2) in
+      emit-short (z .0 .nodes) _ y (z .2)
 
 module _ (m : Module Expr) (i : ℕ) where
   one-short : (c : ℕ) (a b : List ℕ) (r : ℕ) (x y : Merged) → Short (x .nodes) → mergeOne m i c a b r x ≡ ok y → Short (y .nodes)

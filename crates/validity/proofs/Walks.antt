@@ -201,7 +201,7 @@ module _ (m : Module Expr) (i : ℕ) where
     expressed : (e : Expr) (v : ℕ) (h : Held) (t : List Node) (y : Emitted) → SoundExpr (m .scope) v e → Ready t h →
         express (heldNode m (h .current)) e t ≡ ok y → Ready (y .nodes) h × Has m (y .nodes) (y .node) v
     expressed e v h t y s k q =
-        let r = express-made m (heldNode m (h .current)) 16 e v t (s .typed) (held-has m t (h .current) (k .own) (k .held .current)) (k .made) q in
+        let r = express-made m (m .scope .widths) (heldNode m (h .current)) e v t (s .typed) (held-has m t (h .current) (k .own) (k .held .current)) (k .made) q in
         let g = express-grows (heldNode m (h .current)) e t q in
         (record { made = r .0; own = own-grows m g (k .own); held = held-grows m g (k .held) }, r .1)
 

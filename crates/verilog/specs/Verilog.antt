@@ -27,7 +27,7 @@ use Rattle.values.specs.declared.Edge.{Edge}
 use Rattle.values.specs.declared.Edge.the-variants.{Change, Posedge, Negedge}
 use Rattle.sheet.specs.declared.EdgeTerm.{EdgeTerm}
 use Rattle.sheet.specs.Reading.{Res, ok, no}
-use Rattle.sheet.specs.Expression.{Expr, variable, constant, unknown, unary, binary, conditional}
+use Rattle.sheet.specs.Expression.{Expr, variable, constant, unknown, unary, binary, conditional, call, Arguments, no-more, argument}
 use Rattle.sheet.specs.Statement.{Stmt, empty, assign, later, sequence, ifThen, ifElse, while, forever, wait}
 use Rattle.sheet.specs.Module.{Module, read}
 use Rattle.writing.specs.Ascii.{ascii, byte}
@@ -112,13 +112,21 @@ remainder (wait ts) = empty
 module _ (name : ℕ → List ℕ) where
   -- ---- expressions: every operator with its operands stands in parentheses
 
-  unfoldable pub exprText : Expr → List ℕ
-  exprText (variable v) = name v
-  exprText (constant w v) = constantText w v
-  exprText (unknown w) = unknownText w
-  exprText (unary o w a) = ascii "(" & sign o & exprText a & ascii ")"
-  exprText (binary o w a b) = ascii "(" & exprText a & sign o & exprText b & ascii ")"
-  exprText (conditional c a b) = ascii "(" & exprText c & ascii " ? " & exprText a & ascii " : " & exprText b & ascii ")"
+  unfoldable mutual
+    pub exprText : Expr → List ℕ
+    exprText (variable v) = name v
+    exprText (constant w v) = constantText w v
+    exprText (unknown w) = unknownText w
+    exprText (unary o w a) = ascii "(" & sign o & exprText a & ascii ")"
+    exprText (binary o w a b) = ascii "(" & exprText a & sign o & exprText b & ascii ")"
+    exprText (conditional c a b) = ascii "(" & exprText c & ascii " ? " & exprText a & ascii " : " & exprText b & ascii ")"
+    -- f0(a, b)
+    exprText (call n w ys b) = ascii "f" & decimal n & ascii "(" & argumentsText 0 ys & ascii ")"
+
+    -- The arguments from the kth on.
+    pub argumentsText : ℕ → Arguments → List ℕ
+    argumentsText k no-more = []
+    argumentsText k (argument e ys) = before (ascii ", ") k & exprText e & argumentsText (k + 1) ys
 
   -- ---- waits: posedge i0 or negedge i2 or r1
 

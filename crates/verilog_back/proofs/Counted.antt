@@ -7,7 +7,7 @@ use Prim.Native.Nat.{ℕ, _+_, _<_}
 use native.Mathlib.Omega.{arith}
 use lib.Dec.{ltb}
 use Rattle.values.specs.Values.{pick}
-use Rattle.sheet.specs.Expression.{Expr, variable, constant, unknown, unary, binary, conditional}
+use Rattle.sheet.specs.Expression.{Expr, variable, constant, unknown, unary, binary, conditional, call}
 use Rattle.sheet.specs.Statement.{Stmt, empty, assign as assigns, later, sequence, ifThen, ifElse, while, forever, wait}
 use Rattle.sheet.specs.Module.{Module}
 use Rattle.verilog_tokens.specs.Tokens.{Name}
@@ -36,6 +36,7 @@ module _ (called : ℕ → List ℕ) where
       let h = below-eight (binaryOf o) in
       (grouped a (d .0), grouped b (d .1), omega arith, h)
   grouped (conditional c a b) d = (grouped c (d .0), grouped a (d .1), grouped b (d .2), omega arith)
+  grouped (call n w ys b) d = absurd d
 
   sequence-settled : (a : Stmt Expr) (d : InStmt a) (x : Statement) (ys : Statements) → Settled x → SettledAll ys
       → SettledAll (sequenceTree called a d x ys)

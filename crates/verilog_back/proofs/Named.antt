@@ -7,7 +7,7 @@ use native.Mathlib.Omega.{arith}
 use lib.ListN.{length, getD}
 use Rattle.sheet.specs.declared.EdgeTerm.{EdgeTerm}
 use Rattle.sheet.specs.Reading as Sheet
-use Rattle.sheet.specs.Expression.{Expr, variable, constant, unknown, unary, binary, conditional}
+use Rattle.sheet.specs.Expression.{Expr, variable, constant, unknown, unary, binary, conditional, call}
 use Rattle.sheet.specs.Statement.{Stmt, empty, assign, later, sequence, ifThen, ifElse, while, forever, wait, Scope}
 use Rattle.sheet.specs.Module.{Module, read}
 use Rattle.encoding.specs.Encoding.{Bytes}
@@ -31,6 +31,7 @@ module _ (f g : ℕ → List ℕ) (c : Scope) (same : (v : ℕ) → v < length (
   expr-same (suc k) (binary o l a b) w t = rw (expr-same k a l (t .1), expr-same k b l (t .2)) refl
   expr-same (suc k) (conditional b x y) w t =
       rw (expr-same k b (t .0 .0) (t .0 .1), expr-same k x w (t .1), expr-same k y w (t .2)) refl
+  expr-same (suc k) (call n l ys b) w t = absurd t
 
   terms-same : (k : ℕ) (ts : List EdgeTerm) → PairsFit (c .widths) ts → termsText f k ts ≡ termsText g k ts
   unfolding termsText termText PairsFit

@@ -11,7 +11,7 @@ use Rattle.values.specs.Values.{pick}
 use Rattle.values.specs.declared.Edge.{Edge}
 use Rattle.values.specs.declared.Edge.the-variants.{Change, Posedge, Negedge}
 use Rattle.sheet.specs.declared.EdgeTerm.{EdgeTerm}
-use Rattle.sheet.specs.Expression.{Expr, variable, constant, unknown, unary, binary, conditional}
+use Rattle.sheet.specs.Expression.{Expr, variable, constant, unknown, unary, binary, conditional, call}
 use Rattle.sheet.specs.Statement.{Stmt, empty, assign as assigns, later, sequence, ifThen, ifElse, while, forever, wait, Scope}
 use Rattle.sheet.specs.Module.{Module}
 use Rattle.encoding.specs.WellFormed.{WellTyped, IsTarget, IsAssignment, PairsFit, WellBuilt, WiresFit, ThreadsFit, WellFormed}
@@ -56,6 +56,7 @@ module _ (called : ℕ → List ℕ) (ns : List Name) (c : Scope)
       sign
       (expr-named k a (t .0 .0) (t .0 .1) (d .0) _
       (sign (expr-named k x w (t .1) (d .1) _ (sign (expr-named k y w (t .2) (d .2) _ (sign h))))))
+  expr-named (suc k) (call n l ys b) w t d rest h = absurd t
 
   term-named : (e : Edge) (p v : ℕ) (rest : List Token) → v < length (c .widths) → Named rest
       → Named (spellEvent (termTree called e (nameAt called p v)) rest)

@@ -13,7 +13,7 @@ use Rattle.values.specs.Values.{pick}
 use Rattle.values.specs.declared.Edge.{Edge}
 use Rattle.values.specs.declared.Edge.the-variants.{Change, Posedge, Negedge}
 use Rattle.sheet.specs.declared.EdgeTerm.{EdgeTerm}
-use Rattle.sheet.specs.Expression.{Expr, variable, constant, unknown, unary, binary, conditional}
+use Rattle.sheet.specs.Expression.{Expr, variable, constant, unknown, unary, binary, conditional, call}
 use Rattle.sheet.specs.Statement.{Stmt, empty, assign as assigns, later, sequence, ifThen, ifElse, while, forever, wait, Scope}
 use Rattle.sheet.specs.Module.{Module}
 use Rattle.encoding.specs.WellFormed.{WellTyped, IsAssignment, WellBuilt, AreWidths, WiresFit, ThreadsFit, WellFormed}
@@ -135,6 +135,7 @@ module _ (called : ℕ → List ℕ) where
             (y .2 ∙ ap (λ (l : List Token). spellPrimary (primaryTree called a (y .0)) l)
             (u .1 ∙ ap (λ (l : List Token). mark ":" ∷ l) (z .2))))),
       )
+  expr-yields ws (suc n) (call i k ys b) w t rest p = absurd t
 
   -- ---- waits
 

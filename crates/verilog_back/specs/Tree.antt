@@ -8,7 +8,7 @@ use Rattle.values.specs.Values.{pick, _is_then_else_}
 use Rattle.values.specs.declared.Edge.{Edge}
 use Rattle.values.specs.declared.Edge.the-variants.{Change, Posedge, Negedge}
 use Rattle.sheet.specs.declared.EdgeTerm.{EdgeTerm}
-use Rattle.sheet.specs.Expression.{Expr, variable, constant, unknown, unary, binary, conditional}
+use Rattle.sheet.specs.Expression.{Expr, variable, constant, unknown, unary, binary, conditional, call}
 use Rattle.sheet.specs.Statement.{Stmt, empty, assign as assigns, later, sequence, ifThen, ifElse, while, forever, wait}
 use Rattle.sheet.specs.Module.{Module}
 use Rattle.writing.specs.Ascii.{ascii}
@@ -32,6 +32,8 @@ InExpr (unknown w) = Unit {0}
 InExpr (unary o w a) = InExpr a
 InExpr (binary o w a b) = InExpr a × InExpr b
 InExpr (conditional c a b) = InExpr c × InExpr a × InExpr b
+-- The grammar derives no call.
+InExpr (call n w ys b) = ⊥
 
 -- One for each term of a wait, and for each variable that is declared.
 abbrev pub InTerm : EdgeTerm → Type 0
@@ -101,6 +103,7 @@ module _ (called : ℕ → List ℕ) where
   primaryTree (binary o w a b) d = bracketed (joined (only (primaryTree a (d .0))) (binaryOf o) (only (primaryTree b (d .1))))
   primaryTree (conditional c a b) d =
       bracketed (chosen (only (primaryTree c (d .0))) (only (primaryTree a (d .1))) (only (primaryTree b (d .2))))
+  primaryTree (call n w ys b) d = absurd d
 
   abbrev pub exprTree : (e : Expr) → InExpr e → Expression
   exprTree e d = only (primaryTree e d)

@@ -11,7 +11,7 @@ use Rattle.values.specs.Values.{pick}
 use Rattle.values.specs.declared.Edge.{Edge}
 use Rattle.values.specs.declared.Edge.the-variants.{Change, Posedge, Negedge}
 use Rattle.sheet.specs.declared.EdgeTerm.{EdgeTerm}
-use Rattle.sheet.specs.Expression.{Expr, variable, constant, unknown, unary, binary, conditional}
+use Rattle.sheet.specs.Expression.{Expr, variable, constant, unknown, unary, binary, conditional, call}
 use Rattle.sheet.specs.Statement.{Stmt, empty, assign, later, sequence, ifThen, ifElse, while, forever, wait, Scope}
 use Rattle.sheet.specs.Module.{Module}
 use Rattle.encoding.specs.WellFormed.{Between, WellTyped, IsAssignment, WellBuilt, AreWidths, WiresFit, ThreadsFit, WellFormed}
@@ -161,6 +161,7 @@ module _ (i r : ℕ) where
       (Words.ask-reads (expr-reads ws d a w (h .1) (otherwise-ends _)
       (Words.otherwise-reads (expr-reads ws d b w (h .2) (close-ends _) (Words.close-reads x)))))))
       (simp append-assoc)
+  expr-reads ws (suc d) (call n j ys b) w h g x = absurd h
 
   -- ---- waits
 

@@ -11,7 +11,7 @@ use Rattle.values.specs.Values.{pick, _is_then_else_}
 use Rattle.values.specs.declared.Edge.{Edge}
 use Rattle.values.specs.declared.Edge.the-variants.{Change, Posedge, Negedge}
 use Rattle.sheet.specs.declared.EdgeTerm.{EdgeTerm}
-use Rattle.sheet.specs.Expression.{Expr, variable, constant, unknown, unary, binary, conditional}
+use Rattle.sheet.specs.Expression.{Expr, variable, constant, unknown, unary, binary, conditional, call, Arguments, no-more, argument}
 use Rattle.sheet.specs.Statement.{Stmt, empty, assign, later, sequence, ifThen, ifElse, while, forever, wait}
 use Rattle.sheet.specs.Module.{Module}
 use Rattle.writing.specs.Ascii.{ascii}
@@ -110,14 +110,21 @@ closed n rest = indented n (spaced "end" rest)
 module _ (called : ℕ → List ℕ) where
   -- ---- expressions
 
-  unfoldable pub exprTokens : Expr → From → From
-  exprTokens (variable v) rest = names (called v) rest
-  exprTokens (constant w v) rest = counts w (values v rest)
-  exprTokens (unknown w) rest = counts w (unknowns rest)
-  exprTokens (unary o w a) rest = marks "(" (signTokens o (exprTokens a (marks ")" rest)))
-  exprTokens (binary o w a b) rest = marks "(" (exprTokens a (signTokens o (exprTokens b (marks ")" rest))))
-  exprTokens (conditional c a b) rest =
-      marks "(" (exprTokens c (between "?" (exprTokens a (between ":" (exprTokens b (marks ")" rest))))))
+  unfoldable mutual
+    pub exprTokens : Expr → From → From
+    exprTokens (variable v) rest = names (called v) rest
+    exprTokens (constant w v) rest = counts w (values v rest)
+    exprTokens (unknown w) rest = counts w (unknowns rest)
+    exprTokens (unary o w a) rest = marks "(" (signTokens o (exprTokens a (marks ")" rest)))
+    exprTokens (binary o w a b) rest = marks "(" (exprTokens a (signTokens o (exprTokens b (marks ")" rest))))
+    exprTokens (conditional c a b) rest =
+        marks "(" (exprTokens c (between "?" (exprTokens a (between ":" (exprTokens b (marks ")" rest))))))
+    exprTokens (call n w ys b) rest = names (ascii "f" ++ decimal n) (marks "(" (argumentsTokens 0 ys (marks ")" rest)))
+
+    -- The arguments from the kth on.
+    pub argumentsTokens : ℕ → Arguments → From → From
+    argumentsTokens k no-more rest = rest
+    argumentsTokens k (argument e ys) rest = commaTokens k (exprTokens e (argumentsTokens (k + 1) ys rest))
 
   -- ---- waits
 

@@ -10,7 +10,8 @@ use lib.Dec.{ltb}
 use borrow.Author.Tests.{ltb-true}
 use Rattle.values.specs.Values.{pick}
 use Rattle.sheet.specs.Reading.{Res, ok, _>>=_}
-use Rattle.sheet.specs.Expression.{Expr, variable, constant, unknown, unary, binary, conditional}
+use Rattle.sheet.specs.Expression.{Expr, variable, constant, unknown, unary, binary, conditional, call, Arguments, no-more, argument}
+use Rattle.sheet.specs.Expression.{Body, nothing, result, inTurn, ifThen, ifElse}
 use Rattle.sheet.specs.Module.{Module}
 use Rattle.sheet.proofs.Reading.{ok-injective, bind-ok, check-ok}
 use Rattle.pseudocode.specs.Translation.{Instr, wait!, set!, later!, go, ifnot}
@@ -18,7 +19,8 @@ use Rattle.state.proofs.Rows.{length-listOf}
 use Rattle.events.specs.Cycle.{codeOf, instrAt}
 use Rattle.nextstate.specs.Rules.{writes}
 use Rattle.nextstate.specs.Nodes.{Node, aConstant, anUnknown, aBinary, aConditional, aBranch}
-use Rattle.nextstate.specs.Walk.{Emitted, emit, express, Held, Walked, Merged, ownRow, heldNode, landed, mergeOne, merge, visit, walk}
+use Rattle.nextstate.specs.Walk.{Emitted, emit, EmittedAll, heldIn, ends, express, expressAll, follow}
+use Rattle.nextstate.specs.Walk.{Held, Walked, Merged, ownRow, heldNode, landed, mergeOne, merge, visit, walk}
 
 -- ---- nodes that were added to
 
@@ -68,28 +70,74 @@ emit-grows t n h = grows-by (n ∷ []) (emit-ok t n h .nodes)
 
 -- ---- an expression's nodes
 
-pub express-grows : (held : ℕ → ℕ) (e : Expr) (t : List Node) {y : Emitted} → express held e t ≡ ok y → Grows t (y .nodes)
-unfolding express
-express-grows held (variable v) t h = grows-same (sym (ap (λ (y : Emitted). y .nodes) (ok-injective h)))
-express-grows held (constant w n) t h = emit-grows t (aConstant w n) h
-express-grows held (unknown w) t h = emit-grows t (anUnknown w) h
-express-grows held (unary o w a) t h =
-    let x = bind-ok (express held a t) _ h in
-    grows-trans (express-grows held a t (x .1)) (emit-grows (x .0 .nodes) _ (x .2))
-express-grows held (binary o w a b) t h =
-    let x = bind-ok (express held a t) _ h in
-    let y = bind-ok (express held b (x .0 .nodes)) _ (x .2) in
-    grows-trans {u = x .0 .nodes} (express-grows held a t (x .1))
-    (grows-trans {u = y .0 .nodes} (express-grows held b (x .0 .nodes) (y .1))
-    (emit-grows (y .0 .nodes) (aBinary o (x .0 .node) (y .0 .node)) (y .2)))
-express-grows held (conditional c a b) t h =
-    let x = bind-ok (express held c t) _ h in
-    let y = bind-ok (express held a (x .0 .nodes)) _ (x .2) in
-    let z = bind-ok (express held b (y .0 .nodes)) _ (y .2) in
-    grows-trans {u = x .0 .nodes} (express-grows held c t (x .1))
-    (grows-trans {u = y .0 .nodes} (express-grows held a (x .0 .nodes) (y .1))
-    (grows-trans {u = z .0 .nodes} (express-grows held b (y .0 .nodes) (z .1))
-    (emit-grows (z .0 .nodes) (aConditional (x .0 .node) (y .0 .node) (z .0 .node)) (z .2))))
+-- What a body's walk goes on to only adds nodes.
+abbrev pub Adds : (ℕ → List Node → Res Emitted) → Type 0
+Adds next = (r : ℕ) (t : List Node) (y : Emitted) → next r t ≡ ok y → Grows t (y .nodes)
+
+pub ends-adds : Adds ends
+ends-adds r t y h = grows-same (sym (ap (λ (u : Emitted). u .nodes) (ok-injective h)))
+
+mutual
+  unfolding express
+
+  pub express-grows : (held : ℕ → ℕ) (e : Expr) (t : List Node) {y : Emitted} → express held e t ≡ ok y → Grows t (y .nodes)
+  express-grows held (variable v) t h = grows-same (sym (ap (λ (y : Emitted). y .nodes) (ok-injective h)))
+  express-grows held (constant w n) t h = emit-grows t (aConstant w n) h
+  express-grows held (unknown w) t h = emit-grows t (anUnknown w) h
+  express-grows held (unary o w a) t h =
+      let x = bind-ok (express held a t) _ h in
+      grows-trans (express-grows held a t (x .1)) (emit-grows (x .0 .nodes) _ (x .2))
+  express-grows held (binary o w a b) t h =
+      let x = bind-ok (express held a t) _ h in
+      let y = bind-ok (express held b (x .0 .nodes)) _ (x .2) in
+      grows-trans {u = x .0 .nodes} (express-grows held a t (x .1))
+      (grows-trans {u = y .0 .nodes} (express-grows held b (x .0 .nodes) (y .1))
+      (emit-grows (y .0 .nodes) (aBinary o (x .0 .node) (y .0 .node)) (y .2)))
+  express-grows held (conditional c a b) t h =
+      let x = bind-ok (express held c t) _ h in
+      let y = bind-ok (express held a (x .0 .nodes)) _ (x .2) in
+      let z = bind-ok (express held b (y .0 .nodes)) _ (y .2) in
+      grows-trans {u = x .0 .nodes} (express-grows held c t (x .1))
+      (grows-trans {u = y .0 .nodes} (express-grows held a (x .0 .nodes) (y .1))
+      (grows-trans {u = z .0 .nodes} (express-grows held b (y .0 .nodes) (z .1))
+      (emit-grows (z .0 .nodes) (aConditional (x .0 .node) (y .0 .node) (z .0 .node)) (z .2))))
+  express-grows held (call n w ys b) t {y} h =
+      let x = bind-ok (expressAll held ys t) _ h in
+      let z = bind-ok (emit (x .0 .nodes) (anUnknown w)) _ (x .2) in
+      grows-trans {u = x .0 .nodes} (all-grows held ys t (x .0) (x .1))
+      (grows-trans {u = z .0 .nodes} (emit-grows (x .0 .nodes) (anUnknown w) (z .1))
+      (follow-grows (x .0 .all) b ends ends-adds (z .0 .node) (z .0 .nodes) y (z .2)))
+
+  pub all-grows : (held : ℕ → ℕ) (ys : Arguments) (t : List Node) (y : EmittedAll) → expressAll held ys t ≡ ok y → Grows t (y .nodes)
+  all-grows held no-more t y h = grows-same (sym (ap (λ (u : EmittedAll). u .nodes) (ok-injective h)))
+  all-grows held (argument e ys) t y h =
+      let x = bind-ok (express held e t) _ h in
+      let z = bind-ok (expressAll held ys (x .0 .nodes)) _ (x .2) in
+      grows-trans {u = x .0 .nodes} (express-grows held e t (x .1))
+      (grows-trans {u = z .0 .nodes} (all-grows held ys (x .0 .nodes) (z .0) (z .1))
+      (grows-same (sym (ap (λ (u : EmittedAll). u .nodes) (ok-injective (z .2))))))
+
+  pub follow-grows : (ys : List ℕ) (b : Body) (next : ℕ → List Node → Res Emitted) → Adds next → Adds (follow ys b next)
+  follow-grows ys nothing next on r t y h = on r t y h
+  follow-grows ys (result e) next on r t y h =
+      let x = bind-ok (express (heldIn ys r) e t) _ h in
+      grows-trans {u = x .0 .nodes} (express-grows (heldIn ys r) e t (x .1)) (on (x .0 .node) (x .0 .nodes) y (x .2))
+  follow-grows ys (inTurn a b) next on r t y h =
+      follow-grows ys a (follow ys b next) (λ s u z k. follow-grows ys b next on s u z k) r t y h
+  follow-grows ys (ifThen e a) next on r t y h =
+      let c = bind-ok (express (heldIn ys r) e t) _ h in
+      let x = bind-ok (follow ys a next r (c .0 .nodes)) _ (c .2) in
+      let z = bind-ok (next r (x .0 .nodes)) _ (x .2) in
+      grows-trans {u = c .0 .nodes} (express-grows (heldIn ys r) e t (c .1))
+      (grows-trans {u = x .0 .nodes} (follow-grows ys a next on r (c .0 .nodes) (x .0) (x .1))
+      (grows-trans {u = z .0 .nodes} (on r (x .0 .nodes) (z .0) (z .1)) (emit-grows (z .0 .nodes) _ (z .2))))
+  follow-grows ys (ifElse e a b) next on r t y h =
+      let c = bind-ok (express (heldIn ys r) e t) _ h in
+      let x = bind-ok (follow ys a next r (c .0 .nodes)) _ (c .2) in
+      let z = bind-ok (follow ys b next r (x .0 .nodes)) _ (x .2) in
+      grows-trans {u = c .0 .nodes} (express-grows (heldIn ys r) e t (c .1))
+      (grows-trans {u = x .0 .nodes} (follow-grows ys a next on r (c .0 .nodes) (x .0) (x .1))
+      (grows-trans {u = z .0 .nodes} (follow-grows ys b next on r (x .0 .nodes) (z .0) (z .1)) (emit-grows (z .0 .nodes) _ (z .2))))
 
 -- ---- two legs put together
 

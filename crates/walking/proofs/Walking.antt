@@ -19,7 +19,7 @@ use Rattle.sheet.specs.Expression.{Expr}
 use Rattle.sheet.specs.Statement.{isRegister}
 use Rattle.sheet.specs.Module.{Module}
 use Rattle.sheet.proofs.Reading.{bind-ok}
-use Rattle.encoding.specs.WellFormed.{HasWidth}
+use Rattle.evaluation.specs.Widths.{Typed}
 use Rattle.evaluation.specs.Evaluation.{eval}
 use Rattle.pseudocode.specs.Translation.{Instr, wait!, set!, later!, go, ifnot}
 use Rattle.state.specs.Rows.{listOf}
@@ -169,7 +169,7 @@ module _ (m : Module Expr) (i : ℕ) (f : ℕ → Value) where
   pub record Good (t : List Node) (L : Local) (h : Held) : Type 0 where
     pub current-length : length (h .current) ≡ 32
     pub later-length : length (h .later) ≡ 32
-    pub values : Stand (m .scope .widths) f t (heldNode m (h .current)) (L .values)
+    pub values : Stand (m .scope .widths) f (m .scope .widths) t (heldNode m (h .current)) (L .values)
     pub pending : (r : ℕ) → r < m .scope .registers →
         Is (m .scope .widths) f t (getD (h .later) r 0) (getD (m .scope .widths) (m .scope .inputs + r) 0)
         (latest (L .pending r) (f (m .scope .inputs + r)))
@@ -185,7 +185,7 @@ module _ (m : Module Expr) (i : ℕ) (f : ℕ → Value) where
       record {
         current-length = s .current-length;
         later-length = s .later-length;
-        values = stand-grows (m .scope .widths) f (heldNode m (h .current)) (L .values) g (s .values);
+        values = stand-grows (m .scope .widths) f (m .scope .widths) (heldNode m (h .current)) (L .values) g (s .values);
         pending = λ r l. is-grows (m .scope .widths) f g (s .pending r l);
       }
 
@@ -323,9 +323,9 @@ module _ (m : Module Expr) (i : ℕ) (f : ℕ → Value) where
         }
 
     -- The nodes of its expression.
-    expressed : (h : Held) (t : List Node) → Good t L h → (e : Expr) (w : ℕ) {y : Emitted} → HasWidth (m .scope .widths) e w →
+    expressed : (h : Held) (t : List Node) → Good t L h → (e : Expr) (w : ℕ) {y : Emitted} → Typed (m .scope .widths) e w →
         express (heldNode m (h .current)) e t ≡ ok y → Is (m .scope .widths) f (y .nodes) (y .node) w (eval (L .values) e)
-    expressed h t g e w ty k = express-is (m .scope .widths) f (heldNode m (h .current)) (L .values) 16 e t w ty (g .values) k
+    expressed h t g e w ty k = express-is (m .scope .widths) f (m .scope .widths) (heldNode m (h .current)) (L .values) e t w ty (g .values) k
 
     visit-leaves : Sound m → ((q : ℕ) (g : Held) (u : List Node) (w : Walked) → next q g u ≡ ok w → Grows u (w .nodes)) →
         (j : Instr Expr) → Fits m j → isWait j ≡ false → Onward j → (h : Held) (t : List Node) {w : Walked} → Good t L h →

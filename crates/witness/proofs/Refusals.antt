@@ -7,14 +7,16 @@ use lib.ListN.{length}
 use lib.Dec.{ltb}
 use Rattle.values.specs.Values.{pick}
 use Rattle.sheet.specs.Reading.{Res, ok, no, _>>=_, _>>_, check}
-use Rattle.sheet.specs.Expression.{Expr, variable, constant, unknown, unary, binary, conditional}
+use Rattle.sheet.specs.Expression.{Expr, variable, constant, unknown, unary, binary, conditional, call, Arguments, no-more, argument}
+use Rattle.sheet.specs.Expression.{Body, nothing, result, inTurn, ifThen, ifElse}
 use Rattle.sheet.specs.Module.{Module}
 use Rattle.pseudocode.specs.Translation.{Instr, wait!, set!, later!, go, ifnot}
 use Rattle.events.specs.Cycle.{codeOf, instrAt, isWait}
 use Rattle.events.proofs.Cycle.{absurd-bool}
 use Rattle.nextstate.specs.Rules.{writes}
 use Rattle.nextstate.specs.Nodes.{Node}
-use Rattle.nextstate.specs.Walk.{Emitted, emit, express, Held, Walked, mergeOne, merge, visit, walk}
+use Rattle.nextstate.specs.Walk.{Emitted, emit, heldIn, ends, express, expressAll, follow}
+use Rattle.nextstate.specs.Walk.{Held, Walked, mergeOne, merge, visit, walk}
 use Rattle.nextstate.specs.Extraction.{Tables, walkFrom, walksBelow, threadsBelow}
 use Rattle.witness.specs.Witness.{refuses}
 
@@ -41,17 +43,39 @@ emit-full t n = by (record { nodes = t ++ (n ∷ []); node = length t }) (ltb (l
     by a true = taken a
     by a false = full
 
-express-full : (held : ℕ → ℕ) (e : Expr) (t : List Node) → Full (express held e t)
-unfolding express
-express-full held (variable v) t = taken _
-express-full held (constant w n) t = emit-full t _
-express-full held (unknown w) t = emit-full t _
-express-full held (unary o w a) t = bind _ (express-full held a t) (λ x. emit-full (x .nodes) _)
-express-full held (binary o w a b) t =
-    bind _ (express-full held a t) (λ x. bind _ (express-full held b (x .nodes)) (λ y. emit-full (y .nodes) _))
-express-full held (conditional c a b) t =
-    bind _ (express-full held c t)
-    (λ x. bind _ (express-full held a (x .nodes)) (λ y. bind _ (express-full held b (y .nodes)) (λ z. emit-full (z .nodes) _)))
+mutual
+  unfolding express
+
+  express-full : (held : ℕ → ℕ) (e : Expr) (t : List Node) → Full (express held e t)
+  express-full held (variable v) t = taken _
+  express-full held (constant w n) t = emit-full t _
+  express-full held (unknown w) t = emit-full t _
+  express-full held (unary o w a) t = bind _ (express-full held a t) (λ x. emit-full (x .nodes) _)
+  express-full held (binary o w a b) t =
+      bind _ (express-full held a t) (λ x. bind _ (express-full held b (x .nodes)) (λ y. emit-full (y .nodes) _))
+  express-full held (conditional c a b) t =
+      bind _ (express-full held c t)
+      (λ x. bind _ (express-full held a (x .nodes)) (λ y. bind _ (express-full held b (y .nodes)) (λ z. emit-full (z .nodes) _)))
+  express-full held (call n w ys b) t =
+      bind _ (all-full held ys t)
+      (λ x. bind _ (emit-full (x .nodes) _) (λ y. follow-full (x .all) b ends (λ r u. taken _) (y .node) (y .nodes)))
+
+  all-full : (held : ℕ → ℕ) (ys : Arguments) (t : List Node) → Full (expressAll held ys t)
+  all-full held no-more t = taken _
+  all-full held (argument e ys) t = bind _ (express-full held e t) (λ x. bind _ (all-full held ys (x .nodes)) (λ y. taken _))
+
+  follow-full : (ys : List ℕ) (b : Body) (next : ℕ → List Node → Res Emitted) → ((r : ℕ) (t : List Node) → Full (next r t)) →
+      (r : ℕ) (t : List Node) → Full (follow ys b next r t)
+  follow-full ys nothing next on r t = on r t
+  follow-full ys (result e) next on r t = bind _ (express-full (heldIn ys r) e t) (λ x. on (x .node) (x .nodes))
+  follow-full ys (inTurn a b) next on r t = follow-full ys a (follow ys b next) (λ s u. follow-full ys b next on s u) r t
+  follow-full ys (ifThen e a) next on r t =
+      bind _ (express-full (heldIn ys r) e t)
+      (λ c. bind _ (follow-full ys a next on r (c .nodes)) (λ x. bind _ (on r (x .nodes)) (λ y. emit-full (y .nodes) _)))
+  follow-full ys (ifElse e a b) next on r t =
+      bind _ (express-full (heldIn ys r) e t)
+      (λ c. bind _ (follow-full ys a next on r (c .nodes))
+      (λ x. bind _ (follow-full ys b next on r (x .nodes)) (λ y. emit-full (y .nodes) _)))
 
 module _ (m : Module Expr) (i : ℕ) where
   merge-full : (c : ℕ) (a b : List ℕ) (n : ℕ) (t : List Node) → Full (merge m i c a b n t)
