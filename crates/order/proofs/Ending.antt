@@ -32,7 +32,7 @@ use Rattle.validity.proofs.Valid.{some-variables}
 use Rattle.phases.specs.Phases.{turnedAlone, Phase}
 use Rattle.phases.proofs.Phases.{phase-start, phase-step, phase-bound, phase-quiet, phase-low, phase-high, phase-places}
 use Rattle.order.specs.Calls.{Call, final, instants, since, Cycles}
-use Rattle.order.specs.Claim.{AtTheEnd}
+use Rattle.order.specs.Claim.{Bounded, Progress, BookValues, BookPlaces, AtTheEnd}
 use Rattle.order.proofs.Outcomes.{choose-in}
 use Rattle.order.proofs.Users.{all-standing, from-start, standing-start, tallied}
 use Rattle.order.proofs.List.{every, to-fall}
@@ -95,23 +95,35 @@ module _ (s : List ℕ) (m : Module Expr) (e : read s ≡ ok m) (w : Sound m) (u
         calls begins (opening m T) 0 (standing-start s m e w allowances right) (to-fall cy)
         (subst (λ (st : State). Phase m (opening m T) st 0) (sym (from-start s m e w allowances right)) (phase-start m w u T allowances))
 
+    bounded : (calls : List Call) → Cycles (instants s calls begins) → Bounded s m T allowances calls
+    bounded calls cy =
+        phase-bound m w u (book m T (instants s calls begins)) (final s calls begins) (since s calls begins 0) (reached calls cy)
+
+    goes-on : (calls : List Call) → Progress s m T allowances calls
+    goes-on calls q v l room =
+        let st = final s calls begins in
+        let stands = all-standing s m e w calls begins (standing-start s m e w allowances right) in
+        let most : countOf st v ≤ allowanceOf st v = stands .fits .counts v l in
+        let some : countOf st v < allowanceOf st v = omega arith in (
+          plainChoice m st,
+          plain-byte st,
+          ap (λ r. r .number) (choose-in s m e w st stands v (plainChoice m st)) ∙ plain-refusal m st v w l q ∙ spend-zero st v some,
+        )
+
+    book-values : (calls : List Call) → Cycles (instants s calls begins) → BookValues s m T allowances calls
+    book-values calls cy q =
+        phase-quiet m w u (book m T (instants s calls begins)) (final s calls begins) (since s calls begins 0) q (reached calls cy) .0
+
+    book-places : (calls : List Call) → Cycles (instants s calls begins) → BookPlaces s m T allowances calls
+    book-places calls cy q =
+        phase-quiet m w u (book m T (instants s calls begins)) (final s calls begins) (since s calls begins 0) q (reached calls cy) .1
+
     pub at-the-end : (calls : List Call) → Cycles (instants s calls begins) → AtTheEnd s m T allowances calls
     at-the-end calls cy =
-        let p = reached calls cy in
-        let b = book m T (instants s calls begins) in
-        let st = final s calls begins in
-        let n = since s calls begins 0 in
-        let stands = all-standing s m e w calls begins (standing-start s m e w allowances right) in
         record {
           tallied = tallied s m e w allowances right calls;
-          bound = phase-bound m w u b st n p;
-          progress = λ q v l room.
-              let most : countOf st v ≤ allowanceOf st v = stands .fits .counts v l in
-              let some : countOf st v < allowanceOf st v = omega arith in (
-                plainChoice m st,
-                plain-byte st,
-                ap (λ r. r .number) (choose-in s m e w st stands v (plainChoice m st)) ∙ plain-refusal m st v w l q ∙ spend-zero st v some,
-              );
-          values = λ q. phase-quiet m w u b st n q p .0;
-          places = λ q. phase-quiet m w u b st n q p .1;
+          bound = bounded calls cy;
+          progress = goes-on calls;
+          values = book-values calls cy;
+          places = book-places calls cy;
         }

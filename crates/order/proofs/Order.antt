@@ -35,7 +35,7 @@ use Rattle.walking.proofs.Rows.{rows-length}
 use Rattle.validity.proofs.Words.{length-padded, length-allWords}
 use Rattle.validity.proofs.Valid.{short, lent, lent-is, tables-fit}
 use Rattle.order.specs.Calls.{WholeCycles}
-use Rattle.order.specs.Claim.{Handed, Gives, AllFit, Order}
+use Rattle.order.specs.Claim.{Handed, Gives, EveryCycle, Order}
 use Rattle.order.proofs.Ending.{at-the-end}
 use Rattle.order.proofs.Kept.{Kept, kept-book}
 use Rattle.order.proofs.Clocking.{clocked-agree}
@@ -169,10 +169,7 @@ module _ (s : List ℕ) (m : Module Expr) (e : read s ≡ ok m) (w : Sound m) (u
   two-more [] low high b = refl
   two-more (a ∷ past) low high b = two-more past low high (turned m T (inputOf a) b)
 
-  pub next-cycle : (past : List Inputs) (low high : Inputs) → AllFit m past → inputsFit m low ≡ true → inputsFit m high ≡ true →
-      WholeCycles past → WholeCycles (low ∷ high ∷ []) →
-      (g : Registers) (a : Inputs) → Handed m (book m T past) low g a →
-      Gives m (book m T (past ++ (low ∷ high ∷ []))) (cycleRun s ns rs g a)
+  pub next-cycle : EveryCycle s m T ns rs
   unfolding book
   next-cycle past low high fits fl fh whole cy g a hand =
       rw (two-more past low high (opening m T)) (gives (book m T past) (kept-book m w u T x past fits) low high fl fh cy g a hand)

@@ -33,20 +33,34 @@ module _ (s : List ℕ) (m : Module Expr) (T : Tables) (allowances : List ℕ) w
   abbrev pub fed : List Call → List Inputs
   fed calls = instants s calls (start s allowances .state)
 
+  -- "the count has risen since the last accepted instant, or the start, by at most P + 2^W, P being all threads' instructions and
+  -- W the wires"; "demand 3's bound is on the four counts together"
+  abbrev pub Bounded : List Call → Type 0
+  Bounded calls = since s calls (start s allowances .state) 0 ≤ allInstructions m + 2 ^ length (m .wires)
+
+  -- "a state that isn't quiet has a choice that is accepted unless the count is full": "what can stop a choice .. is now its user's used
+  -- allowance". So every user whose allowance isn't used up has one. A choice is a byte.
+  abbrev pub Progress : List Call → Type 0
+  Progress calls =
+      quiet m (end calls) ≡ false → (u : ℕ) → u < users → countOf (end calls) u ≢ allowanceOf (end calls) u →
+      (c : ℕ) × (c < 256) × (choose s (end calls) u c .number ≡ 0)
+
+  -- "a quiet one has the book's inputs, registers, places (demand 3's waits) and wires"
+  abbrev pub BookValues : List Call → Type 0
+  BookValues calls =
+      quiet m (end calls) ≡ true → (v : ℕ) → v < variables m → valueOf (end calls) v ≡ book m T (fed calls) .values v
+
+  abbrev pub BookPlaces : List Call → Type 0
+  BookPlaces calls =
+      quiet m (end calls) ≡ true → (i : ℕ) → i < length (m .threads) → placeOf (end calls) i ≡ book m T (fed calls) .places i
+
   pub record AtTheEnd (calls : List Call) : Type 0 where
     -- "time and count equal the instants and choices (those in runs too) accepted", each user's count that user's choices
     pub tallied : Tallied s allowances calls
-    -- "the count has risen since the last accepted instant, or the start, by at most P + 2^W, P being all threads' instructions and
-    -- W the wires"; "demand 3's bound is on the four counts together"
-    pub bound : since s calls (start s allowances .state) 0 ≤ allInstructions m + 2 ^ length (m .wires)
-    -- "a state that isn't quiet has a choice that is accepted unless the count is full": "what can stop a choice .. is now its user's used
-    -- allowance". So every user whose allowance isn't used up has one. A choice is a byte.
-    pub progress :
-        quiet m (end calls) ≡ false → (u : ℕ) → u < users → countOf (end calls) u ≢ allowanceOf (end calls) u →
-        (c : ℕ) × (c < 256) × (choose s (end calls) u c .number ≡ 0)
-    -- "a quiet one has the book's inputs, registers, places (demand 3's waits) and wires"
-    pub values : quiet m (end calls) ≡ true → (v : ℕ) → v < variables m → valueOf (end calls) v ≡ book m T (fed calls) .values v
-    pub places : quiet m (end calls) ≡ true → (i : ℕ) → i < length (m .threads) → placeOf (end calls) i ≡ book m T (fed calls) .places i
+    pub bound : Bounded calls
+    pub progress : Progress calls
+    pub values : BookValues calls
+    pub places : BookPlaces calls
 
 -- ---- the cycle run: "handed the book's registers and places before a cycle and that cycle's inputs 1 up"
 
@@ -73,6 +87,14 @@ unfoldable pub AllFit : Module Expr → List Inputs → Type 0
 AllFit m [] = Unit {0}
 AllFit m (a ∷ l) = (inputsFit m a ≡ true) × AllFit m l
 
+-- For every cycle: after whole cycles, a low and a high instant more.
+abbrev pub EveryCycle : List ℕ → Module Expr → Tables → List ℕ → List ℕ → Type 0
+EveryCycle s m T ns rs =
+    (past : List Inputs) (low high : Inputs) → AllFit m past → inputsFit m low ≡ true → inputsFit m high ≡ true →
+    WholeCycles past → WholeCycles (low ∷ high ∷ []) →
+    (g : Registers) (a : Inputs) → Handed m (book m T past) low g a →
+    Gives m (book m T (past ++ (low ∷ high ∷ []))) (cycleRun s ns rs g a)
+
 -- ---- the claim, of a sheet and the tables that extraction filled for it
 
 pub record Demand3 (s ns rs : List ℕ) : Type 0 where
@@ -83,12 +105,7 @@ pub record Demand3 (s ns rs : List ℕ) : Type 0 where
   -- For every four allowances and every list of calls from the start whose accepted instants form cycles.
   pub list : (allowances : List ℕ) → length allowances ≡ users → (calls : List Call) →
       Cycles (instants s calls (start s allowances .state)) → AtTheEnd s m T allowances calls
-  -- For every cycle: after whole cycles, a low and a high instant more.
-  pub cycle :
-      (past : List Inputs) (low high : Inputs) → AllFit m past → inputsFit m low ≡ true → inputsFit m high ≡ true →
-      WholeCycles past → WholeCycles (low ∷ high ∷ []) →
-      (g : Registers) (a : Inputs) → Handed m (book m T past) low g a →
-      Gives m (book m T (past ++ (low ∷ high ∷ []))) (cycleRun s ns rs g a)
+  pub cycle : EveryCycle s m T ns rs
 
 -- "In a module that extraction accepts": number 0 of the public call.
 abbrev pub Order : Type 0
