@@ -55,19 +55,20 @@ module _ (s : List ℕ) (u : ℕ) (inputs : ℕ → Inputs) where
       by false b h = refl
 
 module _ (s : List ℕ) (st : State) (u : ℕ) (ns xs : List ℕ) where
-  same-cycles : told (prepared.runCycles s st u ns xs) ≡ runCycles s st u ns xs
+  abbrev rounds : ℕ
+  rounds = 2 * (length ns / 16)
+
+  abbrev on-plan : Module Expr → prepared_cycles.Cycled
+  on-plan m = prepared.phases s u (rowInputs (m .scope .inputs) ns xs) rounds 0 st
+
+  abbrev on-sheet : Module Expr → Cycled
+  on-sheet m = phases s u (rowInputs (m .scope .inputs) ns xs) rounds 0 st
+
+  -- Where the phases are the same, the call is: what is refused before them is refused alike.
+  same-refusals : ((m : Module Expr) → told (on-plan m) ≡ on-sheet m) → told (prepared.runCycles s st u ns xs) ≡ runCycles s st u ns xs
   unfolding prepared.runCycles runCycles judged
-  same-cycles = by (read s)
+  same-refusals h = by (read s)
     where
-      rounds : ℕ
-      rounds = 2 * (length ns / 16)
-
-      on-plan : Module Expr → prepared_cycles.Cycled
-      on-plan m = prepared.phases s u (rowInputs (m .scope .inputs) ns xs) rounds 0 st
-
-      on-sheet : Module Expr → Cycled
-      on-sheet m = phases s u (rowInputs (m .scope .inputs) ns xs) rounds 0 st
-
       whole : (m : Module Expr) (t a b : Bool)
           → told
           (pick t (pick a (pick b (on-plan m) (prepared.cycled 0 25 false st)) (prepared.cycled 0 46 false st)) (prepared.cycled 0 31 false st))
@@ -75,7 +76,7 @@ module _ (s : List ℕ) (st : State) (u : ℕ) (ns xs : List ℕ) where
       whole m false a b = refl
       whole m true false b = refl
       whole m true true false = refl
-      whole m true true true = same-phases s u (rowInputs (m .scope .inputs) ns xs) rounds 0 st
+      whole m true true true = h m
 
       by : (x : Res (Module Expr))
           → told
@@ -85,6 +86,9 @@ module _ (s : List ℕ) (st : State) (u : ℕ) (ns xs : List ℕ) where
           (λ m. pick (ltb u users) (pick (wholeRows ns xs) (on-sheet m) (cycled 0 25 false st)) (cycled 0 46 false st))
       by (ok m) = whole m (stateFits m st) (ltb u users) (wholeRows ns xs)
       by (no n p) = refl
+
+  same-cycles : told (prepared.runCycles s st u ns xs) ≡ runCycles s st u ns xs
+  same-cycles = same-refusals (λ m. same-phases s u (rowInputs (m .scope .inputs) ns xs) rounds 0 st)
 
   -- ---- a sheet that is refused, and one that is accepted
 
