@@ -6,6 +6,7 @@ use values::Edge;
 ghost use mathlib.Core.Path.{_≡_};
 ghost use Prim.Native.Nat.{_%_, _<_};
 ghost use Rattle.pseudocode.specs.Instruction.{noTerm};
+ghost use Rattle.pseudocode.specs.Fetching.{termAt};
 ghost use Rattle.masks.specs.Masks.{bits};
 ghost use Rattle.plan.specs.Sections.{slotOf};
 ghost use Rattle.plan.specs.Plan.{termFrom, termsFrom, planOf};
@@ -192,17 +193,30 @@ pub fn fetch(plan: &PlanTable, thread: usize, place: u8) -> Instruction
     }
 }
 
-// The terms of the wait at a place of a thread.
-pub fn terms(plan: &PlanTable, thread: usize, place: u8) -> EdgeTerms
-    ensures { λ r. ⌜ r ≡ planOf (now (plan .entry)) .terms thread place ⌝ }
+// How many terms the wait at a place of a thread has.
+pub fn term_count(plan: &PlanTable, thread: usize, place: u8) -> u8
+    ensures { λ r. ⌜ r ≡ planOf (now (plan .entry)) .terms thread place .count ⌝ }
 {
     if 8 <= thread {
-        return terms_from(plan, 0, 0);
+        return 0;
+    }
+    low(plan[CODE + 1024 * thread + 4 * wide(place) + 1])
+}
+
+// Term `k` of the wait at a place of a thread, past the eight none.
+pub fn term(plan: &PlanTable, thread: usize, place: u8, k: u8) -> EdgeTerm
+    ensures { λ r. ⌜ r ≡ termAt (planOf (now (plan .entry)) .terms thread place) k ⌝ }
+{
+    if 8 <= thread {
+        return no_term();
+    }
+    if 8 <= k {
+        return no_term();
     }
     let at = CODE + 1024 * thread + 4 * wide(place);
     let count = low(plan[at + 1]);
     let first = slot(plan[at + 2]);
-    terms_from(plan, first, count)
+    term_from(plan, first, count, k)
 }
 
 // Does the instruction at a place of a thread wait?

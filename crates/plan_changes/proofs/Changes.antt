@@ -1,23 +1,26 @@
 -- Laws of a change, one step more of each count, and the bound of eight. Assumes nothing.
-use mathlib.Core.Path.{_≡_, refl, ap}
-use Prim.Native.Nat.{ℕ, _+_, _≤_}
+use mathlib.Core.Path.{_≡_, refl, ap, _∙_}
+use Prim.Native.Nat.{ℕ, _+_, _≤_, _<_}
 use native.Mathlib.Omega.{arith}
 use native.Mathlib.Numerals.{add-one}
 use mathlib.Core.Bool.{Bool, true, false, _||_}
 use mathlib.Core.List.{List}
 use lib.Dec.{ltb, eqb}
-use lib.ListN.{getD}
-use borrow.Author.Tests.{ltb-true}
+use lib.ListN.{getD, set}
+use borrow.Author.Tests.{lt-ltb, le-ltb, ltb-true}
 use Rattle.values.specs.declared.Value.{Value}
-use Rattle.values.specs.Values.{pick}
+use Rattle.values.specs.Values.{pick, same}
+use Rattle.values.specs.Cells.{cellOf, valueOf, cellAt}
+use Rattle.masks.specs.Masks.{bits, either, anyMark}
+use Rattle.masks.proofs.Masks.{any-bits}
 use Rattle.events.specs.Cycle.{anyBelow}
 use Rattle.pseudocode.specs.declared.EdgeTerms.{EdgeTerms}
 use Rattle.plan.specs.declared.Action.{Action}
 use Rattle.plan.specs.declared.Instruction.the-variants.{Wait, Act}
 use Rattle.plan.specs.Sections.{codePlace}
 use Rattle.plan.specs.Plan.{Plan, decode, fetchAt, waitsAt}
-use Rattle.plan_changes.specs.Scene.{Stand, Changing, scene}
-use Rattle.plan_changes.specs.Changes.{eight, wakes, wakeThread, wakeBelow, moveThread, moveBelow, move, finish}
+use Rattle.plan_changes.specs.Scene.{Stand, Changing, changing, scene}
+use Rattle.plan_changes.specs.Changes.{eight, wakes, wakeThread, wakeBelow, wake, put, moveThread, moveBelow, move, opened, finish, store}
 
 -- ---- eight
 
@@ -71,3 +74,33 @@ pub finish-made : (q : Plan) (k d : Changing) (s t : Stand) → k ≡ d → s �
     → scene (k .cells) (s .places) (k .due) (s .ready) ≡ finish q d t
 unfolding finish
 finish-made q k d s t e h = rw (← e, h)
+
+-- ---- put: by the tests of the code
+
+module _ (q : Plan) (ps : List ℕ) (v c : ℕ) (k : Changing) where
+  pub put-past : 80 ≤ v → k ≡ put q ps v c k
+  unfolding put
+  put-past h = rw (le-ltb v 80 h)
+
+  module _ (h : v < 80) (cs : List ℕ) (s : cs ≡ set (k .cells) v (cellOf (valueOf c))) where
+    pub put-same : same (cellAt (k .cells) v) (valueOf c) ≡ true → changing cs (k .due) (k .woken) ≡ put q ps v c k
+    unfolding put
+    put-same e = rw (lt-ltb v 80 h, e, s)
+
+    module _ (e : same (cellAt (k .cells) v) (valueOf c) ≡ false) (ds : List Bool) (d : ds ≡ either (k .due) (q .readers v)) where
+      pub put-unwatched : anyMark (q .watchers v) ≡ false → changing cs ds (k .woken) ≡ put q ps v c k
+      unfolding put wake
+      put-unwatched w = rw (lt-ltb v 80 h, e, s, d, w)
+
+      pub put-watched : (ws : List Bool) → ws ≡ wake q ps v (cellAt (k .cells) v) (valueOf c) (k .woken)
+          → changing cs ds ws ≡ put q ps v c k
+      unfolding put
+      put-watched ws w = rw (lt-ltb v 80 h, e, s, d, w)
+
+-- ---- store: a change that wakes nobody
+
+pub store-quiet :
+    (q : Plan) (v c : ℕ) (cs ps ks : List ℕ) (ds rs es : List Bool) → changing ks es (bits 0) ≡ put q ps v c (opened cs ds)
+    → scene ks ps es rs ≡ store q v c (scene cs ps ds rs)
+unfolding store finish move
+store-quiet q v c cs ps ks ds rs es e = rw (← e, any-bits 0 (omega arith))

@@ -3,7 +3,6 @@
 // contents.
 use plan::Cells;
 use plan::PlanTable;
-use pseudocode::EdgeTerms;
 ghost use mathlib.Core.Path.{_≡_};
 ghost use Prim.Native.Nat.{_<_};
 ghost use Rattle.masks.specs.Masks.{bits};
@@ -54,11 +53,11 @@ pub fn after(p: u8) -> u8
     if p < 255 { p + 1 } else { p }
 }
 
-// Does term `k` of a wait fire, variable `v` going from `old` to `new`?
-fn term_wakes(terms: EdgeTerms, k: u8, v: usize, old: u64, new: u64) -> bool
-    ensures { λ r. ⌜ r ≡ termWakes terms v (valueOf old) (valueOf new) k ⌝ }
+// Does term `k` of the wait at a place of a thread fire, variable `v` going from `old` to `new`?
+fn term_wakes(plan: &PlanTable, i: usize, p: u8, k: u8, v: usize, old: u64, new: u64) -> bool
+    ensures { λ r. ⌜ r ≡ termWakes (planOf (now (plan .entry)) .terms i p) v (valueOf old) (valueOf new) k ⌝ }
 {
-    let t = pseudocode::term_at(terms, k);
+    let t = plan::term(plan, i, p, k);
     if wide(t.variable) == v {
         let e = t.edge;
         values::fires_cells(e, old, new)
@@ -67,13 +66,14 @@ fn term_wakes(terms: EdgeTerms, k: u8, v: usize, old: u64, new: u64) -> bool
     }
 }
 
-// Does one of a wait's first `count` terms fire?
-fn terms_wake(terms: EdgeTerms, count: u8, v: usize, old: u64, new: u64) -> bool
-    ensures { λ r. ⌜ r ≡ anyBelow count (termWakes terms v (valueOf old) (valueOf new)) ⌝ }
+// Does one of its first `count` terms fire?
+fn terms_wake(plan: &PlanTable, i: usize, p: u8, count: u8, v: usize, old: u64, new: u64) -> bool
+    ensures { λ r. ⌜ r
+        ≡ anyBelow count (termWakes (planOf (now (plan .entry)) .terms i p) v (valueOf old) (valueOf new)) ⌝ }
 {
     let mut k: u8 = 0;
     while k < count {
-        if term_wakes(terms, k, v, old, new) {
+        if term_wakes(plan, i, p, k, v, old, new) {
             return true;
         }
         k += 1;
@@ -88,8 +88,8 @@ fn wakes(plan: &PlanTable, i: usize, p: u8, v: usize, old: u64, new: u64) -> boo
     if !plan::waits(plan, i, p) {
         return false;
     }
-    let terms = plan::terms(plan, i, p);
-    terms_wake(terms, eight(terms.count), v, old, new)
+    let count = eight(plan::term_count(plan, i, p));
+    terms_wake(plan, i, p, count, v, old, new)
 }
 
 // Thread `i` is woken where it watches the variable and its wait fires.
@@ -160,6 +160,12 @@ pub fn put(
         return made;
     }
     let due = masks::union(made.due, plan::readers(plan, v));
+    if !masks::any(plan::watchers(plan, v)) {
+        return Made {
+            due,
+            woken: made.woken,
+        };
+    }
     let woken = wake(plan, places, made.woken, v, old, c);
     Made { due, woken }
 }
@@ -226,14 +232,26 @@ pub fn store(
         (scene (now (cells .entry)) (now (places .entry)) (bits (marks .due)) (bits (marks .ready))) ⌝ }
     ensures { λ r. ⌜ r .held ≡ marks .held ⌝ }
 {
-    let opened = Made {
-        due: marks.due,
-        woken: 0,
-    };
-    let made = put(plan, cells, places, opened, v, c);
-    let ready = move_on(plan, places, marks.ready, made.woken);
+    if 80 <= v {
+        return marks;
+    }
+    let old = cells[v];
+    cells[v] = values::store(values::load(c));
+    if values::same_cells(old, c) {
+        return marks;
+    }
+    let due = masks::union(marks.due, plan::readers(plan, v));
+    if !masks::any(plan::watchers(plan, v)) {
+        return Marks {
+            due,
+            ready: marks.ready,
+            held: marks.held,
+        };
+    }
+    let woken = wake(plan, places, 0, v, old, c);
+    let ready = move_on(plan, places, marks.ready, woken);
     Marks {
-        due: made.due,
+        due,
         ready,
         held: marks.held,
     }

@@ -9,14 +9,14 @@ use mathlib.Core.List.{List, [], _∷_}
 use lib.ListN.{length, drop, getD, drop-of-length-le}
 use lib.Seq.{drop-cons}
 use lib.Dec.{eqb}
-use borrow.Author.Tests.{ne-eqb, eqb-true}
+use borrow.Author.Tests.{lt-ltb, le-ltb, ne-eqb, eqb-true}
 use Rattle.values.specs.Values.{pick}
 use Rattle.masks.specs.Masks.{first, anyMark}
 use Rattle.plan.specs.Plan.{Plan}
 use Rattle.plan_engine.specs.Live.{Live}
 use Rattle.plan_engine.specs.Taking.{Taken, taken, takeChoice}
 use Rattle.plan_engine.proofs.Taking.{choice-room}
-use Rattle.plan_engine.specs.Running.{Run, run, onward, runList, busy, plainChoice, runPlain}
+use Rattle.plan_engine.specs.Running.{Run, run, onward, runList, busy, plainChoice, runPlain, turnsOn, turnChoice, turns}
 
 -- ---- ahead: a run with k choices accepted before it
 
@@ -66,54 +66,95 @@ module _ (q : Plan) (room : ℕ) (l : Live) (i n : ℕ) (d : Live) where
         → ahead i (runList q (drop i cs) room l) ≡ run i n d
     list-off h e z = rw (list-first h) (onward-off i n d _ _ e z)
 
-  -- ---- runPlain
+-- ---- turns
 
-  module _ (limit : ℕ) where
-    plain-first : i < limit → busy l ≡ true → runPlain q (limit - i) room l
-        ≡ onward (takeChoice q room (plainChoice q l) l)
-        (runPlain q (limit - (i + 1)) (room - 1) (takeChoice q room (plainChoice q l) l .left))
-    unfolding runPlain
-    plain-first h b =
-        let e : limit - i ≡ suc (limit - (i + 1)) = omega arith in
-        rw (e, b)
+module _ (q : Plan) (c room : ℕ) (l : Live) (i n : ℕ) (d : Live) (limit : ℕ) where
+  turns-first : i < limit → turnsOn c l ≡ true → turns q c (limit - i) room l
+      ≡ onward (takeChoice q room (turnChoice q c l) l)
+      (turns q c (limit - (i + 1)) (room - 1) (takeChoice q room (turnChoice q c l) l .left))
+  unfolding turns
+  turns-first h b =
+      let e : limit - i ≡ suc (limit - (i + 1)) = omega arith in
+      rw (e, b)
 
-    pub plain-on : i < limit → busy l ≡ true → taken n d ≡ takeChoice q room (plainChoice q l) l → n ≡ 0
-        → ahead i (runPlain q (limit - i) room l) ≡ ahead (i + 1) (runPlain q (limit - (i + 1)) (room - 1) d)
-    plain-on h b e z =
-        rw (plain-first h b)
-        (onward-on i n d _ _ e z
-        ∙ ap (λ (t : Taken). ahead (i + 1) (runPlain q (limit - (i + 1)) (room - 1) (t .left))) (sym e))
+  pub turns-on : i < limit → turnsOn c l ≡ true → taken n d ≡ takeChoice q room (turnChoice q c l) l → n ≡ 0
+      → ahead i (turns q c (limit - i) room l) ≡ ahead (i + 1) (turns q c (limit - (i + 1)) (room - 1) d)
+  turns-on h b e z =
+      rw (turns-first h b)
+      (onward-on i n d _ _ e z
+      ∙ ap (λ (t : Taken). ahead (i + 1) (turns q c (limit - (i + 1)) (room - 1) (t .left))) (sym e))
 
-    pub plain-off : i < limit → busy l ≡ true → taken n d ≡ takeChoice q room (plainChoice q l) l → (n ≡ 0 → ⊥)
-        → ahead i (runPlain q (limit - i) room l) ≡ run i n d
-    plain-off h b e z = rw (plain-first h b) (onward-off i n d _ _ e z)
+  pub turns-off : i < limit → turnsOn c l ≡ true → taken n d ≡ takeChoice q room (turnChoice q c l) l → (n ≡ 0 → ⊥)
+      → ahead i (turns q c (limit - i) room l) ≡ run i n d
+  turns-off h b e z = rw (turns-first h b) (onward-off i n d _ _ e z)
 
 -- ---- runs that start and end
 
-pub plain-whole : (q : Plan) (room : ℕ) (l : Live) (limit : ℕ)
-    → ahead 0 (runPlain q (limit - 0) room l) ≡ runPlain q limit room l
-plain-whole q room l limit =
+pub list-end : (q : Plan) (room : ℕ) (l : Live) (i : ℕ) (cs : List ℕ) → length cs ≤ i
+    → ahead i (runList q (drop i cs) room l) ≡ run i 0 l
+unfolding runList
+list-end q room l i cs h = rw (drop-of-length-le cs h) (ahead-none i 0 l)
+
+pub turns-whole : (q : Plan) (c room : ℕ) (l : Live) (limit : ℕ)
+    → ahead 0 (turns q c (limit - 0) room l) ≡ turns q c limit room l
+turns-whole q c room l limit =
     let e : limit - 0 ≡ limit = omega arith in
-    rw e (ahead-zero (runPlain q limit room l))
+    rw e (ahead-zero (turns q c limit room l))
 
-module _ (q : Plan) (room : ℕ) (l : Live) (i : ℕ) where
-  pub list-end : (cs : List ℕ) → length cs ≤ i → ahead i (runList q (drop i cs) room l) ≡ run i 0 l
-  unfolding runList
-  list-end cs h = rw (drop-of-length-le cs h) (ahead-none i 0 l)
-
-  pub plain-end : (limit : ℕ) → limit ≤ i → ahead i (runPlain q (limit - i) room l) ≡ run i 0 l
-  unfolding runPlain
-  plain-end limit h =
+module _ (q : Plan) (c room : ℕ) (l : Live) (i limit : ℕ) where
+  pub turns-end : limit ≤ i → ahead i (turns q c (limit - i) room l) ≡ run i 0 l
+  unfolding turns
+  turns-end h =
       let e : limit - i ≡ zero = omega arith in
       rw e (ahead-none i 0 l)
 
-  pub plain-quiet : (limit : ℕ) → busy l ≡ false → ahead i (runPlain q (limit - i) room l) ≡ run i 0 l
-  unfolding runPlain
-  plain-quiet limit b = by (limit - i)
+  pub turns-quiet : turnsOn c l ≡ false → ahead i (turns q c (limit - i) room l) ≡ run i 0 l
+  unfolding turns
+  turns-quiet b = by (limit - i)
     where
-      by : (m : ℕ) → ahead i (runPlain q m room l) ≡ run i 0 l
+      by : (m : ℕ) → ahead i (turns q c m room l) ≡ run i 0 l
       by zero = ahead-none i 0 l
       by (suc m) = rw b (ahead-none i 0 l)
+
+-- ---- turns past every item's number are the plain run's, and one turn with a choice takes it
+
+module _ (l : Live) where
+  pub turn-given : (c : ℕ) → c < 65536 → true ≡ turnsOn c l
+  unfolding turnsOn
+  turn-given c h = rw (lt-ltb c 65536 h)
+
+  pub turn-busy : (c : ℕ) → 65536 ≤ c → busy l ≡ turnsOn c l
+  unfolding turnsOn
+  turn-busy c h = rw (le-ltb c 65536 h)
+
+module _ (q : Plan) where
+  pub choice-given : (l : Live) (c : ℕ) → c < 65536 → c ≡ turnChoice q c l
+  unfolding turnChoice
+  choice-given l c h = rw (lt-ltb c 65536 h)
+
+  pub choice-plain : (l : Live) (c : ℕ) → 65536 ≤ c → plainChoice q l ≡ turnChoice q c l
+  unfolding turnChoice
+  choice-plain l c h = rw (le-ltb c 65536 h)
+
+  pub turns-plain : (n room : ℕ) (l : Live) → turns q 65536 n room l ≡ runPlain q n room l
+  unfolding turns runPlain
+  turns-plain zero room l = refl
+  turns-plain (suc n) room l =
+      rw (← turn-busy l 65536 (omega arith), ← choice-plain l 65536 (omega arith), turns-plain n)
+
+  pub turn-one : (c room a n : ℕ) (l d : Live) → c < 65536 → run a n d ≡ turns q c 1 room l → taken n d ≡ takeChoice q room c l
+  unfolding turns onward
+  turn-one c room a n l d h e =
+      by (eqb (t .number) 0) refl (rw (← turn-given l c h, ← choice-given l c h) at e)
+    where
+      t : Taken
+      t = takeChoice q room c l
+
+      by : (b : Bool) → eqb (t .number) 0 ≡ b → run a n d ≡ pick b (run 1 0 (t .left)) (run 0 (t .number) (t .left))
+          → taken n d ≡ t
+      by true z u =
+          ap (λ (r : Run). taken (r .number) (r .left)) u ∙ ap (λ (m : ℕ). taken m (t .left)) (sym (eqb-true (t .number) 0 z))
+      by false z u = ap (λ (r : Run). taken (r .number) (r .left)) u
 
 -- ---- a run accepts no more choices than there is room for
 

@@ -74,6 +74,11 @@ module _ (q : Plan) (room : ℕ) where
         unfolding takeChoice
         choice-none s = rw (le-ltb c (q .threads) p, le-ltb c (q .threads + q .wires) h, ne-eqb c 255 s)
 
+-- ---- a choice past the number of every item
+
+pub choice-past : (q : Plan) (room c : ℕ) (l : Live) → q .threads < 256 → q .wires < 256 → 65536 ≤ c → taken 22 l ≡ takeChoice q room c l
+choice-past q room c l t w h = choice-none q room c l (omega arith) (omega arith) (omega arith)
+
 -- ---- an accepted choice found room
 
 either : (b : Bool) (t u : Taken) → (t .number ≡ 0 → ⊥) → (u .number ≡ 0 → ⊥) → pick b t u .number ≡ 0 → ⊥

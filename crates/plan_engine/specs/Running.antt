@@ -1,8 +1,8 @@
 -- Runs on a plan: over a list of choices, and the plain run.
 use Prim.Native.Nat.{ℕ, zero, suc, _+_, _-_}
-use mathlib.Core.Bool.{Bool, _||_}
+use mathlib.Core.Bool.{Bool, true, _||_}
 use mathlib.Core.List.{List, [], _∷_}
-use lib.Dec.{eqb}
+use lib.Dec.{ltb, eqb}
 use Rattle.values.specs.Values.{pick}
 use Rattle.masks.specs.Masks.{first, anyMark}
 use Rattle.plan.specs.Plan.{Plan}
@@ -46,4 +46,20 @@ runPlain q zero room l = run 0 0 l
 runPlain q (suc n) room l =
     pick (busy l)
     (onward (takeChoice q room (plainChoice q l) l) (runPlain q n (room - 1) (takeChoice q room (plainChoice q l) l .left)))
+    (run 0 0 l)
+
+-- ---- turns: at most n of them, each with the choice that is given, or with the plain one where its number is past every item's
+
+-- A choice that is given is taken in any case, the plain one as long as there is something to do.
+unfoldable pub turnsOn : ℕ → Live → Bool
+turnsOn c l = pick (ltb c 65536) true (busy l)
+
+unfoldable pub turnChoice : Plan → ℕ → Live → ℕ
+turnChoice q c l = pick (ltb c 65536) c (plainChoice q l)
+
+unfoldable pub turns : Plan → ℕ → ℕ → ℕ → Live → Run
+turns q c zero room l = run 0 0 l
+turns q c (suc n) room l =
+    pick (turnsOn c l)
+    (onward (takeChoice q room (turnChoice q c l) l) (turns q c n (room - 1) (takeChoice q room (turnChoice q c l) l .left)))
     (run 0 0 l)

@@ -18,8 +18,11 @@ ghost use Rattle.plan_changes.specs.Scene.{changing, scene};
 ghost use Rattle.plan_changes.specs.Changes.{opened};
 ghost use Rattle.plan_engine.specs.Live.{live, rootOf, evaluate, worth};
 ghost use Rattle.plan_engine.specs.Acting.{pendingWith, heldWith, leg, act, settle, putRegister, putPending, commit, putInputs, feed};
-ghost use Rattle.plan_engine.specs.Running.{run, busy, plainChoice, runList, runPlain};
+ghost use Rattle.plan_engine.specs.Running.{run, busy, plainChoice, turnsOn, turnChoice, turns, runList, runPlain};
 ghost use Rattle.plan_engine.specs.Taking.{taken, takeThread, takeWire, takeCommit, takeChoice};
+
+// The number that stands for the plain choice, past the number of every item.
+const PLAIN: usize = 65536;
 
 // What a choice leaves: 0, or the number that refuses it, and the marks.
 pub struct Taken {
@@ -408,7 +411,8 @@ pub fn take_commit(
 }
 
 // A choice: the threads by their numbers, then the wires; 255 is the commit. `room` is how many choices may still be accepted.
-pub fn take_choice(
+// It is called in one place only, so that the compiler puts it there whole.
+fn take(
     plan: &PlanTable,
     cells: &mut Cells,
     pending: &mut [u64; 32],
@@ -460,6 +464,102 @@ pub fn plain_choice(plan: &PlanTable, marks: Marks) -> usize
         return plan::threads(plan) + masks::lowest(marks.due);
     }
     255
+}
+
+// Is there a turn? A choice that is given is taken in any case.
+fn turns_on(c: usize, marks: Marks) -> bool
+    ensures { λ r. ⌜ ((cs ns ps : List ℕ) → r ≡ turnsOn c (live cs ns ps marks)) ⌝ }
+{
+    if c < PLAIN {
+        return true;
+    }
+    busy(marks)
+}
+
+// The choice of a turn.
+fn turn_choice(plan: &PlanTable, c: usize, marks: Marks) -> usize
+    ensures { λ r. ⌜ ((cs ns ps : List ℕ) → r ≡ turnChoice (planOf (now (plan .entry))) c (live cs ns ps marks)) ⌝ }
+{
+    if c < PLAIN {
+        return c;
+    }
+    plain_choice(plan, marks)
+}
+
+// At most `limit` turns: the choice that is given, or at `PLAIN` the plain ones.
+fn take_turns(
+    plan: &PlanTable,
+    cells: &mut Cells,
+    pending: &mut [u64; 32],
+    places: &mut [u8; 8],
+    marks: Marks,
+    c: usize,
+    limit: u16,
+    room: u64,
+) -> PlainRun
+    ensures { λ r. ⌜
+        run (r .accepted) (r .number)
+        (live (now (cells .exit)) (now (pending .exit)) (now (places .exit)) (r .marks))
+        ≡ turns (planOf (now (plan .entry))) c limit room
+        (live (now (cells .entry)) (now (pending .entry)) (now (places .entry)) marks)
+        ⌝ }
+{
+    let mut m = marks;
+    let mut left = room;
+    let mut i: u16 = 0;
+    while i < limit {
+        if !turns_on(c, m) {
+            return PlainRun {
+                accepted: i,
+                number: 0,
+                marks: m,
+            };
+        }
+        let k = turn_choice(plan, c, m);
+        let t = take(plan, cells, pending, places, m, k, left);
+        m = t.marks;
+        if t.number != 0 {
+            return PlainRun {
+                accepted: i,
+                number: t.number,
+                marks: m,
+            };
+        }
+        left -= 1;
+        i += 1;
+    }
+    PlainRun {
+        accepted: i,
+        number: 0,
+        marks: m,
+    }
+}
+
+// A choice, as a run of one turn.
+pub fn take_choice(
+    plan: &PlanTable,
+    cells: &mut Cells,
+    pending: &mut [u64; 32],
+    places: &mut [u8; 8],
+    marks: Marks,
+    c: usize,
+    room: u64,
+) -> Taken
+    ensures { λ r. ⌜
+        taken (r .number) (live (now (cells .exit)) (now (pending .exit)) (now (places .exit)) (r .marks))
+        ≡ takeChoice (planOf (now (plan .entry))) room c
+        (live (now (cells .entry)) (now (pending .entry)) (now (places .entry)) marks)
+        ⌝ }
+{
+    if PLAIN <= c {
+        return Taken { number: 22, marks };
+    }
+    let t = take_turns(plan, cells, pending, places, marks, c, 1, room);
+    let m = t.marks;
+    Taken {
+        number: t.number,
+        marks: m,
+    }
 }
 
 // A run over a list of choices. It ends at the first refused one.
@@ -520,33 +620,5 @@ pub fn run_plain(
         (live (now (cells .entry)) (now (pending .entry)) (now (places .entry)) marks)
         ⌝ }
 {
-    let mut m = marks;
-    let mut left = room;
-    let mut i: u16 = 0;
-    while i < limit {
-        if !busy(m) {
-            return PlainRun {
-                accepted: i,
-                number: 0,
-                marks: m,
-            };
-        }
-        let c = plain_choice(plan, m);
-        let t = take_choice(plan, cells, pending, places, m, c, left);
-        m = t.marks;
-        if t.number != 0 {
-            return PlainRun {
-                accepted: i,
-                number: t.number,
-                marks: m,
-            };
-        }
-        left -= 1;
-        i += 1;
-    }
-    PlainRun {
-        accepted: i,
-        number: 0,
-        marks: m,
-    }
+    take_turns(plan, cells, pending, places, marks, PLAIN, limit, room)
 }

@@ -1,8 +1,9 @@
 -- `plan_changes::put` meets its contract. Assumes nothing.
-use mathlib.Core.Path.{sym, _∙_}
-use borrow.Author.Tests.{lt-ltb, le-ltb}
+use mathlib.Core.Path.{sym, ap, _∙_}
+use borrow.Author.Tests.{lt-ltb, le-ltb, not-true}
+use Rattle.masks.specs.Masks.{anyMark}
 use Rattle.values.specs.Cells.{cellAt}
-use Rattle.plan_changes.specs.Changes.{put}
+use Rattle.plan_changes.specs.Changes.{put, wake}
 use borrow.Author.Needs.{needs}
 use Rattle.plan_changes.proofs.put.Statement.{statement}
 use Rattle.plan_changes.proofs.put.Tie as tie
@@ -26,9 +27,34 @@ returns-2 c =
     )
 
 returns-3 : tie.Need-returns-3
-unfolding put cellAt
+unfolding put wake cellAt
 returns-3 c =
-    let at-if2 = c .before .before .before in
+    let at-any = c .before in
+    let at-watchers = at-any .before in
+    let at-union = at-watchers .before in
+    let at-readers = at-union .before in
+    let at-if2 = at-readers .before in
+    let at-same = at-if2 .before in
+    let at-store = at-same .before in
+    let at-load = at-store .before in
+    let at-if1 = at-load .before .before in
+    let w = ap anyMark (sym (at-watchers .watchers .ensures)) ∙ sym (at-any .any .ensures) ∙ not-true _ (c .if3 .taken) in
+    rw (
+      lt-ltb _ _ (at-if1 .if1 .left),
+      sym (at-same .same-cells .ensures) ∙ at-if2 .if2 .left,
+      at-store .store .ensures,
+      at-load .load .ensures,
+      at-union .union .ensures,
+      at-readers .readers .ensures,
+      w,
+    )
+
+returns-4 : tie.Need-returns-4
+unfolding put cellAt
+returns-4 c =
+    let at-union = c .before .before .before .before in
+    let at-readers = at-union .before in
+    let at-if2 = at-readers .before in
     let at-same = at-if2 .before in
     let at-store = at-same .before in
     let at-load = at-store .before in
@@ -38,8 +64,8 @@ returns-3 c =
       sym (at-same .same-cells .ensures) ∙ at-if2 .if2 .left,
       at-store .store .ensures,
       at-load .load .ensures,
-      c .before .union .ensures,
-      c .before .before .readers .ensures,
+      at-union .union .ensures,
+      at-readers .readers .ensures,
       c .wake .ensures,
     )
 
@@ -59,4 +85,7 @@ put-spec =
     (λ c κs. search needs)
     (λ c κs. search needs)
     (λ c κs. search needs)
-    returns-3)
+    (λ c κs. search needs)
+    returns-3
+    (λ c κs. search needs)
+    returns-4)

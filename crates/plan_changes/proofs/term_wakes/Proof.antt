@@ -9,12 +9,12 @@ use Rattle.plan_changes.proofs.term_wakes.Tie as tie
 returns : tie.Need-returns
 unfolding termWakes
 returns c =
-    let at-term-at = c .before .before .before in
-    rw (c .fires-cells .ensures, ← at-term-at .term-at .ensures, eq-eqb _ _ (sym (c .before .before .wide .ensures) ∙ c .before .if1 .taken))
+    let at-term = c .before .before .before in
+    rw (c .fires-cells .ensures, ← at-term .term .ensures, eq-eqb _ _ (sym (c .before .before .wide .ensures) ∙ c .before .if1 .taken))
 
 returns-2 : tie.Need-returns-2
 unfolding termWakes
-returns-2 c = rw (← c .before .before .term-at .ensures, ne-eqb _ _ (λ e. c .if1 .left (c .before .wide .ensures ∙ e)))
+returns-2 c = rw (← c .before .before .term .ensures, ne-eqb _ _ (λ e. c .if1 .left (c .before .wide .ensures ∙ e)))
 
 pub term-wakes-spec : {M : Type 1} → statement M
 term-wakes-spec =

@@ -6,6 +6,7 @@ use mathlib.Core.Bool.{false}
 use Rattle.events.specs.Cycle.{anyBelow}
 use Rattle.events.proofs.Cycle.{any-below}
 use Rattle.values.specs.Cells.{valueOf}
+use Rattle.plan.specs.Plan.{planOf}
 use Rattle.plan_changes.specs.Changes.{termWakes}
 use Rattle.plan_changes.proofs.Changes.{any-more}
 use borrow.Author.Needs.{needs}
@@ -13,10 +14,10 @@ use Rattle.plan_changes.proofs.terms_wake.Statement.{statement}
 use Rattle.plan_changes.proofs.terms_wake.Tie as tie
 
 abbrev Inv-loop : tie.InvT-loop
-Inv-loop terms count v old new k₀ k = (k ≤ count) × (anyBelow k (termWakes terms v (valueOf old) (valueOf new)) ≡ false)
+Inv-loop plan i p count v old new k₀ k = (k ≤ count) × (anyBelow k (termWakes (planOf plan .terms i p) v (valueOf old) (valueOf new)) ≡ false)
 
 abbrev μ-loop : tie.MeasureT-loop
-μ-loop terms count v old new k₀ k = count - k
+μ-loop plan i p count v old new k₀ k = count - k
 
 loop-holds : tie.Need-loop-holds Inv-loop μ-loop
 unfolding anyBelow

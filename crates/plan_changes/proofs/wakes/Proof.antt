@@ -14,13 +14,13 @@ returns c = sym (wakes-none _ _ _ _ _ _ (sym (c .before .waits .ensures) ∙ not
 returns-2 : tie.Need-returns-2
 unfolding wakes
 returns-2 c =
-    let at-terms = c .before .before in
-    let at-waits = at-terms .before .before in
+    let at-count = c .before .before in
+    let at-waits = at-count .before .before in
     rw (
-      wait-fetched _ _ _ (sym (at-waits .waits .ensures) ∙ not-false _ (at-terms .before .if1 .left)),
-      ← at-terms .terms .ensures,
+      wait-fetched _ _ _ (sym (at-waits .waits .ensures) ∙ not-false _ (at-count .before .if1 .left)),
       c .terms-wake .ensures,
       c .before .eight .ensures,
+      at-count .term-count .ensures,
     )
 
 pub wakes-spec : {M : Type 1} → statement M
