@@ -9,6 +9,25 @@
  * No pointer may be NULL, also with the length 0; what a call writes may not overlap what it reads. A flag (bool) is 0
  * or 1. Nothing is kept between calls: they may run in several threads at once, on arrays of their own.
  *
+ * Arrays are as long as each call says, in items and not in bytes; where a length isn't passed it is fixed, and named
+ * below. Stack is what a call takes at most, measured on sheets that nest as deep as they may; the arrays that a caller
+ * lends come on top where they lie there too (a plan is 100 KB).
+ *
+ *   walbryts_read, walbryts_list                                            32 KB
+ *   walbryts_start and the other calls of events on a sheet                180 KB
+ *   walbryts_prepare, and the calls of events on a plan                     48 KB
+ *   walbryts_extract                                                       128 KB
+ *   walbryts_cycle, walbryts_cycles                                        460 KB
+ *   walbryts_clock_prepare                                                 240 KB
+ *   walbryts_clock_cycle, walbryts_clock_cycles, walbryts_clock_trace       40 KB
+ *   walbryts_read_text, walbryts_names                         WALBRYTS_STACK, 8 MB
+ *
+ * Cost: every call on a sheet reads and prepares it anew. On a plan a choice, an instant or a short run takes a third of
+ * that time on a flip-flop and a tenth on a module of eight stages; most of what is left is laying the state out and
+ * packing it, which many cycles in one call do once. A cycle by expressions takes 15 to 20 times as long by
+ * walbryts_cycle as by walbryts_clock_cycle, and that up to 40 times as long as one of 512 in one call. A trace costs
+ * the rows that it writes: on a flip-flop by expressions seven times the cycles, else a few parts in a hundred.
+ *
  * Variables are numbered from 0: inputs, then registers, then wires; input 0 is the clock. Items are threads, then
  * wires.
  *
@@ -49,6 +68,10 @@ extern "C" {
 #define WALBRYTS_THREADS 8
 #define WALBRYTS_NODE_WORDS 16384 /* words of the node table: 4,096 nodes of four */
 #define WALBRYTS_ROW_WORDS 1056   /* words of the row table: 32 rows of 33 */
+#define WALBRYTS_PLAN_WORDS 25212 /* words of a plan, and of the nodes as a plan has them */
+#define WALBRYTS_CLOCK_WORDS 1152 /* words of the rows as a plan has them */
+#define WALBRYTS_CLOCK_BYTES 2048 /* bytes of the rows' numbers, by thread and place */
+#define WALBRYTS_TRACE_ROW 88     /* words of a row of a trace: 80 variables, then 8 places */
 
 /* ---- where a saved state has what. Multi-byte numbers are low byte first. Byte 0 names the form and is 4. */
 
@@ -67,6 +90,13 @@ extern "C" {
 /* (In the older forms a value is five bytes, 1 for x or 0, then its number: values stand at 1 + 5 v, pending values at
  * 401 + 6 r, places at 593, wires that are due at 601, the time at 633. Form 3 has the same counts and allowances behind
  * it; forms 1 and 2 have one count, form 1 with four bytes for time and count each, form 2 with eight.) */
+
+/* ---- where a trace has what: row p is instant number p's, two rows to a cycle. A variable's word is its number, and
+ * its marks in the upper half; past the sheet's variables it is 0 with 32 marks, as the start state has them. */
+#define WALBRYTS_TRACE_AT(p, v) (WALBRYTS_TRACE_ROW * (size_t)(p) + (size_t)(v))
+#define WALBRYTS_TRACE_PLACE_AT(p, t) (WALBRYTS_TRACE_ROW * (size_t)(p) + 80 + (size_t)(t))
+#define WALBRYTS_TRACE_NUMBER(word) ((uint32_t)((word) & 0xFFFFFFFFu))
+#define WALBRYTS_TRACE_MARKS(word) ((uint32_t)((word) >> 32))
 
 /* ---- numbers and words */
 
@@ -162,6 +192,45 @@ uint8_t walbryts_run_cycles(const uint8_t *sheet, size_t sheet_len, uint8_t *sta
                             size_t value_len, const uint32_t *unknown, size_t unknown_len, size_t *phases,
                             bool *running);
 
+/* ---- events on a plan. Each of the calls above reads and prepares the sheet anew. walbryts_prepare does so once, into
+ * plan[WALBRYTS_PLAN_WORDS], which the calls below only read: several threads may use one plan. Each answers and leaves
+ * what the call of the same name on the sheet does. A plan says nothing to a caller but for these calls; its words may
+ * differ from release to release. Words that walbryts_prepare didn't fill are a plan too, of some module or of none: a
+ * call on them ends, touches nothing but what it is lent, and gives a number that it has. */
+
+/* Prepares the sheet. Gives 0, or 1 to 11, with *place as walbryts_read has it; then the plan stays. */
+uint8_t walbryts_prepare(const uint8_t *sheet, size_t sheet_len, uint32_t *plan, size_t *place);
+
+/* The start state, as walbryts_start; it is never refused. */
+void walbryts_plan_start(const uint32_t *plan, const uint32_t *allowances, uint8_t *state);
+
+/* As walbryts_choose: 0, or 31, 22, 46, 33, 34, 35, 47. */
+uint8_t walbryts_plan_choose(const uint32_t *plan, uint8_t *state, uint8_t user, uint8_t choice);
+
+/* As walbryts_run; 31 and 46 are a refused call. */
+uint8_t walbryts_plan_run(const uint32_t *plan, uint8_t *state, uint8_t user, const uint8_t *choices,
+                          size_t choices_len, size_t *accepted);
+
+/* As walbryts_run_plain: 0, 47 where it was stopped, else 31, 46. */
+uint8_t walbryts_plan_run_plain(const uint32_t *plan, uint8_t *state, uint8_t user, uint16_t limit, uint16_t *accepted,
+                                uint8_t *word);
+
+/* As walbryts_instant: 0, or 31, 25, 32, 36. */
+uint8_t walbryts_plan_instant(const uint32_t *plan, uint8_t *state, uint8_t count, const uint32_t *value,
+                              const uint32_t *unknown);
+
+/* As walbryts_run_cycles; 31, 46 and 25 (rows that aren't whole) are a refused call. */
+uint8_t walbryts_plan_run_cycles(const uint32_t *plan, uint8_t *state, uint8_t user, const uint32_t *value,
+                                 size_t value_len, const uint32_t *unknown, size_t unknown_len, size_t *phases,
+                                 bool *running);
+
+/* The same cycles, traced: for each instant that was done with the run after it, *phases of them, a row of
+ * WALBRYTS_TRACE_ROW words in `trace`; what lies behind these rows stays. Room is needed for two rows to each 16 values,
+ * else the call is refused, with 23 before all other numbers. */
+uint8_t walbryts_plan_trace(const uint32_t *plan, uint8_t *state, uint8_t user, const uint32_t *value, size_t value_len,
+                            const uint32_t *unknown, size_t unknown_len, uint64_t *trace, size_t trace_len,
+                            size_t *phases, bool *running);
+
 /* ---- expressions */
 
 /* The expressions of what every register becomes at a clock edge, into nodes[WALBRYTS_NODE_WORDS] and
@@ -186,6 +255,34 @@ uint8_t walbryts_cycles(const uint8_t *sheet, size_t sheet_len, const uint16_t *
                         const uint16_t *rows, size_t rows_len, uint32_t *value, uint32_t *unknown, uint8_t *places,
                         const uint32_t *inputs, size_t inputs_len, const uint32_t *inputs_unknown,
                         size_t inputs_unknown_len, size_t *cycles, uint32_t *wire, uint32_t *unsure);
+
+/* ---- expressions, prepared. walbryts_clock_prepare judges a sheet and its tables once, and fills four arrays that the
+ * calls below only read: plan[WALBRYTS_PLAN_WORDS], lent[WALBRYTS_PLAN_WORDS], table[WALBRYTS_CLOCK_WORDS] and
+ * numbers[WALBRYTS_CLOCK_BYTES]. What is said of plans above holds of them. Gives 0, or 23, 1 to 21, 24; refused, all
+ * four stay. */
+uint8_t walbryts_clock_prepare(const uint8_t *sheet, size_t sheet_len, const uint16_t *nodes, size_t nodes_len,
+                               const uint16_t *rows, size_t rows_len, uint32_t *plan, uint32_t *lent, uint32_t *table,
+                               uint8_t *numbers);
+
+/* As walbryts_cycle: 0, or 31, 25. */
+uint8_t walbryts_clock_cycle(const uint32_t *plan, const uint32_t *lent, const uint32_t *table, const uint8_t *numbers,
+                             uint32_t *value, uint32_t *unknown, uint8_t *places, uint8_t count, const uint32_t *inputs,
+                             const uint32_t *inputs_unknown, uint32_t *wire, uint32_t *unsure);
+
+/* As walbryts_cycles; 31, and 25 where rows aren't whole, are a refused call. */
+uint8_t walbryts_clock_cycles(const uint32_t *plan, const uint32_t *lent, const uint32_t *table, const uint8_t *numbers,
+                              uint32_t *value, uint32_t *unknown, uint8_t *places, const uint32_t *inputs,
+                              size_t inputs_len, const uint32_t *inputs_unknown, size_t inputs_unknown_len,
+                              size_t *cycles, uint32_t *wire, uint32_t *unsure);
+
+/* The same cycles, traced: for each accepted one, *cycles of them, two rows of WALBRYTS_TRACE_ROW words in `trace`, the
+ * first once the wires have settled on its inputs, with the clock 0 and registers and places before it, the second what
+ * it gives, with the clock 1; what lies behind these rows stays. Room is needed for two rows to each 16 inputs, else the
+ * call is refused, with 23 before all other numbers. */
+uint8_t walbryts_clock_trace(const uint32_t *plan, const uint32_t *lent, const uint32_t *table, const uint8_t *numbers,
+                             uint32_t *value, uint32_t *unknown, uint8_t *places, const uint32_t *inputs,
+                             size_t inputs_len, const uint32_t *inputs_unknown, size_t inputs_unknown_len,
+                             uint64_t *trace, size_t trace_len, size_t *cycles);
 
 /* ---- many modules, run side by side */
 

@@ -1,6 +1,6 @@
 /*
  * Document 01's flip-flop from C: read from Verilog and as a sheet, listed, run by events and by expressions, saved,
- * loaded, and refused.
+ * loaded, refused, prepared and traced.
  *
  *   cc -std=c11 -Wall -Wextra -Iinclude examples/c/flipflop.c target/staticlib/libexports.a -o flipflop
  */
@@ -127,6 +127,30 @@ static void by_rows(void) {
     print_state(state);
 }
 
+/* The same rows on a plan, with the register after each instant. */
+static void traced(void) {
+    static uint32_t plan[WALBRYTS_PLAN_WORDS];
+    uint32_t value[3 * WALBRYTS_INPUTS] = {0}, unknown[3 * WALBRYTS_INPUTS] = {0};
+    uint64_t trace[6 * WALBRYTS_TRACE_ROW];
+    uint8_t state[WALBRYTS_STATE];
+    size_t place, phases;
+    bool running;
+    value[1] = 17;
+    value[WALBRYTS_INPUTS + 1] = 18;
+    value[2 * WALBRYTS_INPUTS + 1] = 256;
+    accepted("prepare", walbryts_prepare(sheet, sizeof sheet, plan, &place));
+    walbryts_plan_start(plan, allowances, state);
+    uint8_t number = walbryts_plan_trace(plan, state, USER, value, 3 * WALBRYTS_INPUTS, unknown, 3 * WALBRYTS_INPUTS, trace,
+                                         6 * WALBRYTS_TRACE_ROW, &phases, &running);
+    printf("traced: register");
+    for (size_t p = 0; p < phases; p++) {
+        uint64_t word = trace[WALBRYTS_TRACE_AT(p, REGISTER)];
+        printf(" ");
+        print_value(WALBRYTS_TRACE_NUMBER(word), WALBRYTS_TRACE_MARKS(word));
+    }
+    printf(", then %u\n", number);
+}
+
 static void by_expressions(void) {
     static uint16_t nodes[WALBRYTS_NODE_WORDS], rows[WALBRYTS_ROW_WORDS];
     uint32_t value[WALBRYTS_REGISTERS] = {0}, wire[WALBRYTS_WIRES], inputs[WALBRYTS_INPUTS] = {5};
@@ -166,6 +190,7 @@ int main(void) {
     list();
     by_events();
     by_rows();
+    traced();
     by_expressions();
     return 0;
 }

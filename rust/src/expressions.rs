@@ -51,9 +51,9 @@ impl Tables {
 /// Registers and wait places: what a cycle by expressions starts from and comes to.
 #[derive(Clone, Debug, PartialEq, Eq, Hash)]
 pub struct Registers {
-    value: [u32; REGISTERS],
-    unknown: [u32; REGISTERS],
-    places: [u8; PLACES],
+    pub(crate) value: [u32; REGISTERS],
+    pub(crate) unknown: [u32; REGISTERS],
+    pub(crate) places: [u8; PLACES],
 }
 
 impl Registers {
@@ -124,8 +124,8 @@ impl Registers {
 /// The wires after a cycle by expressions.
 #[derive(Clone, Debug, PartialEq, Eq, Hash)]
 pub struct Wires {
-    value: [u32; WIRES],
-    unknown: [u32; WIRES],
+    pub(crate) value: [u32; WIRES],
+    pub(crate) unknown: [u32; WIRES],
 }
 
 impl Wires {
@@ -139,7 +139,7 @@ impl Wires {
         Value { number: self.value[wire], unknown: self.unknown[wire] }
     }
 
-    fn unknown() -> Wires {
+    pub(crate) fn unknown() -> Wires {
         Wires { value: [0; WIRES], unknown: [u32::MAX; WIRES] }
     }
 }

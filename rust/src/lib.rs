@@ -12,6 +12,10 @@
 //! - by expressions: [`Sheet::extract`] gives [`Tables`] of what every register becomes at a
 //!   clock edge, with which [`Sheet::cycle`] and [`Sheet::cycles`] run clock cycles.
 //!
+//! Each of these calls prepares the sheet anew. For many calls on one sheet [`Sheet::prepare`]
+//! gives a [`Plan`], and [`Sheet::prepare_tables`] a [`ClockPlan`], with the same calls, and with
+//! [`Trace`]s: many cycles in one call, and what every one of them left.
+//!
 //! The flip-flop, by events and by expressions:
 //!
 //! ```
@@ -47,15 +51,21 @@ mod inputs;
 mod state;
 mod simulation;
 mod expressions;
+mod trace;
+mod plan;
+mod clock;
 mod dispatcher;
 mod text;
 
+pub use clock::ClockPlan;
 pub use dispatcher::{Record, dispatch};
 pub use expressions::{Cycles, NODE_WORDS, ROW_WORDS, Registers, Tables, Wires};
 pub use inputs::{Inputs, Rows};
+pub use plan::Plan;
 pub use refusal::{Reason, Refusal};
 pub use sheet::{Sheet, list};
 pub use simulation::{COMMIT, CycleRuns, PlainRun, Run, Verdict};
 pub use state::{NotSaved, SAVED, State, USERS};
 pub use text::{MOST_TEXT, names};
+pub use trace::Trace;
 pub use value::Value;

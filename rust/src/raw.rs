@@ -140,6 +140,131 @@ unsafe extern "C" {
         unsure: *mut u32,
     ) -> u8;
 
+    pub fn walbryts_prepare(
+        sheet: *const u8,
+        sheet_len: usize,
+        plan: *mut u32,
+        place: *mut usize,
+    ) -> u8;
+
+    pub fn walbryts_plan_start(plan: *const u32, allowances: *const u32, state: *mut u8);
+
+    pub fn walbryts_plan_choose(plan: *const u32, state: *mut u8, user: u8, choice: u8) -> u8;
+
+    pub fn walbryts_plan_run(
+        plan: *const u32,
+        state: *mut u8,
+        user: u8,
+        choices: *const u8,
+        choices_len: usize,
+        accepted: *mut usize,
+    ) -> u8;
+
+    pub fn walbryts_plan_run_plain(
+        plan: *const u32,
+        state: *mut u8,
+        user: u8,
+        limit: u16,
+        accepted: *mut u16,
+        word: *mut u8,
+    ) -> u8;
+
+    pub fn walbryts_plan_instant(
+        plan: *const u32,
+        state: *mut u8,
+        count: u8,
+        value: *const u32,
+        unknown: *const u32,
+    ) -> u8;
+
+    pub fn walbryts_plan_run_cycles(
+        plan: *const u32,
+        state: *mut u8,
+        user: u8,
+        value: *const u32,
+        value_len: usize,
+        unknown: *const u32,
+        unknown_len: usize,
+        phases: *mut usize,
+        running: *mut bool,
+    ) -> u8;
+
+    pub fn walbryts_plan_trace(
+        plan: *const u32,
+        state: *mut u8,
+        user: u8,
+        value: *const u32,
+        value_len: usize,
+        unknown: *const u32,
+        unknown_len: usize,
+        trace: *mut u64,
+        trace_len: usize,
+        phases: *mut usize,
+        running: *mut bool,
+    ) -> u8;
+
+    pub fn walbryts_clock_prepare(
+        sheet: *const u8,
+        sheet_len: usize,
+        nodes: *const u16,
+        nodes_len: usize,
+        rows: *const u16,
+        rows_len: usize,
+        plan: *mut u32,
+        lent: *mut u32,
+        table: *mut u32,
+        numbers: *mut u8,
+    ) -> u8;
+
+    pub fn walbryts_clock_cycle(
+        plan: *const u32,
+        lent: *const u32,
+        table: *const u32,
+        numbers: *const u8,
+        value: *mut u32,
+        unknown: *mut u32,
+        places: *mut u8,
+        count: u8,
+        inputs: *const u32,
+        inputs_unknown: *const u32,
+        wire: *mut u32,
+        unsure: *mut u32,
+    ) -> u8;
+
+    pub fn walbryts_clock_cycles(
+        plan: *const u32,
+        lent: *const u32,
+        table: *const u32,
+        numbers: *const u8,
+        value: *mut u32,
+        unknown: *mut u32,
+        places: *mut u8,
+        inputs: *const u32,
+        inputs_len: usize,
+        inputs_unknown: *const u32,
+        inputs_unknown_len: usize,
+        cycles: *mut usize,
+        wire: *mut u32,
+        unsure: *mut u32,
+    ) -> u8;
+
+    pub fn walbryts_clock_trace(
+        plan: *const u32,
+        lent: *const u32,
+        table: *const u32,
+        numbers: *const u8,
+        value: *mut u32,
+        unknown: *mut u32,
+        places: *mut u8,
+        inputs: *const u32,
+        inputs_len: usize,
+        inputs_unknown: *const u32,
+        inputs_unknown_len: usize,
+        trace: *mut u64,
+        trace_len: usize,
+        cycles: *mut usize,
+    ) -> u8;
+
     pub fn walbryts_dispatch(
         busy: *const bool,
         busy_len: usize,

@@ -127,13 +127,7 @@ impl Sheet {
                 &mut word,
             )
         };
-        let verdict = match word {
-            0 => Verdict::Quiet,
-            1 => Verdict::Spent,
-            2 => Verdict::Full,
-            _ => return Err(Refusal::of(number)),
-        };
-        Ok(PlainRun { accepted, verdict })
+        plain_run(accepted, word, number)
     }
 
     /// An instant: sets all inputs, the clock first, as one change.
@@ -194,8 +188,19 @@ impl Sheet {
     }
 }
 
+/// What a plain run came to, by its word; a refused one by its number.
+pub(crate) fn plain_run(accepted: u16, word: u8, number: u8) -> Result<PlainRun, Refusal> {
+    let verdict = match word {
+        0 => Verdict::Quiet,
+        1 => Verdict::Spent,
+        2 => Verdict::Full,
+        _ => return Err(Refusal::of(number)),
+    };
+    Ok(PlainRun { accepted, verdict })
+}
+
 /// A state that doesn't fit, or a user that there isn't, is a refused call, and no stop.
-fn unless_refused(stop: Option<Refusal>) -> Result<Option<Refusal>, Refusal> {
+pub(crate) fn unless_refused(stop: Option<Refusal>) -> Result<Option<Refusal>, Refusal> {
     match stop {
         Some(refusal) if matches!(refusal.reason(), Reason::Unfit | Reason::NoUser) => {
             Err(refusal)

@@ -7,7 +7,7 @@
 
 #include "walbryts.h"
 
-enum { LONG = 8193, ROWS = 3 * WALBRYTS_INPUTS, GUARD = 64 };
+enum { LONG = 8193, ROWS = 3 * WALBRYTS_INPUTS, GUARD = 64, TRACE = 6 * WALBRYTS_TRACE_ROW };
 
 /* ---- sheets */
 
@@ -54,6 +54,12 @@ typedef struct {
     uint8_t sheet[WALBRYTS_SHEET + 1];
     uint16_t names[WALBRYTS_VARIABLES];
     uint16_t lengths[WALBRYTS_VARIABLES];
+    uint32_t plan[WALBRYTS_PLAN_WORDS];
+    uint32_t clock_plan[WALBRYTS_PLAN_WORDS];
+    uint32_t clock_nodes[WALBRYTS_PLAN_WORDS];
+    uint32_t clock_rows[WALBRYTS_CLOCK_WORDS];
+    uint8_t clock_numbers[WALBRYTS_CLOCK_BYTES];
+    uint64_t trace[TRACE];
 } Lent;
 
 static Lent lent, kept;
@@ -74,7 +80,7 @@ static void hold(const char *call, uint8_t number, uint8_t expected, bool told) 
     }
 }
 
-/* A fresh state, tables of the flip-flop, registers at their start, and marks in everything that a call only writes to. */
+/* A fresh state, tables and plans of the flip-flop, registers at their start, and marks in everything that a call only writes to. */
 static void lend(void) {
     memset(&lent, 0, sizeof lent);
     memset(lent.text, 0xA5, sizeof lent.text);
@@ -88,15 +94,24 @@ static void lend(void) {
         lent.value[i] = (uint32_t)i;
         lent.unknown[i] = 64 - (uint32_t)i;
     }
+    memset(lent.trace, 0xA5, sizeof lent.trace);
+    size_t place = 77;
     if (walbryts_start(good.bytes, good.len, allowances, lent.state) != 0 ||
-        walbryts_extract(good.bytes, good.len, lent.nodes, WALBRYTS_NODE_WORDS, lent.rows, WALBRYTS_ROW_WORDS) != 0) {
+        walbryts_extract(good.bytes, good.len, lent.nodes, WALBRYTS_NODE_WORDS, lent.rows, WALBRYTS_ROW_WORDS) != 0 ||
+        walbryts_prepare(good.bytes, good.len, lent.plan, &place) != 0 || place != 0 ||
+        walbryts_clock_prepare(good.bytes, good.len, lent.nodes, WALBRYTS_NODE_WORDS, lent.rows, WALBRYTS_ROW_WORDS,
+                               lent.clock_plan, lent.clock_nodes, lent.clock_rows, lent.clock_numbers) != 0) {
         failed++;
-        printf("FAILED the flip-flop isn't read and extracted\n");
+        printf("FAILED the flip-flop isn't read, extracted and prepared\n");
     }
     keep();
 }
 
-/* ---- the calls, each held */
+/* ---- the calls, each held; on the flip-flop those on what was prepared too */
+
+static bool prepared(Sheet s) {
+    return s.number == 0;
+}
 
 static void list(Sheet s, uint8_t expected) {
     size_t length = 77;
@@ -105,7 +120,10 @@ static void list(Sheet s, uint8_t expected) {
 }
 
 static void start(Sheet s, uint8_t expected) {
+    size_t place = 77, read = 78;
     hold("start", walbryts_start(s.bytes, s.len, allowances, lent.state), expected, true);
+    uint8_t number = walbryts_prepare(s.bytes, s.len, lent.plan, &place);
+    hold("prepare", number, expected, walbryts_read(s.bytes, s.len, &read) == number && place == read);
 }
 
 /* The user of the calls that follow. */
@@ -115,12 +133,20 @@ static void run(Sheet s, const uint8_t *choices, size_t count, uint8_t expected)
     size_t accepted = 77;
     uint8_t number = walbryts_run(s.bytes, s.len, lent.state, user, choices, count, &accepted);
     hold("run", number, expected, accepted == 0);
+    if (prepared(s)) {
+        accepted = 77;
+        number = walbryts_plan_run(lent.plan, lent.state, user, choices, count, &accepted);
+        hold("plan_run", number, expected, accepted == 0);
+    }
 }
 
 /* A choice, and a run that it opens. */
 static void choose(Sheet s, uint8_t choice, uint8_t expected) {
     const uint8_t choices[] = {choice, 0};
     hold("choose", walbryts_choose(s.bytes, s.len, lent.state, user, choice), expected, true);
+    if (prepared(s)) {
+        hold("plan_choose", walbryts_plan_choose(lent.plan, lent.state, user, choice), expected, true);
+    }
     run(s, choices, sizeof choices, expected);
 }
 
@@ -129,11 +155,43 @@ static void run_plain(Sheet s, uint8_t expected, uint8_t expected_word) {
     uint8_t word = 77;
     uint8_t number = walbryts_run_plain(s.bytes, s.len, lent.state, user, 9, &accepted, &word);
     hold("run_plain", number, expected, accepted == 0 && word == expected_word);
+    if (prepared(s)) {
+        accepted = word = 77;
+        number = walbryts_plan_run_plain(lent.plan, lent.state, user, 9, &accepted, &word);
+        hold("plan_run_plain", number, expected, accepted == 0 && word == expected_word);
+    }
 }
 
 static void instant(Sheet s, uint8_t count, uint8_t expected) {
     uint8_t number = walbryts_instant(s.bytes, s.len, lent.state, count, lent.inputs, lent.inputs_unknown);
     hold("instant", number, expected, true);
+    if (prepared(s)) {
+        number = walbryts_plan_instant(lent.plan, lent.state, count, lent.inputs, lent.inputs_unknown);
+        hold("plan_instant", number, expected, true);
+    }
+}
+
+static void trace(size_t values, size_t marks, size_t words, uint8_t expected) {
+    size_t phases = 77;
+    bool running = true;
+    uint8_t number = walbryts_plan_trace(lent.plan, lent.state, user, lent.inputs, values, lent.inputs_unknown, marks,
+                                         lent.trace, words, &phases, &running);
+    hold("plan_trace", number, expected, phases == 0 && !running);
+}
+
+/* Many cycles on the plan, and traces of them; 23 comes first where a row of the trace has no room. */
+static void plan_run_cycles(size_t values, size_t marks, uint8_t expected) {
+    size_t phases = 77, words = values / WALBRYTS_INPUTS * 2 * WALBRYTS_TRACE_ROW;
+    bool running = true;
+    uint8_t number = walbryts_plan_run_cycles(lent.plan, lent.state, user, lent.inputs, values, lent.inputs_unknown, marks,
+                                              &phases, &running);
+    hold("plan_run_cycles", number, expected, phases == 0 && !running);
+    trace(values, marks, words, expected);
+    trace(values, marks, TRACE, expected);
+    if (words > 0) {
+        trace(values, marks, words - 1, 23);
+        trace(values, marks, 0, 23);
+    }
 }
 
 static void run_cycles(Sheet s, size_t values, size_t marks, uint8_t expected) {
@@ -143,16 +201,61 @@ static void run_cycles(Sheet s, size_t values, size_t marks, uint8_t expected) {
         walbryts_run_cycles(s.bytes, s.len, lent.state, user, lent.inputs, values, lent.inputs_unknown, marks, &phases,
                             &running);
     hold("run_cycles", number, expected, phases == 0 && !running);
+    if (prepared(s)) {
+        plan_run_cycles(values, marks, expected);
+    }
 }
 
 static void extract(Sheet s, size_t nodes, size_t rows, uint8_t expected) {
     hold("extract", walbryts_extract(s.bytes, s.len, lent.nodes, nodes, lent.rows, rows), expected, true);
 }
 
+/* Numbers below 25 refuse the sheet and its tables, and the calls on what was prepared don't have them. */
+static bool tables_refused(Sheet s, size_t nodes, uint8_t expected) {
+    if (prepared(s) && expected != 23 && expected != 24) {
+        return false;
+    }
+    uint8_t number = walbryts_clock_prepare(s.bytes, s.len, lent.nodes, nodes, lent.rows, WALBRYTS_ROW_WORDS, lent.clock_plan,
+                                            lent.clock_nodes, lent.clock_rows, lent.clock_numbers);
+    hold("clock_prepare", number, expected, true);
+    return true;
+}
+
+static void clock_cycle(uint8_t count, uint8_t expected) {
+    uint8_t number = walbryts_clock_cycle(lent.clock_plan, lent.clock_nodes, lent.clock_rows, lent.clock_numbers, lent.value,
+                                          lent.unknown, lent.places, count, lent.inputs, lent.inputs_unknown, lent.wire,
+                                          lent.unsure);
+    hold("clock_cycle", number, expected, true);
+}
+
+static void clock_trace(size_t values, size_t marks, size_t words, uint8_t expected) {
+    size_t done = 77;
+    uint8_t number = walbryts_clock_trace(lent.clock_plan, lent.clock_nodes, lent.clock_rows, lent.clock_numbers, lent.value,
+                                          lent.unknown, lent.places, lent.inputs, values, lent.inputs_unknown, marks,
+                                          lent.trace, words, &done);
+    hold("clock_trace", number, expected, done == 0);
+}
+
+static void clock_cycles(size_t values, size_t marks, uint8_t expected) {
+    size_t done = 77, words = values / WALBRYTS_INPUTS * 2 * WALBRYTS_TRACE_ROW;
+    uint8_t number = walbryts_clock_cycles(lent.clock_plan, lent.clock_nodes, lent.clock_rows, lent.clock_numbers, lent.value,
+                                           lent.unknown, lent.places, lent.inputs, values, lent.inputs_unknown, marks, &done,
+                                           lent.wire, lent.unsure);
+    hold("clock_cycles", number, expected, done == 0);
+    clock_trace(values, marks, words, expected);
+    clock_trace(values, marks, TRACE, expected);
+    if (words > 0) {
+        clock_trace(values, marks, words - 1, 23);
+    }
+}
+
 static void cycle(Sheet s, size_t nodes, uint8_t count, uint8_t expected) {
     uint8_t number = walbryts_cycle(s.bytes, s.len, lent.nodes, nodes, lent.rows, WALBRYTS_ROW_WORDS, lent.value, lent.unknown,
                                     lent.places, count, lent.inputs, lent.inputs_unknown, lent.wire, lent.unsure);
     hold("cycle", number, expected, true);
+    if (!tables_refused(s, nodes, expected)) {
+        clock_cycle(count, expected);
+    }
 }
 
 static void cycles(Sheet s, size_t nodes, size_t values, size_t marks, uint8_t expected) {
@@ -161,6 +264,9 @@ static void cycles(Sheet s, size_t nodes, size_t values, size_t marks, uint8_t e
                                      lent.places, lent.inputs, values, lent.inputs_unknown, marks, &accepted, lent.wire,
                                      lent.unsure);
     hold("cycles", number, expected, accepted == 0);
+    if (!tables_refused(s, nodes, expected)) {
+        clock_cycles(values, marks, expected);
+    }
 }
 
 static void bring_over(Sheet s, const uint8_t *old, size_t old_len, uint8_t expected) {
@@ -346,6 +452,7 @@ static void full_time(void) {
 static void users(void) {
     for (user = 4; user != 0; user = user == 4 ? 255 : 0) {
         hold("choose", walbryts_choose(good.bytes, good.len, lent.state, user, 254), 22, true);
+        hold("plan_choose", walbryts_plan_choose(lent.plan, lent.state, user, 254), 22, true);
         choose(good, 0, 46);
         choose(good, WALBRYTS_COMMIT, 46);
         run(good, flip_flop, 0, 46);
@@ -513,6 +620,51 @@ static void accepted(void) {
                                    lent.wire, lent.unsure));
 }
 
+static void accepted_on_plans(void) {
+    size_t place, phases, done;
+    bool running;
+    lend();
+    lent.inputs[1] = 6;
+    keep();
+    memset(lent.plan, 0, sizeof lent.plan);
+    memset(lent.clock_rows, 0, sizeof lent.clock_rows);
+    keep();
+    seen("prepare", walbryts_prepare(good.bytes, good.len, lent.plan, &place));
+    seen("clock_prepare", walbryts_clock_prepare(good.bytes, good.len, lent.nodes, WALBRYTS_NODE_WORDS, lent.rows,
+                                                 WALBRYTS_ROW_WORDS, lent.clock_plan, lent.clock_nodes, lent.clock_rows,
+                                                 lent.clock_numbers));
+    seen("plan_instant", walbryts_plan_instant(lent.plan, lent.state, 2, lent.inputs, lent.inputs_unknown));
+    seen("plan_run_cycles", walbryts_plan_run_cycles(lent.plan, lent.state, 1, lent.inputs, 16, lent.inputs_unknown, 16,
+                                                     &phases, &running));
+    seen("plan_trace", walbryts_plan_trace(lent.plan, lent.state, 1, lent.inputs, 32, lent.inputs_unknown, 32, lent.trace,
+                                           TRACE, &phases, &running));
+    if (phases != 4 || lent.trace[WALBRYTS_TRACE_AT(1, 2)] != 6 || lent.trace[WALBRYTS_TRACE_AT(3, 2)] != 0 ||
+        lent.trace[WALBRYTS_TRACE_PLACE_AT(3, 0)] != 0 || WALBRYTS_TRACE_MARKS(lent.trace[WALBRYTS_TRACE_AT(0, 79)]) != 0xFFFFFFFFu ||
+        lent.trace[WALBRYTS_TRACE_AT(4, 0)] != 0xA5A5A5A5A5A5A5A5u) {
+        failed++;
+        printf("FAILED the rows of a trace by events\n");
+    }
+    lent.inputs[0] = 9;
+    keep();
+    seen("clock_cycle", walbryts_clock_cycle(lent.clock_plan, lent.clock_nodes, lent.clock_rows, lent.clock_numbers, lent.value,
+                                             lent.unknown, lent.places, 1, lent.inputs, lent.inputs_unknown, lent.wire,
+                                             lent.unsure));
+    seen("clock_cycles", walbryts_clock_cycles(lent.clock_plan, lent.clock_nodes, lent.clock_rows, lent.clock_numbers,
+                                               lent.value, lent.unknown, lent.places, lent.inputs, 16, lent.inputs_unknown,
+                                               16, &done, lent.wire, lent.unsure));
+    memset(lent.trace, 0xA5, sizeof lent.trace);
+    keep();
+    seen("clock_trace", walbryts_clock_trace(lent.clock_plan, lent.clock_nodes, lent.clock_rows, lent.clock_numbers, lent.value,
+                                             lent.unknown, lent.places, lent.inputs, 32, lent.inputs_unknown, 32, lent.trace,
+                                             TRACE, &done));
+    if (done != 2 || lent.value[0] != 0 || lent.trace[WALBRYTS_TRACE_AT(1, 2)] != 6 || lent.trace[WALBRYTS_TRACE_AT(3, 2)] != 0 ||
+        WALBRYTS_TRACE_MARKS(lent.trace[WALBRYTS_TRACE_AT(0, 79)]) != 0xFFFFFFFFu ||
+        lent.trace[WALBRYTS_TRACE_AT(4, 0)] != 0xA5A5A5A5A5A5A5A5u) {
+        failed++;
+        printf("FAILED the rows of a trace by expressions\n");
+    }
+}
+
 int main(void) {
     sheets();
     states();
@@ -521,6 +673,7 @@ int main(void) {
     tables();
     texts();
     accepted();
+    accepted_on_plans();
     printf("%u refused calls, %u failed\n", refused, failed);
     return failed != 0;
 }

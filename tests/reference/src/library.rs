@@ -13,6 +13,7 @@ use crate::text::{Answer, Labels, VARIABLES};
 
 mod calls;
 mod planes;
+pub mod plans;
 
 pub use calls::Library;
 pub use planes::{Inputs, Planes, rows_of_16};
