@@ -332,6 +332,15 @@ module _ (m : Module Expr) where
   walks-number (ok T) h = refl
   walks-number (no n p) h = sym (ap (λ (x : Res Tables). numberIn x) (h refl))
 
+  -- The number of a rule, or where none is broken that of the walks.
+  abbrev numbered : ℕ → Res Tables → ℕ
+  numbered n x = numberIn (check (eqb n 0) n 0 >> x)
+
+  next : (t : Bool) (x y : Witness) (k n : ℕ) (z : Res Tables) → x .number ≡ numbered k z → y .number ≡ numbered n z
+      → pick t x y .number ≡ numbered (pick t k n) z
+  next true x y k n z p q = p
+  next false x y k n z p q = q
+
   counted : (b12 b13 b14 b15 b16 b17 b18 b19 b20 : Bool) (x : Res Tables) (w : Witness) → w .number ≡ numberIn x
       → pick b12 (doubleWritten m)
       (pick b13 (writtenBothWays m)
@@ -342,20 +351,20 @@ module _ (m : Module Expr) where
       (pick b18 (clockReader m)
       (pick b19 (upwardWire m)
       (pick b20 (surplusWait m) w)))))))) .number
-      ≡ (let n =
-      pick b12 12 (pick b13 13 (pick b14 14 (pick b15 15 (pick b16 16 (pick b17 17 (pick b18 18 (pick b19 19 (pick b20 20 0)))))))) in
-      numberIn (check (eqb n 0) n 0 >> x))
+      ≡ numbered
+      (pick b12 12 (pick b13 13 (pick b14 14 (pick b15 15 (pick b16 16 (pick b17 17 (pick b18 18 (pick b19 19 (pick b20 20 0)))))))))
+      x
   unfolding numberIn doubleWritten writtenBothWays sharedRegister oddWait runningThread runawayThread clockReader upwardWire surplusWait
-  counted true b13 b14 b15 b16 b17 b18 b19 b20 x w h = refl
-  counted false true b14 b15 b16 b17 b18 b19 b20 x w h = refl
-  counted false false true b15 b16 b17 b18 b19 b20 x w h = refl
-  counted false false false true b16 b17 b18 b19 b20 x w h = refl
-  counted false false false false true b17 b18 b19 b20 x w h = refl
-  counted false false false false false true b18 b19 b20 x w h = refl
-  counted false false false false false false true b19 b20 x w h = refl
-  counted false false false false false false false true b20 x w h = refl
-  counted false false false false false false false false true x w h = refl
-  counted false false false false false false false false false x w h = h
+  counted b12 b13 b14 b15 b16 b17 b18 b19 b20 x w h =
+      next b12 _ _ 12 _ x refl
+      (next b13 _ _ 13 _ x refl
+      (next b14 _ _ 14 _ x refl
+      (next b15 _ _ 15 _ x refl
+      (next b16 _ _ 16 _ x refl
+      (next b17 _ _ 17 _ x refl
+      (next b18 _ _ 18 _ x refl
+      (next b19 _ _ 19 _ x refl
+      (next b20 _ _ 20 0 x refl h))))))))
 
   pub number-law : witness m .number ≡ numberIn (extracted m)
   unfolding witness higherWitness extracted rule
