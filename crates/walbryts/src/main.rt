@@ -92,7 +92,7 @@ fn perform(
         Command::Run(o) => running::run(o, source, sheet, layout, names),
         Command::Extract(o) => nets::extract(o, sheet, names),
         Command::Compare(o) => comparing::compare(o, sheet, layout, names),
-        Command::Verilog(index) => showing::print_verilog(index, sheet),
+        Command::Verilog(index) => showing::print_verilog(index, sheet, names),
     }
 }
 

@@ -14,10 +14,10 @@ pub fn list(sheet: &[u8]) -> Outcome {
     show(&text, listing.length)
 }
 
-// `verilog`: the module as Verilog text.
-pub fn print_verilog(index: usize, sheet: &[u8]) -> Outcome {
+// `verilog`: the module as Verilog text, with the names of its variables.
+pub fn print_verilog(index: usize, sheet: &[u8], names: &[u8; 2560]) -> Outcome {
     let mut text = [0u8; 65536];
-    let v = verilog::print(sheet, &mut text);
+    let v = verilog::print(sheet, names, &mut text);
     if v.length >= 65536 {
         report::wrong_with(index, b": its Verilog is 65,536 bytes or longer\n", 0);
         return Outcome::Refused;
