@@ -54,14 +54,14 @@ fn digit_count(n: usize) -> usize
 }
 
 // The longer of two lengths.
-fn longer(a: usize, b: usize) -> usize
+pub fn longer(a: usize, b: usize) -> usize
     ensures { λ r. ⌜ r ≡ longer a b ⌝ }
 {
     if a < b { b } else { a }
 }
 
 // How many places the values of a width take.
-fn places(base: u8, width: u8) -> usize
+pub fn places(base: u8, width: u8) -> usize
     ensures { λ r. ⌜ r ≡ places base width ⌝ }
 {
     if base == 16 {
@@ -163,7 +163,7 @@ fn lead_length(base: u8) -> usize
 }
 
 // How long a value of so many bits is.
-fn shown_length(base: u8, width: u8, a: Value) -> usize
+pub fn shown_length(base: u8, width: u8, a: Value) -> usize
     ensures { λ r. ⌜ r ≡ length (shown base width a) ⌝ }
 {
     if is_known(a) {
