@@ -6,7 +6,7 @@ _walbryts() {
         return
     fi
     case $before in
-    --vcd | --names | --expect)
+    --vcd | --save | --load | --init | --names | --expect)
         mapfile -t COMPREPLY < <(compgen -f -- "$word")
         return
         ;;
@@ -16,7 +16,7 @@ _walbryts() {
     case $command in
     run)
         options="$options --wires --inputs --only --hex --binary --csv --from --to --every --last --expect"
-        options="$options --seed --user --allowance --by-expressions --vcd --progress --any-order --names"
+        options="$options --seed --user --allowance --by-expressions --vcd --work --init --save --load --progress --any-order --names"
         ;;
     compare) options="$options --names" ;;
     extract) options="$options --dot --names" ;;

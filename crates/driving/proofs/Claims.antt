@@ -23,7 +23,8 @@ use Rattle.prepared_cycles.specs.declared.Driven.{Driven}
 use Rattle.prepared_cycles.specs.Claims as cycling
 use Rattle.prepared_cycles.proofs.Claims as cycles
 use Rattle.prepared_cycles.specs.Drives.{settled, driveCycles, drivenCycles}
-use Rattle.driving.specs.Plans.{seedOf, isDrawn, restOf, traced, begunAt, tracedAt, rowsAt, begunOn, tracedOn, rowsOn}
+use Rattle.driving.specs.Plans.{seedOf, isDrawn, restOf, traced, resumedAt, begunAt, tracedAt, rowsAt}
+use Rattle.driving.specs.Plans.{resumedOn, begunOn, tracedOn, rowsOn}
 use Rattle.driving.specs.Claims.{OnTheSheet}
 
 small : (n v k : ℕ) → 0 < k → getD (replicate n 0) v 0 < k
@@ -61,7 +62,7 @@ bounded-started vs n allowances h =
     }
 
 pub on-the-sheet : OnTheSheet
-unfolding OnTheSheet prepared.OnTheSheet cycling.OnTheSheet begunAt begunOn tracedAt tracedOn rowsAt rowsOn startAt
+unfolding OnTheSheet prepared.OnTheSheet cycling.OnTheSheet resumedAt resumedOn begunAt begunOn tracedAt tracedOn rowsAt rowsOn startAt
 on-the-sheet s ws m e l =
     let p = preparing.on-the-sheet s ws m e l in
     record {
@@ -71,6 +72,7 @@ on-the-sheet s ws m e l =
           (cycles.on-the-sheet s ws m e l (startAt (planOf (preparedPlan s ws)) allowances) (shaped-started _ _ allowances k)
           (bounded-started _ _ allowances h) .settle (isDrawn way) (seedOf way) u
           ∙ ap (λ (st : State). settled s (isDrawn way) (seedOf way) st u) (p .start allowances));
+      resume = λ st h b u way. ap (restOf u way) (cycles.on-the-sheet s ws m e l st h b .settle (isDrawn way) (seedOf way) u);
       trace =
           λ r h b u ns xs w.
           ap (λ (d : Driven). pick (ltb (length ns) 16) (traced 0 r) (traced (d .phases) (restOf u (r .way) d)))

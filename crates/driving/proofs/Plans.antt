@@ -13,7 +13,7 @@ use Rattle.state.specs.declared.State.{State}
 use Rattle.state.specs.State.{countOf, allowanceOf, valueOf}
 use Rattle.state.specs.Rows.{listOf}
 use Rattle.state.proofs.Rows.{sets-append, sets-whole, length-listOf}
-use Rattle.events.specs.Calls.{spend}
+use Rattle.events.specs.Calls.{spend, started}
 use Rattle.nextstate.specs.declared.Registers.{Registers}
 use Rattle.options.specs.declared.Way.{Way}
 use Rattle.plan.specs.Plan.{Plan}
@@ -23,7 +23,8 @@ use Rattle.prepared_cycles.specs.Traces.{placesIn, rowOf}
 use Rattle.prepared_cycles.specs.Drives.{settledAt, driveAt, drivenAt}
 use Rattle.driving.specs.declared.Rest.{Rest}
 use Rattle.driving.specs.declared.Traced.{Traced}
-use Rattle.driving.specs.Plans.{seedOf, isDrawn, stoppedBy, restOf, traced, begunAt, tracedAt, rowsAt, wordsOf, registersIn}
+use Rattle.driving.specs.Plans.{seedOf, isDrawn, stoppedBy, restOf, traced, resumedAt, begunAt, tracedAt}
+use Rattle.driving.specs.Plans.{rowsAt, wordsOf, registersIn, unsettledAt}
 
 -- ---- the number that stopped a run
 
@@ -50,12 +51,17 @@ module _ (u : ℕ) (d : Driven) where
 
 -- ---- begin and trace
 
+pub resumed-is :
+    (q : Plan) (st : State) (u : ℕ) (way : Way) (seed : ℕ) (t : Bool) (d : Driven) (r : Rest) →
+    seed ≡ seedOf way → t ≡ isDrawn way → d ≡ settledAt q t seed st u → r ≡ restOf u way d → r ≡ resumedAt q st u way
+unfolding resumedAt
+resumed-is q st u way seed t d r b c e f = f ∙ ap (restOf u way) (e ∙ (λ i. settledAt q (c i) (b i) st u))
+
 pub begun-is :
-    (q : Plan) (allowances : List ℕ) (u : ℕ) (way : Way) (st : State) (seed : ℕ) (t : Bool) (d : Driven) (r : Rest) →
-    st ≡ startAt q allowances → seed ≡ seedOf way → t ≡ isDrawn way → d ≡ settledAt q t seed st u → r ≡ restOf u way d →
-    r ≡ begunAt q allowances u way
+    (q : Plan) (allowances : List ℕ) (u : ℕ) (way : Way) (st : State) (r : Rest) →
+    st ≡ startAt q allowances → r ≡ resumedAt q st u way → r ≡ begunAt q allowances u way
 unfolding begunAt
-begun-is q allowances u way st seed t d r a b c e f = f ∙ ap (restOf u way) (e ∙ (λ i. settledAt q (c i) (b i) (a i) u))
+begun-is q allowances u way st r a e = e ∙ ap (λ (x : State). resumedAt q x u way) a
 
 module _ (q : Plan) (r : Rest) (u : ℕ) (ns xs w : List ℕ) where
   abbrev Answers : Traced → List ℕ → Type 0
@@ -102,3 +108,19 @@ pub registers-is :
     _≡_ {A = Registers} (record { value = a; unknown = x; places = st .places }) (registersIn inputs st)
 unfolding registersIn
 registers-is inputs st a x e h = rw (e, h)
+
+-- ---- a state whose registers were set
+
+pub unsettled-is : (q : Plan) (st b : State) (allowances : List ℕ) → b ≡ startAt q allowances
+    → _≡_ {A = State} (record {
+      value = st .value;
+      unknown = st .unknown;
+      pending = st .pending;
+      unsure = st .unsure;
+      held = st .held;
+      places = st .places;
+      due = b .due;
+      counters = st .counters;
+    }) (unsettledAt q st)
+unfolding unsettledAt startAt started
+unsettled-is q st b allowances e = rw e

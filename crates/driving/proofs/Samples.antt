@@ -5,10 +5,10 @@ use Rattle.writing.specs.Ascii.{ascii}
 use Rattle.writing.specs.Numbers.{digits, decimal}
 use Rattle.prepared_cycles.specs.Drives.{plainMost, drawnMost}
 use Rattle.driving.specs.Saying.{three, thousands, grouped, restlessWords}
-use Rattle.options.specs.declared.Way.the-variants.{Drawn, Expressed}
+use Rattle.options.specs.declared.Way.the-variants.{Drawn, Expressed, Counted}
 use Rattle.driving.specs.declared.Line.the-variants.{Passed, Last, Wrong}
 use Rattle.driving.specs.declared.Unextracted.the-variants.{Held, Warned}
-use Rattle.driving.specs.Endings.{isExpressed, timeOf}
+use Rattle.driving.specs.Endings.{isExpressed, isCounted, timeOf}
 use Rattle.driving.specs.Going.{lineOf, unextracted}
 
 of-a-plain-run : restlessWords plainMost ≡ ascii "not at rest after 65,535 choices"
@@ -43,9 +43,13 @@ of-a-long-line = refl
 
 -- Where extraction refuses the module there is no run by expressions, however little it is to say; drawn choices go on behind a warning.
 of-no-expressions : unextracted Expressed true ≡ Held
-unfolding unextracted isExpressed
+unfolding unextracted isExpressed isCounted
 of-no-expressions = refl
 
+of-no-work : unextracted Counted true ≡ Held
+unfolding unextracted isExpressed isCounted
+of-no-work = refl
+
 of-one-order : unextracted (Drawn 7) false ≡ Warned
-unfolding unextracted isExpressed
+unfolding unextracted isExpressed isCounted
 of-one-order = refl

@@ -15,12 +15,14 @@ use Rattle.options.specs.declared.Way.{Way}
 use Rattle.plan.specs.Plan.{Plan, planOf}
 use Rattle.prepared.specs.Prepared.{preparedPlan}
 use Rattle.driving.specs.declared.Rest.{Rest}
-use Rattle.driving.specs.Plans.{begunAt, tracedAt, rowsAt, begunOn, tracedOn, rowsOn}
+use Rattle.state.specs.declared.State.{State}
+use Rattle.driving.specs.Plans.{resumedAt, begunAt, tracedAt, rowsAt, resumedOn, begunOn, tracedOn, rowsOn}
 
 pub record Same (s : List ℕ) (q : Plan) : Type 0 where
   pub begin : (allowances : List ℕ) → length allowances ≡ 4 → ((v : ℕ) → getD allowances v 0 < 2 ^ 32) → (u : ℕ) (way : Way)
       → begunAt q allowances u way ≡ begunOn s allowances u way
   -- Every state that code has is of such lengths and numbers.
+  pub resume : (st : State) → Shaped st → Bounded st → (u : ℕ) (way : Way) → resumedAt q st u way ≡ resumedOn s st u way
   pub trace : (r : Rest) → Shaped (r .state) → Bounded (r .state) → (u : ℕ) (ns xs w : List ℕ)
       → tracedAt q r u ns xs w ≡ tracedOn s r u ns xs w
   pub rows : (r : Rest) → Shaped (r .state) → Bounded (r .state) → (u : ℕ) (ns xs w : List ℕ)

@@ -4,7 +4,7 @@ use mathlib.Core.Bool.{Bool, true, false}
 use lib.Dec.{ltb}
 use Rattle.values.specs.Values.{pick, _is_then_else_}
 use Rattle.options.specs.declared.Way.{Way}
-use Rattle.options.specs.declared.Way.the-variants.{Plain, Drawn, Expressed}
+use Rattle.options.specs.declared.Way.the-variants.{Plain, Drawn, Expressed, Counted}
 use Rattle.options.specs.declared.Outcome.{Outcome}
 use Rattle.options.specs.declared.Outcome.the-variants.{Done, Mistaken, Refused as Refusal}
 use Rattle.driving.specs.declared.Rest.{Rest}
@@ -17,6 +17,7 @@ unfoldable pub mostOf : Way → ℕ
 mostOf Plain = plainMost
 mostOf (Drawn n) = drawnMost
 mostOf Expressed = plainMost
+mostOf Counted = plainMost
 
 unfoldable pub endingOf : Rest → Ending
 endingOf r =
@@ -34,6 +35,15 @@ unfoldable pub isExpressed : Way → Bool
 isExpressed Plain = false
 isExpressed (Drawn n) = false
 isExpressed Expressed = true
+isExpressed Counted = false
+
+-- ---- isCounted: is its work counted?
+
+unfoldable pub isCounted : Way → Bool
+isCounted Plain = false
+isCounted (Drawn n) = false
+isCounted Expressed = false
+isCounted Counted = true
 
 -- ---- lineOutcome: how a run ends at a line of its inputs that gives no cycle, by the line's error (`stimulus`): 1 is a blank line or the
 -- end of the file, more is a line that is wrong

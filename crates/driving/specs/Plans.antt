@@ -11,10 +11,10 @@ use Rattle.values.specs.Planes.{valueAt}
 use Rattle.values.specs.Cells.{cellOf}
 use Rattle.state.specs.declared.State.{State}
 use Rattle.state.specs.Rows.{listOf}
-use Rattle.events.specs.Calls.{spend, start}
+use Rattle.events.specs.Calls.{spend, start, dueBelow}
 use Rattle.nextstate.specs.declared.Registers.{Registers}
 use Rattle.options.specs.declared.Way.{Way}
-use Rattle.options.specs.declared.Way.the-variants.{Plain, Drawn, Expressed}
+use Rattle.options.specs.declared.Way.the-variants.{Plain, Drawn, Expressed, Counted}
 use Rattle.plan.specs.Plan.{Plan}
 use Rattle.prepared.specs.Prepared.{startAt}
 use Rattle.prepared_cycles.specs.declared.Driven.{Driven}
@@ -32,12 +32,14 @@ unfoldable pub seedOf : Way → ℕ
 seedOf Plain = 0
 seedOf (Drawn n) = n
 seedOf Expressed = 0
+seedOf Counted = 0
 
 -- Are its choices drawn? Events go by the plain run else, also before and beside the expressions.
 unfoldable pub isDrawn : Way → Bool
 isDrawn Plain = false
 isDrawn (Drawn n) = true
 isDrawn Expressed = false
+isDrawn Counted = false
 
 -- The number that stopped driven cycles: where a run is not at rest and its user's allowance is used up, that did (47).
 unfoldable pub stoppedBy : ℕ → Driven → ℕ
@@ -52,8 +54,26 @@ traced p r = record { phases = p; rest = r }
 
 -- ---- on a plan
 
+-- From a state to rest, as from the start or from one that was saved.
+unfoldable pub resumedAt : Plan → State → ℕ → Way → Rest
+resumedAt q st u way = restOf u way (settledAt q (isDrawn way) (seedOf way) st u)
+
 unfoldable pub begunAt : Plan → List ℕ → ℕ → Way → Rest
-begunAt q allowances u way = restOf u way (settledAt q (isDrawn way) (seedOf way) (startAt q allowances) u)
+begunAt q allowances u way = resumedAt q (startAt q allowances) u way
+
+-- A state whose registers were set: every wire is due, as at the start.
+unfoldable pub unsettledAt : Plan → State → State
+unsettledAt q st =
+    record {
+      value = st .value;
+      unknown = st .unknown;
+      pending = st .pending;
+      unsure = st .unsure;
+      held = st .held;
+      places = st .places;
+      due = dueBelow (q .wires);
+      counters = st .counters;
+    }
 
 module _ (q : Plan) (r : Rest) (u : ℕ) (ns xs w : List ℕ) where
   -- Where there is no row nothing is altered.
@@ -68,8 +88,11 @@ module _ (q : Plan) (r : Rest) (u : ℕ) (ns xs w : List ℕ) where
 
 -- ---- the same by the single calls on a sheet
 
+unfoldable pub resumedOn : List ℕ → State → ℕ → Way → Rest
+resumedOn s st u way = restOf u way (settled s (isDrawn way) (seedOf way) st u)
+
 unfoldable pub begunOn : List ℕ → List ℕ → ℕ → Way → Rest
-begunOn s allowances u way = restOf u way (settled s (isDrawn way) (seedOf way) (start s allowances .state) u)
+begunOn s allowances u way = resumedOn s (start s allowances .state) u way
 
 module _ (s : List ℕ) (r : Rest) (u : ℕ) (ns xs w : List ℕ) where
   unfoldable pub tracedOn : Traced

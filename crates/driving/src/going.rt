@@ -2,6 +2,7 @@
 use crate::Line;
 use crate::Rest;
 use crate::Unextracted;
+use crate::is_counted;
 use crate::is_expressed;
 use options::Way;
 ghost use mathlib.Core.Path.{_≡_};
@@ -43,6 +44,9 @@ pub fn run_unextracted(way: Way, silent: bool) -> Unextracted
     ensures { λ u. ⌜ u ≡ unextracted way silent ⌝ }
 {
     if is_expressed(way) {
+        return Unextracted::Held;
+    }
+    if is_counted(way) {
         return Unextracted::Held;
     }
     if silent {

@@ -15,10 +15,11 @@ pub use saying::put_restless;
 use state::State;
 pub use states::registers_of;
 pub use states::row_of;
+pub use states::unsettled;
 ghost use mathlib.Core.Path.{_≡_};
 ghost use Rattle.plan.specs.Plan.{planOf};
-ghost use Rattle.driving.specs.Endings.{mostOf, endingOf, outcomeOf, isExpressed, lineOutcome, timeOf};
-ghost use Rattle.driving.specs.Plans.{seedOf, isDrawn, stoppedBy, restOf, begunAt, tracedAt, rowsAt};
+ghost use Rattle.driving.specs.Endings.{mostOf, endingOf, outcomeOf, isExpressed, isCounted, lineOutcome, timeOf};
+ghost use Rattle.driving.specs.Plans.{seedOf, isDrawn, stoppedBy, restOf, resumedAt, begunAt, tracedAt, rowsAt};
 
 // How many choices a run to rest may take, of a plain run and of one whose choices are drawn.
 const PLAIN_MOST: u16 = 65535;
@@ -75,6 +76,7 @@ fn seed_of(way: Way) -> u64
         Way::Plain => 0,
         Way::Drawn(seed) => seed as u64,
         Way::Expressed => 0,
+        Way::Counted => 0,
     }
 }
 
@@ -86,6 +88,7 @@ fn is_drawn(way: Way) -> bool
         Way::Plain => false,
         Way::Drawn(_) => true,
         Way::Expressed => false,
+        Way::Counted => false,
     }
 }
 
@@ -122,14 +125,21 @@ fn rest_of(user: u8, way: Way, d: Driven) -> Rest
     }
 }
 
+// A state, run to rest by a user.
+pub fn resume(plan: &PlanTable, st: State, user: u8, way: Way) -> Rest
+    ensures { λ e. ⌜ e ≡ resumedAt (planOf (now (plan .entry))) st user way ⌝ }
+{
+    let seed = seed_of(way);
+    let d = prepared_cycles::settle(plan, st, user, is_drawn(way), seed);
+    rest_of(user, way, d)
+}
+
 // The state at the start with these allowances, run to rest by a user.
 pub fn begin(plan: &PlanTable, allowances: [u32; 4], user: u8, way: Way) -> Rest
     ensures { λ e. ⌜ e ≡ begunAt (planOf (now (plan .entry))) allowances user way ⌝ }
 {
     let st = prepared::start(plan, allowances);
-    let seed = seed_of(way);
-    let d = prepared_cycles::settle(plan, st, user, is_drawn(way), seed);
-    rest_of(user, way, d)
+    resume(plan, st, user, way)
 }
 
 // Rows of 16 inputs, for each an instant with the clock low and one with the clock high, each run to rest by a user; the row of each that
@@ -170,6 +180,7 @@ fn most_of(way: Way) -> usize
         Way::Plain => PLAIN_MOST as usize,
         Way::Drawn(_) => DRAWN_MOST,
         Way::Expressed => PLAIN_MOST as usize,
+        Way::Counted => PLAIN_MOST as usize,
     }
 }
 
@@ -206,6 +217,19 @@ pub fn is_expressed(way: Way) -> bool
         Way::Plain => false,
         Way::Drawn(_) => false,
         Way::Expressed => true,
+        Way::Counted => false,
+    }
+}
+
+// Is its work counted?
+pub fn is_counted(way: Way) -> bool
+    ensures { λ r. ⌜ r ≡ isCounted way ⌝ }
+{
+    match way {
+        Way::Plain => false,
+        Way::Drawn(_) => false,
+        Way::Expressed => false,
+        Way::Counted => true,
     }
 }
 

@@ -1,5 +1,6 @@
 // A state as a row of a trace, and its registers and places as a cycle run takes them.
 use nextstate::Registers;
+use plan::PlanTable;
 use state::State;
 ghost use mathlib.Core.Path.{_≡_};
 ghost use Prim.Native.Nat.{_+_};
@@ -7,7 +8,8 @@ ghost use lib.ListN.{getD};
 ghost use lib.Seq.{sets};
 ghost use Rattle.state.specs.Rows.{listOf};
 ghost use Rattle.prepared_cycles.specs.Traces.{placesIn, rowOf};
-ghost use Rattle.driving.specs.Plans.{wordsOf, registersIn};
+ghost use Rattle.plan.specs.Plan.{planOf};
+ghost use Rattle.driving.specs.Plans.{wordsOf, registersIn, unsettledAt};
 
 // ---- a row
 
@@ -94,5 +96,32 @@ pub fn registers_of(inputs: u8, st: State) -> Registers
         value,
         unknown,
         places,
+    }
+}
+
+// ---- a state whose registers were set
+
+// Every wire is due, as at the start.
+pub fn unsettled(plan: &PlanTable, st: State) -> State
+    ensures { λ r. ⌜ r ≡ unsettledAt (planOf (now (plan .entry))) st ⌝ }
+{
+    let begun = prepared::start(plan, [0u32; 4]);
+    let value = st.value;
+    let unknown = st.unknown;
+    let pending = st.pending;
+    let unsure = st.unsure;
+    let held = st.held;
+    let places = st.places;
+    let due = begun.due;
+    let counters = st.counters;
+    State {
+        value,
+        unknown,
+        pending,
+        unsure,
+        held,
+        places,
+        due,
+        counters,
     }
 }

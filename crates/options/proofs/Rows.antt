@@ -10,7 +10,9 @@ use Rattle.stimulus.specs.Numbers.{numberOf}
 use Rattle.options.specs.declared.Options.{Options}
 use Rattle.options.specs.declared.Command.the-variants.{Run, Extract}
 use Rattle.options.specs.Options.{noted, valued, misplaced, leastOf, numbered}
-use Rattle.options.specs.Requests.{wordOf, isGiven, runOf, commanded}
+use Rattle.options.specs.declared.Command.{Command}
+use Rattle.options.specs.declared.Request.the-variants.{Wrong, Asked}
+use Rattle.options.specs.Requests.{wordOf, isGiven, misfit, clashing, based, kindOf, faultOf, runOf, commanded, paired}
 
 -- ---- numbered
 
@@ -47,3 +49,14 @@ module _ (o : Options) where
       o .command ≡ 4 → Extract (record { sheet = wordOf o 30; names = wordOf o 2; dot = isGiven o 23 }) ≡ commanded o
   unfolding commanded
   commanded-extract e = rw e
+
+-- ---- paired, where neither two ways nor two bases are given
+
+module _ (o : Options) (a : clashing o ≡ false) (b : based o ≡ false) {k n : ℕ} (e : k ≡ kindOf o) (f : n ≡ misfit k 0 (o .at)) where
+  pub paired-beside : (n ≡ 0 → ⊥) → {m : ℕ} → m ≡ faultOf k → Wrong n m ≡ paired o
+  unfolding paired
+  paired-beside h g = rw (a, b, g, ← e, ← f, ne-eqb n 0 h)
+
+  pub paired-asked : n ≡ 0 → {c : Command} → c ≡ commanded o → Asked c ≡ paired o
+  unfolding paired
+  paired-asked h g = rw (a, b, g, ← e, ← f, eq-eqb n 0 h)

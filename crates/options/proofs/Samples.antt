@@ -9,17 +9,18 @@ use Rattle.hextext.specs.Characters.{digitOf}
 use Rattle.stimulus.specs.Counting.{counted}
 use Rattle.stimulus.specs.Numbers.{grown, grownBy, numberOf}
 use Rattle.options.specs.declared.Way.{Way}
-use Rattle.options.specs.declared.Way.the-variants.{Drawn, Expressed}
+use Rattle.options.specs.declared.Way.the-variants.{Drawn, Expressed, Counted}
 use Rattle.options.specs.declared.Shape.{Shape}
 use Rattle.options.specs.declared.Command.the-variants.{List as Listing, Run, Extract, Compare}
 use Rattle.options.specs.declared.Request.{Request}
 use Rattle.options.specs.declared.Request.the-variants.{Help, Version, Short, Wrong, Asked}
 use Rattle.options.specs.Tables.{agrees, isFound, goesOn, lettered, ended, amongFrom, among, commandOf}
-use Rattle.options.specs.Tables.{valuedOption, loneOption, plainOption, shortOption, either, optionOf, isNumber, isFed, goesWith}
+use Rattle.options.specs.Tables.{valuedOption, loneOption, plainOption, shortOption, either, optionOf, isNumber, isWritten, isFed, isNamed, goesWith}
+use Rattle.options.specs.Tables.{isCourse, isColumn, goesBeside}
 use Rattle.options.specs.Options.{nothing, advanced, noted, valued, wanting, misplaced, withCommand, leastOf, numbered, isDash, isBarred, filled, isDashed}
 use Rattle.options.specs.Options.{named, placed, fresh, taken, takenAll}
-use Rattle.options.specs.Requests.{isGiven, isMisfit, misfit, lacking, clashing, based, wayOf, baseOf, lastOf, everyOf, shapeOf, runOf}
-use Rattle.options.specs.Requests.{commanded, fitted, judged, request, requestOf}
+use Rattle.options.specs.Requests.{isGiven, isFitting, isMisfit, misfit, lacking, clashing, based, kindOf, faultOf, wayOf, baseOf, lastOf, everyOf, shapeOf, runOf}
+use Rattle.options.specs.Requests.{commanded, paired, fitted, judged, request, requestOf}
 
 -- The words as bytes.
 abbrev bytes : List String → List (List ℕ)
@@ -51,6 +52,9 @@ run sheet inputs names vcd way shape =
       inputs = inputs;
       names = names;
       vcd = vcd;
+      save = 0;
+      load = 0;
+      init = 0;
       expect = 0;
       user = 0;
       allowance = 0;
@@ -112,9 +116,19 @@ pub samples :
     (("run" ∷ "m.hex" ∷ "m.in" ∷ "--user" ∷ "two" ∷ []) asks Wrong 5 3) ×
     (("compare" ∷ "m.hex" ∷ "m.in" ∷ "--allowance" ∷ "1,2,3,4" ∷ []) asks Wrong 5 5) ×
     (("run" ∷ "m.hex" ∷ "m.in" ∷ "--hex" ∷ "--binary" ∷ []) asks Wrong 5 9) ×
+    (("run" ∷ "m.hex" ∷ "m.in" ∷ "--work" ∷ []) asks run 2 3 0 0 Counted (plain false)) ×
+    (("check" ∷ "m.hex" ∷ "--work" ∷ []) asks Wrong 3 5) ×
+    (("run" ∷ "m.hex" ∷ "m.in" ∷ "--save" ∷ "-" ∷ []) asks Wrong 5 7) ×
+    (("run" ∷ "m.hex" ∷ "m.in" ∷ "--work" ∷ "--wires" ∷ []) asks Wrong 5 10) ×
+    (("run" ∷ "m.hex" ∷ "m.in" ∷ "--save" ∷ "s" ∷ "--by-expressions" ∷ []) asks Wrong 5 11) ×
     (("run" ∷ "m.hex" ∷ "m.in" ∷ "--seed" ∷ "1" ∷ "--by-expressions" ∷ []) asks Wrong 6 6)
-unfolding requestOf request judged fitted takenAll taken nothing advanced counted noted valued wanting misplaced withCommand leastOf numbered isDash isBarred filled isDashed named placed fresh optionOf either valuedOption loneOption plainOption shortOption commandOf among amongFrom isFound goesOn agrees lettered ended isNumber ascii isGiven misfit isMisfit goesWith isFed lacking clashing based wayOf baseOf lastOf everyOf shapeOf runOf commanded numberOf grownBy grown digitOf
+unfolding requestOf request judged fitted paired kindOf faultOf takenAll taken nothing advanced counted noted valued wanting misplaced withCommand leastOf numbered isDash isBarred filled isDashed named placed fresh optionOf either valuedOption loneOption plainOption shortOption commandOf among amongFrom isFound goesOn agrees lettered ended isNumber isWritten ascii isGiven misfit isMisfit isFitting goesWith isFed isNamed goesBeside isCourse isColumn lacking clashing based wayOf baseOf lastOf everyOf shapeOf runOf commanded numberOf grownBy grown digitOf
 samples = (
+  refl,
+  refl,
+  refl,
+  refl,
+  refl,
   refl,
   refl,
   refl,

@@ -9,7 +9,7 @@ use Rattle.values.specs.Values.{pick, _is_then_else_}
 use Rattle.stimulus.specs.Counting.{counted}
 use Rattle.stimulus.specs.Numbers.{numberOf}
 use Rattle.options.specs.declared.Options.{Options}
-use Rattle.options.specs.Tables.{commandOf, optionOf, isNumber}
+use Rattle.options.specs.Tables.{commandOf, optionOf, isNumber, isWritten}
 
 abbrev pub options : ℕ → ℕ → ℕ → ℕ → ℕ → List ℕ → List ℕ → Options
 options words command wants wrong fault value at =
@@ -39,8 +39,8 @@ unfoldable pub wanting : Options → ℕ → Options
 wanting o slot = options (o .words) (o .command) slot (o .wrong) (o .fault) (o .value) (o .at)
 
 -- The last word is out of place; the first such word counts. Faults: 1 no command, 2 no option, 3 no number, 4 one file too many, 5 an
--- option or inputs that do not go with the command, 6 a seed and the expressions, 7 a waveform on standard output, 8 an option
--- at the end that wants a word, 9 two bases.
+-- option or inputs that do not go with the command, 6 a seed and the expressions, 7 a waveform or a state on standard output, 8 an option
+-- at the end that wants a word, 9 two bases, 10 what does not go with the work, 11 with the expressions.
 unfoldable pub misplaced : Options → ℕ → Options
 misplaced o fault =
     o .wrong is 0 then options (o .words) (o .command) (o .wants) (o .words) fault (o .value) (o .at) else o
@@ -48,8 +48,8 @@ misplaced o fault =
 unfoldable pub withCommand : Options → ℕ → Options
 withCommand o n = options (o .words) n (o .wants) (o .wrong) (o .fault) (o .value) (o .at)
 
--- ---- the word that a slot wants: a number is decimal and below 2^32, for `--every` not 0; any word names a file, but `-` (45) no
--- waveform
+-- ---- the word that a slot wants: a number is decimal and below 2^32, for `--every` not 0; any word names a file, but `-` (45) none that
+-- is written
 
 -- The least number that a slot takes.
 unfoldable pub leastOf : ℕ → ℕ
@@ -69,7 +69,7 @@ unfoldable pub isDash : List ℕ → Bool
 isDash word = length word is 1 then eqb (getD word 0 0) 45 else false
 
 unfoldable pub isBarred : ℕ → List ℕ → Bool
-isBarred slot word = slot is 1 then isDash word else false
+isBarred slot word = pick (isWritten slot) (isDash word) false
 
 unfoldable pub filled : Options → ℕ → List ℕ → Options
 filled o slot word =

@@ -3,18 +3,18 @@ use mathlib.Core.Bool.{Bool, not, _&&_}
 use mathlib.Core.List.{List, [], _∷_}
 use Prim.Native.Nat.{ℕ, _+_}
 use lib.ListN.{getD}
-use lib.Dec.{eqb}
+use lib.Dec.{ltb, eqb}
 use Rattle.values.specs.Values.{pick, _is_then_else_}
 use Rattle.options.specs.declared.Options.{Options}
 use Rattle.options.specs.declared.Way.{Way}
-use Rattle.options.specs.declared.Way.the-variants.{Plain, Drawn, Expressed}
+use Rattle.options.specs.declared.Way.the-variants.{Plain, Drawn, Expressed, Counted}
 use Rattle.options.specs.declared.Shape.{Shape}
 use Rattle.options.specs.declared.RunOptions.{RunOptions}
 use Rattle.options.specs.declared.Command.{Command}
 use Rattle.options.specs.declared.Command.the-variants.{List as Listing, Check, Run, Extract, Compare, Verilog}
 use Rattle.options.specs.declared.Request.{Request}
 use Rattle.options.specs.declared.Request.the-variants.{Help, Version, Short, Wrong, Asked}
-use Rattle.options.specs.Tables.{isFed, goesWith}
+use Rattle.options.specs.Tables.{isFed, goesWith, goesBeside}
 use Rattle.options.specs.Options.{nothing, takenAll}
 
 abbrev pub wordOf : Options → ℕ → ℕ
@@ -25,9 +25,13 @@ isGiven o slot = not (eqb (wordOf o slot) 0)
 
 -- ---- mistakes
 
+-- A slot goes with a command, or with a kind of run, whose numbers are those above the commands'.
+unfoldable pub isFitting : ℕ → ℕ → Bool
+isFitting command slot = pick (ltb command 10) (goesWith command slot) (goesBeside command slot)
+
 -- A slot is given by word n, not 0, and does not go with the command.
 unfoldable pub isMisfit : ℕ → ℕ → ℕ → Bool
-isMisfit command slot n = not (eqb n 0) && not (goesWith command slot)
+isMisfit command slot n = not (eqb n 0) && not (isFitting command slot)
 
 -- Of the slots from k on, the word of the first that is given and does not go with the command, 0 where all do.
 unfoldable pub misfit : ℕ → ℕ → List ℕ → ℕ
@@ -47,13 +51,21 @@ clashing o = isGiven o 3 && isGiven o 20
 unfoldable pub based : Options → Bool
 based o = isGiven o 27 && isGiven o 28
 
+-- The kind of a run: 10 with its work, 11 by the expressions; else the command's number.
+unfoldable pub kindOf : Options → ℕ
+kindOf o = pick (isGiven o 35) 10 (pick (isGiven o 20) 11 (o .command))
+
+-- The fault of what does not go with a run of that kind.
+unfoldable pub faultOf : ℕ → ℕ
+faultOf kind = kind is 10 then 10 else 11
+
 -- ---- commands
 
 abbrev pub numberAt : Options → ℕ → ℕ
 numberAt o slot = getD (o .value) slot 0
 
 unfoldable pub wayOf : Options → Way
-wayOf o = pick (isGiven o 20) Expressed (pick (isGiven o 3) (Drawn (numberAt o 3)) Plain)
+wayOf o = pick (isGiven o 20) Expressed (pick (isGiven o 3) (Drawn (numberAt o 3)) (pick (isGiven o 35) Counted Plain))
 
 -- The base of the numbers in the table.
 unfoldable pub baseOf : Options → ℕ
@@ -88,6 +100,9 @@ runOf o =
       inputs = wordOf o 31;
       names = wordOf o 2;
       vcd = wordOf o 1;
+      save = wordOf o 11;
+      load = wordOf o 12;
+      init = wordOf o 13;
       expect = wordOf o 8;
       user = numberAt o 9;
       allowance = wordOf o 10;
@@ -108,10 +123,17 @@ commanded o =
 
 -- ---- request: help or the version where it is asked for; else the first mistake, in this order, with its fault; else the command
 
+unfoldable pub paired : Options → Request
+paired o =
+    let n = misfit (kindOf o) 0 (o .at) in
+    pick (clashing o) (Wrong (wordOf o 20) 6)
+    (pick (based o) (Wrong (wordOf o 28) 9)
+    (n is 0 then Asked (commanded o) else Wrong n (faultOf (kindOf o))))
+
 unfoldable pub fitted : Options → Request
 fitted o =
     let n = misfit (o .command) 0 (o .at) in
-    n is 0 then pick (clashing o) (Wrong (wordOf o 20) 6) (pick (based o) (Wrong (wordOf o 28) 9) (Asked (commanded o))) else Wrong n 5
+    n is 0 then paired o else Wrong n 5
 
 unfoldable pub judged : Options → Request
 judged o =

@@ -1,7 +1,7 @@
 -- The tables of the command line: the words of commands and options, and which option goes with which command.
 -- Slots: from 1 on the options that take the next word, from 20 on those that stand alone, 30 the module, 31 the inputs, from 32 on the
--- options that go with every command: 32 the status, 33 help, 34 the version.
-use mathlib.Core.Bool.{Bool, true, false, _&&_, _||_}
+-- options that go with every command: 32 the status, 33 help, 34 the version; 35 the work, which stands alone too.
+use mathlib.Core.Bool.{Bool, true, false, not, _&&_, _||_}
 use mathlib.Core.List.{List, [], _∷_}
 use Prim.Native.Nat.{ℕ, _+_}
 use Prim.Native.String.{String}
@@ -48,16 +48,17 @@ commandOf w = among w 0 "list check run extract compare verilog help "
 
 -- Those that take the next word.
 unfoldable pub valuedOption : List ℕ → ℕ
-valuedOption w = among w 0 "--vcd --names --seed --from --to --every --only --expect --user --allowance "
+valuedOption w =
+    among w 0 "--vcd --names --seed --from --to --every --only --expect --user --allowance --save --load --init "
 
 -- Those that stand alone.
 unfoldable pub loneOption : List ℕ → ℕ
 loneOption w =
     among w 19 "--by-expressions --wires --last --dot --progress --any-order --inputs --hex --binary --csv "
 
--- Those that go with every command, and two of them in short.
+-- Those that go with every command, the work, and two of them in short.
 unfoldable pub plainOption : List ℕ → ℕ
-plainOption w = among w 31 "--status --help --version "
+plainOption w = among w 31 "--status --help --version --work "
 
 unfoldable pub shortOption : List ℕ → ℕ
 shortOption w = among w 32 "-h -V "
@@ -74,14 +75,39 @@ optionOf w = either (valuedOption w) (either (loneOption w) (either (plainOption
 unfoldable pub isNumber : ℕ → Bool
 isNumber slot = slot is 9 then true else (ltb 2 slot && ltb slot 7)
 
+-- ---- isWritten: `--vcd` and `--save` name a file that is written
+
+unfoldable pub isWritten : ℕ → Bool
+isWritten slot = eqb slot 1 || eqb slot 11
+
 -- ---- goesWith: slots 30 and 32 up go with all commands, names with run and extract, a graph with extract, the others with run
 
 unfoldable pub isFed : ℕ → Bool
 isFed command = eqb command 3 || eqb command 5
 
+unfoldable pub isNamed : ℕ → Bool
+isNamed command = eqb command 3 || eqb command 4
+
 unfoldable pub goesWith : ℕ → ℕ → Bool
 goesWith command slot =
-    slot is 2 then (eqb command 3 || eqb command 4) else
+    slot is 2 then isNamed command else
     slot is 23 then eqb command 4 else
     slot is 31 then isFed command else
+    slot is 35 then eqb command 3 else
     pick (ltb slot 30) (eqb command 3) true
+
+-- ---- goesBeside: what goes with a run by its kind. The work (kind 10) is counted of the plain run, in a table that has no variables: no
+-- seed and no expressions, no waveform, no columns. A run by the expressions (kind 11) has no state by events that could be saved.
+
+-- Where the choices come from, which columns there are.
+unfoldable pub isCourse : ℕ → Bool
+isCourse slot = eqb slot 3 || eqb slot 20
+
+unfoldable pub isColumn : ℕ → Bool
+isColumn slot = eqb slot 7 || (eqb slot 21 || eqb slot 26)
+
+unfoldable pub goesBeside : ℕ → ℕ → Bool
+goesBeside kind slot =
+    kind is 10 then not (isCourse slot || (eqb slot 1 || isColumn slot)) else
+    kind is 11 then not (eqb slot 11) else
+    true

@@ -8,13 +8,14 @@ use crate::Request;
 use crate::RunOptions;
 use crate::Shape;
 use crate::Way;
+use crate::tables::goes_beside;
 use crate::tables::goes_with;
 use crate::tables::is_fed;
 ghost use mathlib.Core.Path.{_≡_};
 ghost use lib.ListN.{getD};
-ghost use Rattle.options.specs.Requests.{isGiven, isMisfit, misfit, lacking, wayOf, clashing, based};
+ghost use Rattle.options.specs.Requests.{isGiven, isFitting, isMisfit, misfit, lacking, wayOf, clashing, based, kindOf, faultOf};
 ghost use Rattle.options.specs.Requests.{baseOf, lastOf, everyOf, shapeOf, runOf, commanded};
-ghost use Rattle.options.specs.Requests.{fitted, judged, request, sheetOf, namesOf};
+ghost use Rattle.options.specs.Requests.{paired, fitted, judged, request, sheetOf, namesOf};
 ghost use Rattle.options.specs.Status.{joined, statusOf};
 
 // The number of a slot's word, 0 where it is not given.
@@ -36,6 +37,16 @@ fn is_given(o: Options, slot: usize) -> bool
     word_of(o, slot) != 0
 }
 
+// Does a slot go with a command, or with a kind of run?
+fn is_fitting(command: usize, slot: usize) -> bool
+    ensures { λ r. ⌜ r ≡ isFitting command slot ⌝ }
+{
+    if command < 10 {
+        return goes_with(command, slot);
+    }
+    goes_beside(command, slot)
+}
+
 // Is a slot given by a word, and does not go with the command?
 fn is_misfit(command: usize, slot: usize, n: usize) -> bool
     ensures { λ r. ⌜ r ≡ isMisfit command slot n ⌝ }
@@ -43,7 +54,7 @@ fn is_misfit(command: usize, slot: usize, n: usize) -> bool
     if n == 0 {
         return false;
     }
-    !goes_with(command, slot)
+    !is_fitting(command, slot)
 }
 
 // The word of the first slot that is given and does not go with the command, 0 where all do.
@@ -99,6 +110,9 @@ fn way_of(o: Options) -> Way
     }
     if is_given(o, 3) {
         return Way::Drawn(number_at(o, 3));
+    }
+    if is_given(o, 35) {
+        return Way::Counted;
     }
     Way::Plain
 }
@@ -160,6 +174,9 @@ fn run_of(o: Options) -> RunOptions
         inputs: word_of(o, 31),
         names: word_of(o, 2),
         vcd: word_of(o, 1),
+        save: word_of(o, 11),
+        load: word_of(o, 12),
+        init: word_of(o, 13),
         expect: word_of(o, 8),
         user: number_at(o, 9),
         allowance: word_of(o, 10),
@@ -213,6 +230,42 @@ fn based(o: Options) -> bool
     false
 }
 
+// The kind of a run, or the command's number.
+fn kind_of(o: Options) -> usize
+    ensures { λ r. ⌜ r ≡ kindOf o ⌝ }
+{
+    if is_given(o, 35) {
+        return 10;
+    }
+    if is_given(o, 20) { 11 } else { o.command }
+}
+
+// The fault of what does not go with a run of that kind.
+fn fault_of(kind: usize) -> u8
+    ensures { λ r. ⌜ r ≡ faultOf kind ⌝ }
+{
+    if kind == 10 { 10 } else { 11 }
+}
+
+// The command that all words ask for, or the pair of slots that is wrong.
+fn paired(o: Options) -> Request
+    ensures { λ r. ⌜ r ≡ paired o ⌝ }
+{
+    if clashing(o) {
+        return Request::Wrong(word_of(o, 20), 6);
+    }
+    if based(o) {
+        return Request::Wrong(word_of(o, 28), 9);
+    }
+    let at = o.at;
+    let kind = kind_of(o);
+    let n = misfit(kind, at);
+    if n != 0 {
+        return Request::Wrong(n, fault_of(kind));
+    }
+    Request::Asked(commanded(o))
+}
+
 // The command that all words ask for, or the slot or the pair of slots that is wrong.
 fn fitted(o: Options) -> Request
     ensures { λ r. ⌜ r ≡ fitted o ⌝ }
@@ -222,13 +275,7 @@ fn fitted(o: Options) -> Request
     if n != 0 {
         return Request::Wrong(n, 5);
     }
-    if clashing(o) {
-        return Request::Wrong(word_of(o, 20), 6);
-    }
-    if based(o) {
-        return Request::Wrong(word_of(o, 28), 9);
-    }
-    Request::Asked(commanded(o))
+    paired(o)
 }
 
 // What all words ask for, where they do not ask for help or the version.

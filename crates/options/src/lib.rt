@@ -12,6 +12,7 @@ pub use judging::wants_status;
 use stimulus::number_of;
 use tables::command_of;
 use tables::is_number;
+use tables::is_written;
 use tables::option_of;
 ghost use mathlib.Core.Path.{_≡_};
 ghost use Rattle.options.specs.Options.{nothing, advanced, noted, valued, wanting, misplaced, leastOf, numbered};
@@ -29,11 +30,12 @@ pub struct Options {
     pub at: [usize; 40],
 }
 
-// By which of the three ways a run goes: the plain run, choices drawn by a seed, or the extracted expressions.
+// By which way a run goes: the plain run, choices drawn by a seed, the extracted expressions, or the plain run with its work counted.
 pub enum Way {
     Plain,
     Drawn(u32),
     Expressed,
+    Counted,
 }
 
 // What the table shows: the base of its numbers, commas or columns, the inputs and the wires beside the registers, the word that names
@@ -56,6 +58,9 @@ pub struct RunOptions {
     pub inputs: usize,
     pub names: usize,
     pub vcd: usize,
+    pub save: usize,
+    pub load: usize,
+    pub init: usize,
     pub expect: usize,
     pub user: u32,
     pub allowance: usize,
@@ -257,11 +262,11 @@ fn is_dash(word: &[u8]) -> bool
     word[0] == b'-'
 }
 
-// Is it a waveform on standard output?
+// Is it a file to be written, on standard output?
 fn is_barred(slot: usize, word: &[u8]) -> bool
     ensures { λ r. ⌜ r ≡ isBarred slot (now (word .entry)) ⌝ }
 {
-    if slot == 1 {
+    if is_written(slot) {
         return is_dash(word);
     }
     false

@@ -4,7 +4,8 @@ ghost use mathlib.Core.Bool.{true};
 ghost use Prim.Native.Nat.{_<_};
 ghost use Rattle.options.specs.Tables.{agrees, isFound, goesOn, lettered, ended, amongFrom, commandOf};
 ghost use Rattle.options.specs.Tables.{valuedOption, loneOption, plainOption, shortOption};
-ghost use Rattle.options.specs.Tables.{either, optionOf, isNumber, isFed, goesWith};
+ghost use Rattle.options.specs.Tables.{either, optionOf, isNumber, isWritten, isFed, isNamed, goesWith};
+ghost use Rattle.options.specs.Tables.{isCourse, isColumn, goesBeside};
 
 // Is byte n of a word this one?
 fn agrees(word: &[u8], n: usize, b: u8) -> bool
@@ -85,7 +86,7 @@ fn valued_option(word: &[u8]) -> usize
     among(
         word,
         0,
-        b"--vcd --names --seed --from --to --every --only --expect --user --allowance ",
+        b"--vcd --names --seed --from --to --every --only --expect --user --allowance --save --load --init ",
     )
 }
 
@@ -100,11 +101,11 @@ fn lone_option(word: &[u8]) -> usize
     )
 }
 
-// The slot of an option that goes with every command.
+// The slot of an option that goes with every command, and of the work.
 fn plain_option(word: &[u8]) -> usize
     ensures { λ r. ⌜ r ≡ plainOption (now (word .entry)) ⌝ }
 {
-    among(word, 31, b"--status --help --version ")
+    among(word, 31, b"--status --help --version --work ")
 }
 
 // The slot of an option in short.
@@ -142,6 +143,16 @@ pub fn is_number(slot: usize) -> bool
     if 2 < slot { slot < 7 } else { false }
 }
 
+// Does a slot name a file that is written?
+pub fn is_written(slot: usize) -> bool
+    ensures { λ r. ⌜ r ≡ isWritten slot ⌝ }
+{
+    if slot == 1 {
+        return true;
+    }
+    slot == 11
+}
+
 // Does the command take inputs?
 pub fn is_fed(command: usize) -> bool
     ensures { λ r. ⌜ r ≡ isFed command ⌝ }
@@ -152,15 +163,22 @@ pub fn is_fed(command: usize) -> bool
     command == 5
 }
 
+// Does the command take names?
+fn is_named(command: usize) -> bool
+    ensures { λ r. ⌜ r ≡ isNamed command ⌝ }
+{
+    if command == 3 {
+        return true;
+    }
+    command == 4
+}
+
 // Does a slot go with a command?
 pub fn goes_with(command: usize, slot: usize) -> bool
     ensures { λ r. ⌜ r ≡ goesWith command slot ⌝ }
 {
     if slot == 2 {
-        if command == 3 {
-            return true;
-        }
-        return command == 4;
+        return is_named(command);
     }
     if slot == 23 {
         return command == 4;
@@ -168,8 +186,55 @@ pub fn goes_with(command: usize, slot: usize) -> bool
     if slot == 31 {
         return is_fed(command);
     }
+    if slot == 35 {
+        return command == 3;
+    }
     if slot < 30 {
         return command == 3;
+    }
+    true
+}
+
+// ---- what goes with a run by its kind
+
+// Does a slot say where the choices come from?
+fn is_course(slot: usize) -> bool
+    ensures { λ r. ⌜ r ≡ isCourse slot ⌝ }
+{
+    if slot == 3 {
+        return true;
+    }
+    slot == 20
+}
+
+// Does it say which columns there are?
+fn is_column(slot: usize) -> bool
+    ensures { λ r. ⌜ r ≡ isColumn slot ⌝ }
+{
+    if slot == 7 {
+        return true;
+    }
+    if slot == 21 {
+        return true;
+    }
+    slot == 26
+}
+
+// Does a slot go with a run of that kind?
+pub fn goes_beside(kind: usize, slot: usize) -> bool
+    ensures { λ r. ⌜ r ≡ goesBeside kind slot ⌝ }
+{
+    if kind == 10 {
+        if is_course(slot) {
+            return false;
+        }
+        if slot == 1 {
+            return false;
+        }
+        return !is_column(slot);
+    }
+    if kind == 11 {
+        return slot != 11;
     }
     true
 }

@@ -10,6 +10,7 @@ use crate::machine::Plan;
 use crate::machine::Stand;
 use crate::report;
 use crate::running;
+use crate::wave;
 use clock_nodes::RowTable;
 use clock_steps::RowNumbers;
 use comparison::Counts;
@@ -298,6 +299,9 @@ fn plan_of(o: CompareOptions, layout: Layout, sheet: &[u8]) -> Plan {
         waved: false,
         user: 0,
         allowances: [allowances::MOST; 4],
+        source: -1,
+        save: 0,
+        kept: wave::nowhere(),
     }
 }
 

@@ -64,9 +64,11 @@ pub fn variables(p: Plan) -> usize {
 
 // ---- the table
 
-// What the table shows: its form, the variables of its columns and which part of them, and the cycles from one to another, every so many.
+// What the table shows: its form, the widths of the variables, those of its columns and which part of them, and the cycles from one to
+// another, every so many.
 pub struct View {
     pub form: Form,
+    pub widths: [u8; 80],
     pub places: [u8; 80],
     pub first: usize,
     pub behind: usize,
@@ -83,8 +85,10 @@ pub fn view_of(p: Plan, o: Shape) -> View {
         base: o.base,
         csv: o.csv,
     };
+    let widths = p.widths;
     View {
         form,
+        widths,
         places,
         first: columns::first_of(o.inputs, p.inputs),
         behind: columns::behind_of(o.wires, p.inputs, p.registers, p.wires),
@@ -92,6 +96,22 @@ pub fn view_of(p: Plan, o: Shape) -> View {
         to: o.to,
         every: o.every,
     }
+}
+
+// The view of the work: the stores, and the wires that read what changed, each in a column of 16 bits.
+pub fn view_of_work(p: Plan, o: Shape) -> View {
+    let mut v = view_of(p, o);
+    let widths = [16u8; 80];
+    v.widths = widths;
+    v.first = 0;
+    v.behind = 2;
+    v
+}
+
+// The titles of these columns.
+pub fn put_work_names(names: &mut [u8; 2560]) {
+    naming::set_name(names, 0, b"stores");
+    naming::set_name(names, 1, b"readers");
 }
 
 // The view of the variables that a word names; where one is not there, says so.
@@ -148,8 +168,8 @@ fn put_head(
 }
 
 // The titles.
-pub fn put_titles(p: Plan, v: View, names: &[u8; 2560], text: &mut [u8; 65536]) -> usize {
-    let widths = p.widths;
+pub fn put_titles(v: View, names: &[u8; 2560], text: &mut [u8; 65536]) -> usize {
+    let widths = v.widths;
     let places = v.places;
     put_head(v, &widths, names, &places, text)
 }
@@ -185,7 +205,6 @@ fn put_line(
 
 // A cycle's line, from a row of the trace.
 pub fn put_row(
-    p: Plan,
     v: View,
     names: &[u8; 2560],
     cycle: usize,
@@ -194,7 +213,7 @@ pub fn put_row(
     text: &mut [u8; 65536],
     pos: usize,
 ) -> usize {
-    let widths = p.widths;
+    let widths = v.widths;
     let places = v.places;
     let row = row_of(trace, r);
     put_line(v, &widths, names, &places, cycle, row, text, pos)

@@ -56,6 +56,14 @@ pub fn show_word(word: &[u8]) -> Outcome {
 
 // ---- reading
 
+// The first bytes of some.
+pub fn front(bytes: &[u8], n: usize) -> &[u8] {
+    if n <= bytes.len() {
+        return &bytes[..n];
+    }
+    bytes
+}
+
 // The byte at a place, 0 past the end.
 pub fn byte_at(s: &[u8], at: usize) -> u8 {
     if at < s.len() { s[at] } else { 0 }

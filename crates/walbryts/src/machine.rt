@@ -3,6 +3,7 @@
 use crate::feed::Row;
 use crate::files::byte_at;
 use crate::report;
+use crate::wave::Target;
 use clock_nodes::RowTable;
 use clock_steps::RowNumbers;
 use driving::Ending;
@@ -10,9 +11,11 @@ use driving::Rest;
 use nextstate::Registers;
 use options::Way;
 use plan::PlanTable;
+use state::State;
 
 // What a run goes by: the sheet's counts and widths, the words that name the module and the inputs, the wires shown or not, only the last
-// cycle or all, how far it has come told or not, and a waveform or none; whose choices they are, and how many each user has.
+// cycle or all, how far it has come told or not, and a waveform or none; whose choices they are, and how many each user has; the module's
+// descriptor, and the word that names a state to be written, with where it goes.
 pub struct Plan {
     pub inputs: u8,
     pub registers: u8,
@@ -27,6 +30,9 @@ pub struct Plan {
     pub waved: bool,
     pub user: u8,
     pub allowances: [u32; 4],
+    pub source: i32,
+    pub save: usize,
+    pub kept: Target,
 }
 
 // The widths of a sheet's variables.
@@ -59,10 +65,8 @@ fn second(row: [u64; 88]) -> [u64; 176] {
     rows
 }
 
-// The state at the start, at rest.
-pub fn begin(p: Plan, plan: &PlanTable, way: Way) -> Stand {
-    let allowances = p.allowances;
-    let rest = driving::begin(plan, allowances, p.user, way);
+// Where a run stands that is at rest, or not.
+fn stand_of(p: Plan, rest: Rest) -> Stand {
     let st = rest.state;
     let registers = driving::registers_of(p.inputs, st);
     let rows = second(driving::row_of(st));
@@ -72,6 +76,17 @@ pub fn begin(p: Plan, plan: &PlanTable, way: Way) -> Stand {
         registers,
         rows,
     }
+}
+
+// The state at the start, at rest.
+pub fn begin(p: Plan, plan: &PlanTable, way: Way) -> Stand {
+    let allowances = p.allowances;
+    stand_of(p, driving::begin(plan, allowances, p.user, way))
+}
+
+// A state, at rest.
+pub fn resume(p: Plan, plan: &PlanTable, st: State, way: Way) -> Stand {
+    stand_of(p, driving::resume(plan, st, p.user, way))
 }
 
 // Did it come to rest, and if not, why?
@@ -95,6 +110,31 @@ pub fn say_unrest(index: usize, cycle: usize, e: Ending) {
 pub struct Gone {
     pub cycles: usize,
     pub stand: Stand,
+}
+
+// Rows of inputs, with their work.
+pub fn worked(
+    plan: &PlanTable,
+    s: Stand,
+    value: &[u32],
+    unknown: &[u32],
+    out: &mut [u64; 5720],
+) -> Gone {
+    let before = s.rest;
+    let registers = s.registers;
+    let rows = s.rows;
+    let t = workload::trace(plan, before, s.user, value, unknown, out);
+    let rest = t.rest;
+    let stand = Stand {
+        user: s.user,
+        rest,
+        registers,
+        rows,
+    };
+    Gone {
+        cycles: t.phases / 2,
+        stand,
+    }
 }
 
 // Rows of inputs by events.

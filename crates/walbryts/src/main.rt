@@ -14,6 +14,7 @@ mod report;
 mod running;
 mod say;
 mod showing;
+mod states;
 mod texts;
 mod wave;
 mod words;
@@ -45,6 +46,9 @@ fn help() -> Outcome {
       --by-expressions            by the extracted expressions in place of events
       --last                      show only the last cycle of all
       --vcd FILE                  write a waveform
+      --work                      show the wire stores of each cycle, and the wires that read what changed
+      --init FILE                 the registers' first values, lines such as `count 5`
+      --save FILE, --load FILE    save the state at the end, go on from a state that was saved
       --progress                  say how far it has come, on standard error
       --any-order                 say nothing where the result depends on the order
   walbryts compare FILE INPUTS    events, in several orders, against the expressions

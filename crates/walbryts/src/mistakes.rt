@@ -14,7 +14,7 @@ fn say_fault(fault: u8) {
         2 => {
             io::write_all(
                 STDERR_FILENO,
-                b": no such option: --wires, --inputs, --only A,B, --hex, --binary, --csv, --from N, --to N, --every N, --expect FILE, --seed N, --user N, --allowance A,B,C,D, --by-expressions, --last, --vcd FILE, --progress, --any-order, --dot, --names FILE, --verilog, --help and --version are allowed\n",
+                b": no such option: --wires, --inputs, --only A,B, --hex, --binary, --csv, --from N, --to N, --every N, --expect FILE, --seed N, --user N, --allowance A,B,C,D, --by-expressions, --last, --vcd FILE, --work, --init FILE, --save FILE, --load FILE, --progress, --any-order, --dot, --names FILE, --verilog, --help and --version are allowed\n",
             );
         }
         3 => {
@@ -38,11 +38,17 @@ fn say_fault(fault: u8) {
         7 => {
             io::write_all(
                 STDERR_FILENO,
-                b": the table goes to standard output, a waveform to a file of its own\n",
+                b": the table goes to standard output, a waveform or a state to a file of its own\n",
             );
         }
         9 => {
             io::write_all(STDERR_FILENO, b": does not go with --hex\n");
+        }
+        10 => {
+            io::write_all(STDERR_FILENO, b": does not go with --work\n");
+        }
+        11 => {
+            io::write_all(STDERR_FILENO, b": does not go with --by-expressions\n");
         }
         _ => {
             io::write_all(STDERR_FILENO, b": a word is to follow it\n");

@@ -62,6 +62,27 @@ pub fn wrong_names(index: usize, line: usize, column: usize, error: u8) {
     flush(STDERR_FILENO, &text, p);
 }
 
+// Something wrong with a line of first values.
+pub fn wrong_values(index: usize, line: usize, column: usize, error: u8) {
+    match error {
+        1 => {
+            say_spot(STDERR_FILENO, index, line, column);
+            io::write_all(
+                STDERR_FILENO,
+                b"no value: a register's name and its value are allowed on a line\n",
+            );
+        }
+        8 => {
+            say_spot(STDERR_FILENO, index, line, column);
+            io::write_all(
+                STDERR_FILENO,
+                b"no such register: names of the module's registers are allowed\n",
+            );
+        }
+        _ => wrong_inputs(index, line, column, error),
+    }
+}
+
 // Something wrong with the names of columns.
 pub fn wrong_columns(index: usize, column: usize, error: u8) {
     say_file(STDERR_FILENO, index);
@@ -175,6 +196,13 @@ pub fn refuse_extraction(index: usize, sheet: &[u8], names: &[u8; 2560]) {
 }
 
 // ---- runs
+
+// A file whose state is refused.
+pub fn refuse_state(index: usize, number: u8) {
+    wrong_with(index, b": ", 0);
+    say_number(STDERR_FILENO, number);
+    say_allowed(STDERR_FILENO, number);
+}
 
 // Not at rest after so many choices.
 fn say_restless(most: usize) {

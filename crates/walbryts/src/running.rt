@@ -12,12 +12,15 @@ use crate::files::flush;
 use crate::files::open_input;
 use crate::files::unshown;
 use crate::machine;
+use crate::machine::Gone;
 use crate::machine::Plan;
 use crate::machine::Stand;
 use crate::report;
 use crate::say::say;
 use crate::showing::extracted;
+use crate::states;
 use crate::wave;
+use crate::wave::Target;
 use crate::wave::Wave;
 use allowances::Allowances;
 use clock_nodes::RowTable;
@@ -207,6 +210,25 @@ fn first_slots(slots: &[u32], to: usize) -> &[u32] {
     slots
 }
 
+// Rows of inputs by the way of the run, or with their work where it is counted.
+fn gone_on(
+    plan: &PlanTable,
+    lent: &PlanTable,
+    table: &RowTable,
+    numbers: &RowNumbers,
+    s: Stand,
+    value: &[u32],
+    unknown: &[u32],
+    trace: &mut Trace,
+) -> Gone {
+    let rest = s.rest;
+    let way = rest.way;
+    if driving::is_counted(way) {
+        return machine::worked(plan, s, value, unknown, trace);
+    }
+    machine::many(plan, lent, table, numbers, s, value, unknown, trace)
+}
+
 // The cycles of the rows that wait: where one does not come to rest, the run stops.
 fn cycled(
     plan: &PlanTable,
@@ -225,7 +247,7 @@ fn cycled(
     let old = c.stand;
     let numbers_in = first_slots(value, to);
     let marks_in = first_slots(unknown, to);
-    let gone = machine::many(plan, lent, table, numbers, old, numbers_in, marks_in, trace);
+    let gone = gone_on(plan, lent, table, numbers, old, numbers_in, marks_in, trace);
     let stand = gone.stand;
     let mut e = c;
     e.stand = stand;
@@ -266,7 +288,6 @@ fn tabled(
 ) -> Page {
     let pos = if !p.last && display::is_chosen(view, g.cycle) {
         display::put_row(
-            p,
             view,
             names,
             g.cycle,
@@ -371,7 +392,30 @@ fn turns(
         left -= 1;
     }
     let d = closing(p, c, &mut waves);
-    finish(p, names, path, d, &trace, &mut text, &waves)
+    let e = finish(p, names, path, d, &trace, &mut text, &waves);
+    left_behind(p, d, e)
+}
+
+// All cycles, under the names of the variables, or those of the work.
+fn titled(
+    p: Plan,
+    plan: &PlanTable,
+    lent: &PlanTable,
+    table: &RowTable,
+    numbers: &RowNumbers,
+    names: &[u8; 2560],
+    path: &[u8],
+    c: Course,
+) -> Outcome {
+    let stand = c.stand;
+    let rest = stand.rest;
+    let way = rest.way;
+    if driving::is_counted(way) {
+        let mut titles = [0u8; 2560];
+        display::put_work_names(&mut titles);
+        return turns(p, plan, lent, table, numbers, &titles, path, c);
+    }
+    turns(p, plan, lent, table, numbers, names, path, c)
 }
 
 // The titles of the table, and the head of the waveform.
@@ -389,7 +433,7 @@ fn opened(
     display::put_front(trace, &rows);
     let view = c.view;
     let mut g = c.page;
-    g.pos = display::put_titles(p, view, names, text);
+    g.pos = display::put_titles(view, names, text);
     if p.waved {
         let mut w = g.wave;
         w.pos = display::put_start(p, names, trace, waves);
@@ -425,16 +469,7 @@ fn finish(
     let mut g = c.page;
     if p.last && g.cycle > 0 {
         let view = c.view;
-        g.pos = display::put_row(
-            p,
-            view,
-            names,
-            g.cycle - 1,
-            trace,
-            display::FRONT,
-            text,
-            g.pos,
-        );
+        g.pos = display::put_row(view, names, g.cycle - 1, trace, display::FRONT, text, g.pos);
     }
     let outcome = c.outcome;
     let h = spill_wave(g, path, text, waves);
@@ -446,6 +481,16 @@ fn finish(
     let met = expecting::ended(x);
     let last = written(h);
     options::joined(wave::closed(w, path, options::joined(outcome, last)), met)
+}
+
+// What a run that ended so leaves behind where all is well: its state.
+fn left_behind(p: Plan, c: Course, e: Outcome) -> Outcome {
+    if options::status_of(e) != 0 {
+        return e;
+    }
+    let feed = c.feed;
+    let stand = c.stand;
+    states::save(p, feed.fd, stand)
 }
 
 // How the command ends by what could be written.
@@ -560,6 +605,11 @@ pub fn tabled_out(
 // What the table shows.
 fn viewed(p: Plan, o: RunOptions, names: &[u8; 2560]) -> Viewed {
     let shape = o.shape;
+    let way = o.way;
+    if driving::is_counted(way) {
+        let view = display::view_of_work(p, shape);
+        return Viewed { good: true, view };
+    }
     if shape.only != 0 {
         return display::view_by(p, shape, shape.only, names);
     }
@@ -579,10 +629,10 @@ fn run_on(
 ) -> Outcome {
     let mut plan = [0u32; 25212];
     prepared::prepare(sheet, &mut plan);
-    let way = o.way;
-    let stand = machine::begin(p, &plan, way);
-    if !started(o.sheet, machine::ending_of(stand)) {
-        return outcome_of(stand);
+    let b = states::begin(o, p, &plan, sheet, names);
+    let begun = b.outcome;
+    if options::status_of(begun) != 0 {
+        return begun;
     }
     let mut lent = [0u32; 25212];
     let mut table = [0u32; 1152];
@@ -603,12 +653,20 @@ fn run_on(
         return Outcome::Mistaken;
     }
     let view = seen.view;
+    let stand = b.stand;
     let c = course_of(p, fd, stand, w, view, expected);
-    turns(p, &plan, &lent, &table, &numbers, names, path, c)
+    titled(p, &plan, &lent, &table, &numbers, names, path, c)
 }
 
 // What a run goes by.
-fn plan_of(o: RunOptions, layout: Layout, sheet: &[u8], allowances: [u32; 4]) -> Plan {
+fn plan_of(
+    o: RunOptions,
+    layout: Layout,
+    sheet: &[u8],
+    allowances: [u32; 4],
+    source: i32,
+    kept: Target,
+) -> Plan {
     let widths = machine::widths_of(sheet);
     let shape = o.shape;
     Plan {
@@ -625,6 +683,9 @@ fn plan_of(o: RunOptions, layout: Layout, sheet: &[u8], allowances: [u32; 4]) ->
         waved: o.vcd != 0,
         user: allowances::user_of(o.user),
         allowances,
+        source,
+        save: o.save,
+        kept,
     }
 }
 
@@ -672,6 +733,32 @@ fn run_to(
     run_from(o, p, sheet, names, fd, target, path, 0)
 }
 
+// Where a file goes that is written at the end of the run.
+fn target_of(index: usize, source: i32, fd: i32) -> Target {
+    let mut name = io::buffer();
+    wave::target_of(index, source, fd, &mut name)
+}
+
+// The run, where all its files can be written.
+fn aimed_at(
+    o: RunOptions,
+    source: i32,
+    sheet: &[u8],
+    layout: Layout,
+    names: &[u8; 2560],
+    fd: i32,
+    allowances: [u32; 4],
+) -> Outcome {
+    let kept = target_of(o.save, source, fd);
+    let mut path = io::buffer();
+    let target = wave::target_of(o.vcd, source, fd, &mut path);
+    if !kept.good || !target.good {
+        return Outcome::Mistaken;
+    }
+    let p = plan_of(o, layout, sheet, allowances, source, kept);
+    run_to(o, p, sheet, names, fd, target, &path)
+}
+
 // `run`: a sheet that is read, by a descriptor.
 pub fn run(
     o: RunOptions,
@@ -693,19 +780,6 @@ pub fn run(
     if fd < 0 {
         return Outcome::Mistaken;
     }
-    let mut path = io::buffer();
-    let target = wave::target_of(o.vcd, source, fd, &mut path);
-    if !target.good {
-        return Outcome::Mistaken;
-    }
     let each = a.each;
-    run_to(
-        o,
-        plan_of(o, layout, sheet, each),
-        sheet,
-        names,
-        fd,
-        target,
-        &path,
-    )
+    aimed_at(o, source, sheet, layout, names, fd, each)
 }

@@ -1,7 +1,8 @@
-// The waveform's file. It is written under another name in the same folder, and takes the old one's place when the run is over and all is
-// well; where the run is refused or fails, the old one stays as it is. A pipe or a device is written straight into.
+// The file of a waveform or of a state. It is written under another name in the same folder, and takes the old one's place when the
+// run is over and all is well; where the run is refused or fails, the old one stays as it is. A pipe or a device is written straight into.
 use crate::files::byte_at;
 use crate::files::flush;
+use crate::files::front;
 use crate::report;
 use libc::SEEK_SET;
 use libc::STDOUT_FILENO;
@@ -133,7 +134,12 @@ fn present(
     }
 }
 
-// Where the waveform goes that a word names, 0 where there is none: by the descriptors of the module and the inputs. Where it cannot be
+// No file.
+pub fn nowhere() -> Target {
+    aimed(true, false, -1, 0)
+}
+
+// Where the file goes that a word names, 0 where there is none: by the descriptors of the module and the inputs. Where it cannot be
 // written, says why.
 pub fn target_of(index: usize, sheet: i32, inputs: i32, name: &mut [u8; 4096]) -> Target {
     if index == 0 {
@@ -288,4 +294,41 @@ pub fn closed(w: Wave, path: &[u8], outcome: Outcome) -> Outcome {
     }
     removed(path);
     all
+}
+
+// ---- a file that is written at the end of the run
+
+// Where it goes, once more: what is written straight into is still open.
+pub fn target_again(
+    index: usize,
+    t: Target,
+    sheet: i32,
+    inputs: i32,
+    name: &mut [u8; 4096],
+) -> Target {
+    if t.fd < 0 {
+        return target_of(index, sheet, inputs, name);
+    }
+    let n = os::arg(index, name);
+    aimed(true, false, t.fd, n)
+}
+
+// The file, made, by its name.
+pub fn begun(t: Target, name: &[u8; 4096]) -> Wave {
+    let path = front(name, t.length);
+    made(t, path)
+}
+
+// A part of it is written; where that fails, says why.
+pub fn put(w: Wave, t: Target, name: &[u8; 4096], text: &[u8; 65536], pos: usize) -> Wave {
+    let mut e = w;
+    e.pos = pos;
+    let path = front(name, t.length);
+    spilled(e, path, text)
+}
+
+// It is closed, and takes its name.
+pub fn finished(w: Wave, t: Target, name: &[u8; 4096]) -> Outcome {
+    let path = front(name, t.length);
+    closed(w, path, Outcome::Done)
 }

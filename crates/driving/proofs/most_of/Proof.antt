@@ -16,6 +16,10 @@ returns-3 : tie.Need-returns-3
 unfolding mostOf
 returns-3 c = rw (c .enum-told3 .given .1)
 
+returns-4 : tie.Need-returns-4
+unfolding mostOf
+returns-4 c = rw (c .enum-told4 .given .1)
+
 pub most-of-spec : {M : Type 1} → statement M
 most-of-spec =
     tie.close
@@ -25,6 +29,9 @@ most-of-spec =
     (λ c. search needs)
     (λ c. search needs)
     (λ c. search needs)
+    (λ c. search needs)
+    (λ c. search needs)
     returns
     returns-2
-    returns-3)
+    returns-3
+    returns-4)

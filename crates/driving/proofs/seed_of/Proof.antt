@@ -16,6 +16,10 @@ returns-3 : tie.Need-returns-3
 unfolding seedOf
 returns-3 c = rw (c .enum-told2 .given .1)
 
+returns-4 : tie.Need-returns-4
+unfolding seedOf
+returns-4 c = rw (c .enum-told3 .given .1)
+
 pub seed-of-spec : {M : Type 1} → statement M
 seed-of-spec =
     tie.close
@@ -24,6 +28,8 @@ seed-of-spec =
     (λ c. search needs)
     (λ c. search needs)
     (λ c. search needs)
+    (λ c. search needs)
     returns
     returns-2
-    returns-3)
+    returns-3
+    returns-4)

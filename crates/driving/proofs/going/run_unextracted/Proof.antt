@@ -10,11 +10,23 @@ returns c = rw (← c .before .is-expressed .ensures, c .if1 .taken)
 
 returns-2 : tie.Need-returns-2
 unfolding unextracted
-returns-2 c = rw (← c .before .before .is-expressed .ensures, c .before .if1 .left, c .if2 .taken)
+returns-2 c =
+    let at1 = c .before .before in
+    rw (← at1 .before .is-expressed .ensures, at1 .if1 .left, ← c .before .is-counted .ensures, c .if2 .taken)
 
 returns-3 : tie.Need-returns-3
 unfolding unextracted
-returns-3 c = rw (← c .before .before .is-expressed .ensures, c .before .if1 .left, c .if2 .left)
+returns-3 c =
+    let at2 = c .before in
+    let at1 = at2 .before .before in
+    rw (← at1 .before .is-expressed .ensures, at1 .if1 .left, ← at2 .before .is-counted .ensures, at2 .if2 .left, c .if3 .taken)
+
+returns-4 : tie.Need-returns-4
+unfolding unextracted
+returns-4 c =
+    let at2 = c .before in
+    let at1 = at2 .before .before in
+    rw (← at1 .before .is-expressed .ensures, at1 .if1 .left, ← at2 .before .is-counted .ensures, at2 .if2 .left, c .if3 .left)
 
 pub run-unextracted-spec : {M : Type 1} → statement M
-run-unextracted-spec = tie.close (tie.spec (λ c κs. search needs) returns returns-2 returns-3)
+run-unextracted-spec = tie.close (tie.spec (λ c κs. search needs) returns (λ c κs. search needs) returns-2 returns-3 returns-4)

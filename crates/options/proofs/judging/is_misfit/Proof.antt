@@ -11,7 +11,7 @@ returns c = rw (eq-eqb _ _ (c .if1 .taken))
 
 returns-2 : tie.Need-returns-2
 unfolding isMisfit
-returns-2 c = rw (ne-eqb _ _ (c .before .if1 .left), c .goes-with .ensures)
+returns-2 c = rw (ne-eqb _ _ (c .before .if1 .left), c .is-fitting .ensures)
 
 pub is-misfit-spec : {M : Type 1} → statement M
 is-misfit-spec =

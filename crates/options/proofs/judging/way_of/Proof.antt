@@ -19,10 +19,23 @@ returns-2 c = rw (
 
 returns-3 : tie.Need-returns-3
 unfolding wayOf
-returns-3 c = rw (
-  sym (c .before .before .before .is-given .ensures) ∙ c .before .before .if1 .left,
-  sym (c .before .is-given2 .ensures) ∙ c .if2 .left,
-)
+returns-3 c =
+    let at2 = c .before .before in
+    rw (
+      sym (at2 .before .before .before .is-given .ensures) ∙ at2 .before .before .if1 .left,
+      sym (at2 .before .is-given2 .ensures) ∙ at2 .if2 .left,
+      sym (c .before .is-given3 .ensures) ∙ c .if3 .taken,
+    )
+
+returns-4 : tie.Need-returns-4
+unfolding wayOf
+returns-4 c =
+    let at2 = c .before .before in
+    rw (
+      sym (at2 .before .before .before .is-given .ensures) ∙ at2 .before .before .if1 .left,
+      sym (at2 .before .is-given2 .ensures) ∙ at2 .if2 .left,
+      sym (c .before .is-given3 .ensures) ∙ c .if3 .left,
+    )
 
 pub way-of-spec : {M : Type 1} → statement M
 way-of-spec =
@@ -33,4 +46,6 @@ way-of-spec =
     (λ c κs. search needs)
     (λ c κs. search needs)
     returns-2
-    returns-3)
+    (λ c κs. search needs)
+    returns-3
+    returns-4)
