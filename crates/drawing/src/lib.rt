@@ -1,5 +1,5 @@
-// A run as a drawing (SVG), put into a lent buffer piece by piece: the head, a lane for each variable, the foot. A piece that is put at
-// the buffer's beginning fits into it.
+// A run as a drawing (SVG), put into a lent buffer piece by piece: the head, a lane for each variable, the foot. What would pass the
+// buffer's end is not put.
 use binary_text::is_known;
 use sheet::byte_at;
 use tabulate::longer;
