@@ -48,7 +48,7 @@
 extern "C" {
 #endif
 
-#define WALBRYTS_VERSION "0.3.0" /* of the library, the command and the Rust crate */
+#define WALBRYTS_VERSION "0.4.0" /* of the library, the command and the Rust crate */
 
 /* ---- lengths */
 

@@ -200,7 +200,7 @@ fn carry_out(w: Words, c: Command) -> Outcome {
 fn answer(w: Words, r: Request) -> Outcome {
     match r {
         Request::Help => help(),
-        Request::Version => show_word(b"walbryts 0.3.0\n"),
+        Request::Version => show_word(b"walbryts 0.4.0\n"),
         Request::Short(missing) => {
             mistakes::short(missing);
             Outcome::Mistaken
