@@ -2,7 +2,7 @@
 _walbryts() {
     local word=${COMP_WORDS[COMP_CWORD]} before=${COMP_WORDS[COMP_CWORD - 1]} command=${COMP_WORDS[1]}
     if [ "$COMP_CWORD" -eq 1 ]; then
-        mapfile -t COMPREPLY < <(compgen -W "list check run compare extract verilog sheet --help --version" -- "$word")
+        mapfile -t COMPREPLY < <(compgen -W "list check run compare extract explain verilog sheet --help --version" -- "$word")
         return
     fi
     case $before in
@@ -20,6 +20,7 @@ _walbryts() {
         ;;
     compare) options="$options --names" ;;
     extract) options="$options --dot --names" ;;
+    explain) options="$options --names" ;;
     esac
     case $word in
     -*) mapfile -t COMPREPLY < <(compgen -W "$options" -- "$word") ;;

@@ -1,5 +1,5 @@
 # Completion of walbryts for fish.
-set -l commands list check run compare extract verilog sheet
+set -l commands list check run compare extract explain verilog sheet
 complete -c walbryts -n "not __fish_seen_subcommand_from $commands" -f -a "$commands"
 complete -c walbryts -n "not __fish_seen_subcommand_from $commands" -l help -d "what there is"
 complete -c walbryts -n "not __fish_seen_subcommand_from $commands" -l version -d "the version"
@@ -26,5 +26,5 @@ complete -c walbryts -n "__fish_seen_subcommand_from run" -l save -r -d "save th
 complete -c walbryts -n "__fish_seen_subcommand_from run" -l load -r -F -d "go on from a saved state"
 complete -c walbryts -n "__fish_seen_subcommand_from run" -l progress -d "say how far it has come"
 complete -c walbryts -n "__fish_seen_subcommand_from run" -l any-order -d "no word where the order matters"
-complete -c walbryts -n "__fish_seen_subcommand_from run compare extract" -l names -r -d "names of variables"
+complete -c walbryts -n "__fish_seen_subcommand_from run compare extract explain" -l names -r -d "names of variables"
 complete -c walbryts -n "__fish_seen_subcommand_from extract" -l dot -d "a graph for Graphviz"

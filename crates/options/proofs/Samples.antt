@@ -11,7 +11,7 @@ use Rattle.stimulus.specs.Numbers.{grown, grownBy, numberOf}
 use Rattle.options.specs.declared.Way.{Way}
 use Rattle.options.specs.declared.Way.the-variants.{Drawn, Expressed, Counted}
 use Rattle.options.specs.declared.Shape.{Shape}
-use Rattle.options.specs.declared.Command.the-variants.{List as Listing, Run, Extract, Compare}
+use Rattle.options.specs.declared.Command.the-variants.{List as Listing, Run, Extract, Compare, Explain}
 use Rattle.options.specs.declared.Request.{Request}
 use Rattle.options.specs.declared.Request.the-variants.{Help, Version, Short, Wrong, Asked}
 use Rattle.options.specs.Tables.{agrees, isFound, goesOn, lettered, ended, amongFrom, among, commandOf}
@@ -117,6 +117,7 @@ pub samples :
     (("compare" ∷ "m.hex" ∷ "m.in" ∷ "--allowance" ∷ "1,2,3,4" ∷ []) asks Wrong 5 5) ×
     (("run" ∷ "m.hex" ∷ "m.in" ∷ "--hex" ∷ "--binary" ∷ []) asks Wrong 5 9) ×
     (("run" ∷ "m.hex" ∷ "m.in" ∷ "--work" ∷ []) asks run 2 3 0 0 Counted (plain false)) ×
+    (("explain" ∷ "m.hex" ∷ "--names" ∷ "m.names" ∷ []) asks Asked (Explain 2 4)) ×
     (("check" ∷ "m.hex" ∷ "--work" ∷ []) asks Wrong 3 5) ×
     (("run" ∷ "m.hex" ∷ "m.in" ∷ "--save" ∷ "-" ∷ []) asks Wrong 5 7) ×
     (("run" ∷ "m.hex" ∷ "m.in" ∷ "--work" ∷ "--wires" ∷ []) asks Wrong 5 10) ×
@@ -124,6 +125,7 @@ pub samples :
     (("run" ∷ "m.hex" ∷ "m.in" ∷ "--seed" ∷ "1" ∷ "--by-expressions" ∷ []) asks Wrong 6 6)
 unfolding requestOf request judged fitted paired kindOf faultOf takenAll taken nothing advanced counted noted valued wanting misplaced withCommand leastOf numbered isDash isBarred filled isDashed named placed fresh optionOf either valuedOption loneOption plainOption shortOption commandOf among amongFrom isFound goesOn agrees lettered ended isNumber isWritten ascii isGiven misfit isMisfit isFitting goesWith isFed isNamed goesBeside isCourse isColumn lacking clashing based wayOf baseOf lastOf everyOf shapeOf runOf commanded numberOf grownBy grown digitOf
 samples = (
+  refl,
   refl,
   refl,
   refl,

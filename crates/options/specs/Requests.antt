@@ -11,7 +11,7 @@ use Rattle.options.specs.declared.Way.the-variants.{Plain, Drawn, Expres
 use Rattle.options.specs.declared.Shape.{Shape}
 use Rattle.options.specs.declared.RunOptions.{RunOptions}
 use Rattle.options.specs.declared.Command.{Command}
-use Rattle.options.specs.declared.Command.the-variants.{List as Listing, Check, Run, Extract, Compare, Verilog}
+use Rattle.options.specs.declared.Command.the-variants.{List as Listing, Check, Run, Extract, Compare, Verilog, Explain}
 use Rattle.options.specs.declared.Request.{Request}
 use Rattle.options.specs.declared.Request.the-variants.{Help, Version, Short, Wrong, Asked}
 use Rattle.options.specs.Tables.{isFed, goesWith, goesBeside}
@@ -119,6 +119,7 @@ commanded o =
     o .command is 3 then Run (runOf o) else
     o .command is 4 then Extract (record { sheet = wordOf o 30; names = wordOf o 2; dot = isGiven o 23 }) else
     o .command is 5 then Compare (record { sheet = wordOf o 30; inputs = wordOf o 31 }) else
+    o .command is 8 then Explain (wordOf o 30) (wordOf o 2) else
     Verilog (wordOf o 30)
 
 -- ---- request: help or the version where it is asked for; else the first mistake, in this order, with its fault; else the command
@@ -157,6 +158,7 @@ sheetOf (Run o) = o .sheet
 sheetOf (Extract o) = o .sheet
 sheetOf (Compare o) = o .sheet
 sheetOf (Verilog n) = n
+sheetOf (Explain n k) = n
 
 unfoldable pub namesOf : Command → ℕ
 namesOf (Listing n) = 0
@@ -165,3 +167,4 @@ namesOf (Run o) = o .names
 namesOf (Extract o) = o .names
 namesOf (Compare o) = 0
 namesOf (Verilog n) = 0
+namesOf (Explain n k) = k

@@ -42,7 +42,7 @@ among word base line = amongFrom word base 0 true (ascii line)
 -- ---- commandOf: a command's number, 0 for any other word
 
 unfoldable pub commandOf : List ℕ → ℕ
-commandOf w = among w 0 "list check run extract compare verilog help "
+commandOf w = among w 0 "list check run extract compare verilog help explain "
 
 -- ---- optionOf: an option's slot, 0 for any other word
 
@@ -80,13 +80,13 @@ isNumber slot = slot is 9 then true else (ltb 2 slot && ltb slot 7)
 unfoldable pub isWritten : ℕ → Bool
 isWritten slot = eqb slot 1 || eqb slot 11
 
--- ---- goesWith: slots 30 and 32 up go with all commands, names with run and extract, a graph with extract, the others with run
+-- ---- goesWith: slots 30 and 32 up go with all commands, names with run, extract and explain, a graph with extract, the others with run
 
 unfoldable pub isFed : ℕ → Bool
 isFed command = eqb command 3 || eqb command 5
 
 unfoldable pub isNamed : ℕ → Bool
-isNamed command = eqb command 3 || eqb command 4
+isNamed command = eqb command 3 || (eqb command 4 || eqb command 8)
 
 unfoldable pub goesWith : ℕ → ℕ → Bool
 goesWith command slot =

@@ -206,6 +206,7 @@ fn commanded(o: Options) -> Command
             sheet,
             inputs: word_of(o, 31),
         }),
+        8 => Command::Explain(sheet, word_of(o, 2)),
         _ => Command::Verilog(sheet),
     }
 }
@@ -326,6 +327,7 @@ pub fn sheet_of(c: Command) -> usize
         Command::Extract(o) => o.sheet,
         Command::Compare(o) => o.sheet,
         Command::Verilog(sheet) => sheet,
+        Command::Explain(sheet, _) => sheet,
     }
 }
 
@@ -340,6 +342,7 @@ pub fn names_of(c: Command) -> usize
         Command::Extract(o) => o.names,
         Command::Compare(_) => 0,
         Command::Verilog(_) => 0,
+        Command::Explain(_, names) => names,
     }
 }
 

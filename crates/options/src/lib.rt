@@ -89,6 +89,7 @@ pub enum Command {
     Extract(ExtractOptions),
     Compare(CompareOptions),
     Verilog(usize),
+    Explain(usize, usize),
 }
 
 // What all words ask for: help, the version, a command, or nothing that can be done: a word is missing (1 the command, 2 the sheet, 3 the

@@ -76,7 +76,11 @@ fn among(word: &[u8], base: u8, line: &[u8]) -> usize
 pub fn command_of(word: &[u8]) -> usize
     ensures { λ r. ⌜ r ≡ commandOf (now (word .entry)) ⌝ }
 {
-    among(word, 0, b"list check run extract compare verilog help ")
+    among(
+        word,
+        0,
+        b"list check run extract compare verilog help explain ",
+    )
 }
 
 // The slot of an option that takes the next word.
@@ -170,7 +174,10 @@ fn is_named(command: usize) -> bool
     if command == 3 {
         return true;
     }
-    command == 4
+    if command == 4 {
+        return true;
+    }
+    command == 8
 }
 
 // Does a slot go with a command?

@@ -54,9 +54,10 @@ fn help() -> Outcome {
   walbryts compare FILE INPUTS    events, in several orders, against the expressions
   walbryts extract FILE           waits and next-state expressions
       --dot                       the nodes as a graph for Graphviz
+  walbryts explain FILE           what each thread does from wait to wait, as statements
   walbryts verilog FILE           the module as Verilog
   walbryts sheet FILE             the module as a sheet, in hexadecimal text
-      --names FILE                with run and extract: names, lines such as `r0 count`
+      --names FILE                with run, extract and explain: names, lines such as `r0 count`
       --verilog                   FILE is Verilog text, whatever its name
   walbryts help, --help, -h       these lines
   walbryts --version, -V          which version it is
@@ -93,6 +94,7 @@ fn perform(
         Command::Extract(o) => nets::extract(o, sheet, names),
         Command::Compare(o) => comparing::compare(o, sheet, layout, names),
         Command::Verilog(index) => showing::print_verilog(index, sheet, names),
+        Command::Explain(index, _) => showing::explain(index, sheet, names, layout.threads),
     }
 }
 

@@ -8,7 +8,7 @@ fn say_fault(fault: u8) {
         1 => {
             io::write_all(
                 STDERR_FILENO,
-                b": no such command: list, check, run, extract, compare, verilog, sheet and help are allowed\n",
+                b": no such command: list, check, run, extract, compare, explain, verilog, sheet and help are allowed\n",
             );
         }
         2 => {
@@ -74,7 +74,7 @@ pub fn short(missing: u8) {
         1 => {
             io::write_all(
                 STDERR_FILENO,
-                b"usage: walbryts list|check|extract|verilog|sheet FILE, or run|compare FILE INPUTS\n",
+                b"usage: walbryts list|check|extract|explain|verilog|sheet FILE, or run|compare FILE INPUTS\n",
             );
         }
         2 => {

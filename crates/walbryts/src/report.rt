@@ -204,6 +204,13 @@ pub fn refuse_state(index: usize, number: u8) {
     say_allowed(STDERR_FILENO, number);
 }
 
+// A thread that is not explained.
+pub fn unexplained(index: usize, thread: usize, number: u8) {
+    wrong_with(index, b": thread #: ", thread);
+    say_number(STDERR_FILENO, number);
+    say_allowed(STDERR_FILENO, number);
+}
+
 // Not at rest after so many choices.
 fn say_restless(most: usize) {
     let mut text = [0u8; 65536];

@@ -1,4 +1,4 @@
-// `list`, `check`, `verilog` and `sheet`: what a module holds.
+// `list`, `check`, `explain`, `verilog` and `sheet`: what a module holds.
 use crate::files::show;
 use crate::files::show_word;
 use crate::report;
@@ -12,6 +12,40 @@ pub fn list(sheet: &[u8]) -> Outcome {
     let mut text = [0u8; 65536];
     let listing = listings::list(sheet, &mut text);
     show(&text, listing.length)
+}
+
+// A thread explained, where it meets rule 17; else that is said. Nothing is shown of a thread past the last.
+fn print_thread(
+    index: usize,
+    sheet: &[u8],
+    names: &[u8; 2560],
+    thread: usize,
+    threads: usize,
+    text: &mut [u8; 65536],
+) -> Outcome {
+    if thread >= threads {
+        return Outcome::Done;
+    }
+    let x = explaining::explain(sheet, names, thread, text);
+    if x.number != 0 {
+        report::unexplained(index, thread, x.number);
+        return Outcome::Refused;
+    }
+    show(text, x.length)
+}
+
+// `explain`: each thread as its statements, with what it does between two waits. A sheet has at most eight.
+pub fn explain(index: usize, sheet: &[u8], names: &[u8; 2560], threads: u8) -> Outcome {
+    let n = threads as usize;
+    let mut text = [0u8; 65536];
+    let a = print_thread(index, sheet, names, 0, n, &mut text);
+    let b = options::joined(a, print_thread(index, sheet, names, 1, n, &mut text));
+    let c = options::joined(b, print_thread(index, sheet, names, 2, n, &mut text));
+    let d = options::joined(c, print_thread(index, sheet, names, 3, n, &mut text));
+    let e = options::joined(d, print_thread(index, sheet, names, 4, n, &mut text));
+    let f = options::joined(e, print_thread(index, sheet, names, 5, n, &mut text));
+    let g = options::joined(f, print_thread(index, sheet, names, 6, n, &mut text));
+    options::joined(g, print_thread(index, sheet, names, 7, n, &mut text))
 }
 
 // `verilog`: the module as Verilog text, with the names of its variables.

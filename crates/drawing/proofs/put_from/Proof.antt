@@ -19,8 +19,12 @@ returns-2 c =
     let x3 = x2 .before in
     let x4 = x3 .before in
     let x5 = x4 .before in
-    rw (sym (x5 .begins .ensures) ∙ not-false _ (x4 .if1 .left), ← x3 .value-at .ensures, ← x2 .halves .ensures .0,
-    ← x1 .end-of .ensures .0) (c .put-stretch .ensures)
+    rw (
+      sym (x5 .begins .ensures) ∙ not-false _ (x4 .if1 .left),
+      ← x3 .value-at .ensures,
+      ← x2 .halves .ensures .0,
+      ← x1 .end-of .ensures .0,
+    ) (c .put-stretch .ensures)
 
 pub put-from-spec : {M : Type 1} → statement M
 put-from-spec =

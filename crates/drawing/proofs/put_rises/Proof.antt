@@ -21,9 +21,11 @@ abbrev μ-loop : tie.MeasureT-loop
 loop-holds : tie.Need-loop-holds Inv-loop μ-loop
 loop-holds c =
     let a = c .before .args in
-    let e : c .wide .result - 0 ≡ a .d .cycles = omega (arith, c .wide .ensures .0) in
-    (search needs, omega (arith, c .wide .ensures .0, c .wide .ensures .1),
-    ap (λ n. puts (filled (a .text .now) (a .pos)) (texts (rise (a .d)) n 0)) e)
+    let e : c .wide .result - 0 ≡ a .d .cycles = omega (arith, c .wide .ensures .0) in (
+      search needs,
+      omega (arith, c .wide .ensures .0, c .wide .ensures .1),
+      ap (λ n. puts (filled (a .text .now) (a .pos)) (texts (rise (a .d)) n 0)) e,
+    )
 
 loop-again : tie.Need-loop-again Inv-loop μ-loop
 loop-again c =
@@ -33,9 +35,12 @@ loop-again c =
     let x4 = x3 .before in
     let l = x2 .loop in
     let a = x4 .args in
-    let t = filled (l .text) (l .p) in
-    (search needs, l .inv .1, texts-next (rise (a .d)) t _ (x3 .wide .result) (l .k) (x1 .loop-test .taken) (c .put-rise .ensures)
-    ∙ l .inv .2)
+    let t = filled (l .text) (l .p) in (
+      search needs,
+      l .inv .1,
+      texts-next (rise (a .d)) t _ (x3 .wide .result) (l .k) (x1 .loop-test .taken) (c .put-rise .ensures)
+          ∙ l .inv .2,
+    )
 
 returns : tie.Need-returns Inv-loop μ-loop
 returns c =

@@ -22,9 +22,11 @@ abbrev μ-loop : tie.MeasureT-loop
 loop-holds : tie.Need-loop-holds Inv-loop μ-loop
 loop-holds c =
     let a = c .before .before .args in
-    let e : c .halves .result - 0 ≡ halves (a .d) = omega (arith, c .halves .ensures .0) in
-    (search needs, omega (arith, c .halves .ensures .0, c .halves .ensures .1),
-    ap (λ n. puts (filled (a .text .now) (a .pos)) (texts (stretchFrom (a .d) (a .width) (valueIn (a .trace .now) (a .v))) n 0)) e)
+    let e : c .halves .result - 0 ≡ halves (a .d) = omega (arith, c .halves .ensures .0) in (
+      search needs,
+      omega (arith, c .halves .ensures .0, c .halves .ensures .1),
+      ap (λ n. puts (filled (a .text .now) (a .pos)) (texts (stretchFrom (a .d) (a .width) (valueIn (a .trace .now) (a .v))) n 0)) e,
+    )
 
 loop-again : tie.Need-loop-again Inv-loop μ-loop
 loop-again c =
@@ -34,9 +36,12 @@ loop-again c =
     let x4 = x3 .before .before in
     let l = x2 .loop in
     let a = x4 .args in
-    let t = filled (l .text) (l .p) in
-    (search needs, l .inv .1, texts-next (stretchFrom (a .d) (a .width) (valueIn (a .trace .now) (a .v))) t _ (x3 .halves .result)
-    (l .h) (x1 .loop-test .taken) (c .put-from .ensures) ∙ l .inv .2)
+    let t = filled (l .text) (l .p) in (
+      search needs,
+      l .inv .1,
+      texts-next (stretchFrom (a .d) (a .width) (valueIn (a .trace .now) (a .v))) t _ (x3 .halves .result)
+          (l .h) (x1 .loop-test .taken) (c .put-from .ensures) ∙ l .inv .2,
+    )
 
 returns : tie.Need-returns Inv-loop μ-loop
 returns c =

@@ -36,8 +36,15 @@ returns-5 c =
 returns-6 : tie.Need-returns-6
 unfolding commanded
 returns-6 c =
+    let at-match = c .before in
+    rw (at-match .match .keys6, at-match .before .word-of .ensures, c .word-of4 .ensures)
+
+returns-7 : tie.Need-returns-7
+unfolding commanded
+returns-7 c =
     let r = c .match .rest in
     rw (
+      ne-eqb _ _ (r .0 .0 .0 .0 .0 .1),
       ne-eqb _ _ (r .0 .0 .0 .0 .1),
       ne-eqb _ _ (r .0 .0 .0 .1),
       ne-eqb _ _ (r .0 .0 .1),
@@ -55,9 +62,11 @@ commanded-spec =
     (λ c κs. search needs)
     (λ c κs. search needs)
     (λ c κs. search needs)
+    (λ c κs. search needs)
     returns
     returns-2
     returns-3
     returns-4
     returns-5
-    returns-6)
+    returns-6
+    returns-7)

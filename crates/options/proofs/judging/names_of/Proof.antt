@@ -28,10 +28,15 @@ returns-6 : tie.Need-returns-6
 unfolding namesOf
 returns-6 c = rw (c .enum-told4 .given .1)
 
+returns-7 : tie.Need-returns-7
+unfolding namesOf
+returns-7 c = rw (c .before .c3 .given .1)
+
 pub names-of-spec : {M : Type 1} → statement M
 names-of-spec =
     tie.close
     (tie.spec
+    (λ c. search needs)
     (λ c. search needs)
     (λ c. search needs)
     (λ c. search needs)
@@ -43,4 +48,5 @@ names-of-spec =
     returns-3
     returns-4
     returns-5
-    returns-6)
+    returns-6
+    returns-7)
