@@ -1,0 +1,17 @@
+pub mod Reading
+pub mod Expression
+pub mod Statements
+pub mod Trees
+pub mod Numbers
+pub mod Answers
+pub mod Nodes
+pub mod Forms
+pub mod Sections
+pub mod Outlines
+pub mod Bodies
+pub mod Passing
+pub mod Samples
+pub mod Calls
+pub mod Order
+pub mod Walks
+pub mod Stages

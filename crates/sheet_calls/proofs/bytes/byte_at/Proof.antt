@@ -1,0 +1,16 @@
+-- `sheet::bytes::byte_at` meets its contract: past the end `getD` gives 0 too. Assumes nothing.
+use borrow.Author.Needs.{needs}
+use mathlib.Core.Path.{sym}
+use lib.ListN.{List·getD-eq-default}
+use Rattle.sheet_calls.proofs.bytes.byte_at.Statement.{statement}
+use Rattle.sheet_calls.proofs.bytes.byte_at.Tie as tie
+
+returns-2 : tie.Need-returns-2
+returns-2 c = sym (List·getD-eq-default (c .before .args .s .now) 0 (c .if1 .left))
+
+pub byte-at-spec : {M : Type 1} → statement M
+byte-at-spec =
+    tie.close (tie.spec
+    (λ c. search needs)
+    (λ c. search needs)
+    returns-2)
