@@ -34,18 +34,54 @@ fn print_thread(
     show(text, x.length)
 }
 
+// Two threads explained.
+fn print_two(
+    index: usize,
+    sheet: &[u8],
+    names: &[u8; 2560],
+    first: usize,
+    second: usize,
+    threads: usize,
+    text: &mut [u8; 65536],
+) -> Outcome {
+    let a = print_thread(index, sheet, names, first, threads, text);
+    let b = print_thread(index, sheet, names, second, threads, text);
+    options::joined(a, b)
+}
+
+// Four of them.
+fn print_first(
+    index: usize,
+    sheet: &[u8],
+    names: &[u8; 2560],
+    threads: usize,
+    text: &mut [u8; 65536],
+) -> Outcome {
+    let a = print_two(index, sheet, names, 0, 1, threads, text);
+    let b = print_two(index, sheet, names, 2, 3, threads, text);
+    options::joined(a, b)
+}
+
+// The other four.
+fn print_last(
+    index: usize,
+    sheet: &[u8],
+    names: &[u8; 2560],
+    threads: usize,
+    text: &mut [u8; 65536],
+) -> Outcome {
+    let a = print_two(index, sheet, names, 4, 5, threads, text);
+    let b = print_two(index, sheet, names, 6, 7, threads, text);
+    options::joined(a, b)
+}
+
 // `explain`: each thread as its statements, with what it does between two waits. A sheet has at most eight.
 pub fn explain(index: usize, sheet: &[u8], names: &[u8; 2560], threads: u8) -> Outcome {
-    let n = threads as usize;
     let mut text = [0u8; 65536];
-    let a = print_thread(index, sheet, names, 0, n, &mut text);
-    let b = options::joined(a, print_thread(index, sheet, names, 1, n, &mut text));
-    let c = options::joined(b, print_thread(index, sheet, names, 2, n, &mut text));
-    let d = options::joined(c, print_thread(index, sheet, names, 3, n, &mut text));
-    let e = options::joined(d, print_thread(index, sheet, names, 4, n, &mut text));
-    let f = options::joined(e, print_thread(index, sheet, names, 5, n, &mut text));
-    let g = options::joined(f, print_thread(index, sheet, names, 6, n, &mut text));
-    options::joined(g, print_thread(index, sheet, names, 7, n, &mut text))
+    let n = threads as usize;
+    let a = print_first(index, sheet, names, n, &mut text);
+    let b = print_last(index, sheet, names, n, &mut text);
+    options::joined(a, b)
 }
 
 // `verilog`: the module as Verilog text, with the names of its variables.
