@@ -6,8 +6,7 @@ use Prim.Native.Nat.{ℕ, suc, _+_, _≤_, _<_}
 use native.Mathlib.Omega.{arith}
 use borrow.Author.Tests.{eqb-true}
 use lib.ListN.{length, getD}
-use Rattle.sheet.specs.Expression.{Expr}
-use Rattle.sheet.specs.Statement.{Scope}
+use Rattle.sheet.specs.Expression.{Expr, Scope}
 use Rattle.sheet.specs.Module.{Module}
 use Rattle.pseudocode.specs.Translation.{Instr, go}
 use Rattle.soundness.specs.Soundness.{Sound, SoundInstr, sound-wait, sound-set, sound-later, sound-go, sound-ifnot}

@@ -9,7 +9,7 @@ use Rattle.sheet.specs.Reading.{ok}
 use Rattle.sheet.specs.Expression.{Expr, exprAt, located}
 use Rattle.sheet.specs.Statement.{mapStmt}
 use Rattle.sheet.specs.Module.{Module, mapModule, Sheet, readSheet, read}
-use Rattle.sheet.specs.Answers.{layoutOf}
+use Rattle.sheet.specs.Answers.{definitionsOf, layoutOf}
 use Rattle.sheet.specs.declared.Layout.{Layout}
 use Rattle.sheet.proofs.Trees.{trees}
 use Rattle.pseudocode.specs.Compiling.{Compiled, compileAt}
@@ -24,8 +24,8 @@ use Rattle.rules.proofs.Writing.{plain-law, later-law}
 use Rattle.cycles.specs.Written.{Written}
 
 module _ (s : List ℕ) (y : Layout) (code lengths plain later written : List ℕ)
-    (same-code : code ≡ compileAt s (y .threads) (y .body) (replicate 4096 0) .code)
-    (same-lengths : lengths ≡ compileAt s (y .threads) (y .body) (replicate 4096 0) .sizes)
+    (same-code : code ≡ compileAt s (y .definitions) (y .threads) (y .body) (replicate 4096 0) .code)
+    (same-lengths : lengths ≡ compileAt s (y .definitions) (y .threads) (y .body) (replicate 4096 0) .sizes)
     (same-plain : plain ≡ plainBelow s code lengths (y .inputs) (atMost 8 (y .threads)) (replicate 8 0))
     (same-later : later ≡ laterBelow s code lengths (y .inputs) (atMost 8 (y .threads)) (replicate 8 0))
     (joined : (i r : ℕ) → i < 8 → getD (bits (getD written i 0)) r false
@@ -34,7 +34,7 @@ module _ (s : List ℕ) (y : Layout) (code lengths plain later written : List �
     (o : y ≡ layoutOf x)
   where
     abbrev c : Compiled
-    c = compileAt s (length (x .contents .threads)) (x .body) (replicate 4096 0)
+    c = compileAt s (definitionsOf (x .definitions)) (length (x .contents .threads)) (x .body) (replicate 4096 0)
 
     abbrev N : ℕ
     N = length (m .threads)
@@ -46,7 +46,7 @@ module _ (s : List ℕ) (y : Layout) (code lengths plain later written : List �
     same-threads : length (x .contents .threads) ≡ N
     unfolding trees mapModule
     same-threads =
-        sym (length-map (x .contents .threads) (mapStmt (exprAt s (x .contents .scope .widths))))
+        sym (length-map (x .contents .threads) (mapStmt (exprAt s (x .contents .scope))))
         ∙ ap (λ (n : Module Expr). length (n .threads)) (module-same s x m h e)
 
     eight : atMost 8 (length (x .contents .threads)) ≡ N

@@ -54,7 +54,13 @@ fn written_of(sheet: &[u8], layout: Layout) -> [u32; 8]
     ensures { λ r. ⌜ WrittenBy (now (sheet .entry)) layout r ⌝ }
 {
     let mut code = [0u16; 4096];
-    let lengths = pseudocode::compile(sheet, layout.threads, layout.body, &mut code);
+    let lengths = pseudocode::compile(
+        sheet,
+        &layout.definitions,
+        layout.threads,
+        layout.body,
+        &mut code,
+    );
     let mut plain = [0u32; 8];
     let mut later = [0u32; 8];
     rules::writers(

@@ -5,12 +5,14 @@ use Prim.Native.Nat.{ℕ}
 use mathlib.Core.List.{List}
 use Rattle.sheet.specs.Reading.{ok}
 use Rattle.sheet.specs.Expression.{Expr, tree}
-use Rattle.sheet.specs.Module.{Module, readSheet, read}
+use Rattle.sheet.specs.Module.{Module, readSheet, readWhole, read}
 use Rattle.sheet.proofs.Reading.{ok-injective, bind-ok}
 use Rattle.encoding.specs.Encoding.{Bytes, encode}
 use Rattle.encoding.specs.WellFormed.{WellFormed}
-use Rattle.encoding.proofs.Module.{sheet-ok, sheet-at}
-use Rattle.encoding.proofs.Bytes.{all-bytes, sheet-bytes}
+use Rattle.encoding.specs.Whole.{encodeWhole, WholeFormed}
+use Rattle.encoding.proofs.Whole.{whole-encode, encode-whole}
+use Rattle.encoding.proofs.Plain.{sheet-ok, sheet-at}
+use Rattle.encoding.proofs.Bytes.{all-bytes, whole-bytes, sheet-bytes}
 
 -- ---- THE THEOREM (its proof is `reads-exactly`, below): reading the bytes s gives the module m exactly when m is well
 -- formed and its encoding is s. So the reader skips no byte, doubles none and takes none for another.
@@ -30,7 +32,7 @@ read-encode s bs h =
 
 pub encode-read : {m : Module Expr} → WellFormed m → read (encode m) ≡ ok m
 unfolding read
-encode-read {m} f = rw (sheet-at (encode m) m f refl .1) refl
+encode-read {m} f = rw (sheet-at m f .2) refl
 
 -- ---- both
 
@@ -54,3 +56,10 @@ encode-bytes {m} f = all-bytes (sheet-bytes m f)
 -- A module is well formed exactly when some sheet holds it.
 pub well-formed-exactly : (m : Module Expr) → WellFormed m ↔ ((s : List ℕ) × Bytes s × (read s ≡ ok m))
 well-formed-exactly m = (λ f. (encode m, encode-bytes f, encode-read f), λ r. read-encode (r .0) (r .1) (r .2) .0)
+
+-- The same of sheets with functions.
+pub whole-encode-bytes : {m : Module Expr} → WholeFormed m → Bytes (encodeWhole m)
+whole-encode-bytes {m} f = all-bytes (whole-bytes m f)
+
+pub whole-formed-exactly : (m : Module Expr) → WholeFormed m ↔ ((s : List ℕ) × Bytes s × (readWhole s ≡ ok m))
+whole-formed-exactly m = (λ f. (encodeWhole m, whole-encode-bytes f, encode-whole f), λ r. whole-encode (r .0) (r .1) (r .2) .0)

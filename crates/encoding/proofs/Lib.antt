@@ -1,7 +1,11 @@
 pub mod Spelling
 pub mod Expression
 pub mod Statements
+pub mod Head
 pub mod Module
+pub mod Functions
+pub mod Whole
+pub mod Plain
 pub mod Bytes
 pub mod Encoding
 pub mod Samples

@@ -12,8 +12,8 @@ use Rattle.values.specs.declared.Edge.{Edge}
 use Rattle.values.specs.declared.Edge.the-variants.{Change, Posedge, Negedge}
 use Rattle.values.proofs.Edges.{edgeOf-edgeNumber, edgeNumber-edgeOf}
 use Rattle.sheet.specs.declared.EdgeTerm.{EdgeTerm}
-use Rattle.sheet.specs.Expression.{Expr, tree}
-use Rattle.sheet.specs.Statement.{Stmt, empty, assign, later, sequence, ifThen, ifElse, while, forever, wait, Scope, isRegister, Body, narrow, narrowAll}
+use Rattle.sheet.specs.Expression.{Expr, Scope, tree}
+use Rattle.sheet.specs.Statement.{Stmt, empty, assign, later, sequence, ifThen, ifElse, while, forever, wait, isRegister, Body, narrow, narrowAll}
 use Rattle.sheet.proofs.Statements.{ReadsTerms, no-terms, a-term, terms-length, ReadsStmt, an-empty, an-assign, a-later, a-sequence, an-if, an-if-else, a-while, a-forever, a-wait}
 use Rattle.encoding.specs.Encoding.{Bytes, encodeExpr, encodeTerms, encodeStmt}
 use Rattle.encoding.specs.WellFormed.{IsTarget, IsAssignment, EdgeFits, PairsFit, WellBuilt}
@@ -99,12 +99,12 @@ spells-terms ws (t ∷ ts) h r =
 pub reads-built : {c : Scope} {s : List ℕ} {d p : ℕ} {b : Body Expr} → ReadsStmt (tree s) c s d p b → WellBuilt c d (b .stmt)
 unfolding WellBuilt IsAssignment
 reads-built (an-empty l m) = tt
-reads-built {c} {s} {p = p} (an-assign {t = t} l m x r e w) = (register-target c t r, rw w at (tree-typed (c .widths) s (p + 2) e))
-reads-built {c} {s} {p = p} (a-later {t = t} l m x r e w) = (register-target c t r, rw w at (tree-typed (c .widths) s (p + 2) e))
+reads-built {c} {s} {p = p} (an-assign {t = t} l m x r e w) = (register-target c t r, rw w at (tree-typed c s (p + 2) e))
+reads-built {c} {s} {p = p} (a-later {t = t} l m x r e w) = (register-target c t r, rw w at (tree-typed c s (p + 2) e))
 reads-built (a-sequence l m a b) = (reads-built a, reads-built b)
-reads-built {c} {s} {p = p} (an-if l m e a) = ((_, tree-typed (c .widths) s (p + 1) e), reads-built a)
-reads-built {c} {s} {p = p} (an-if-else l m e a b) = ((_, tree-typed (c .widths) s (p + 1) e), reads-built a, reads-built b)
-reads-built {c} {s} {p = p} (a-while l m e a) = ((_, tree-typed (c .widths) s (p + 1) e), reads-built a)
+reads-built {c} {s} {p = p} (an-if l m e a) = ((_, tree-typed c s (p + 1) e), reads-built a)
+reads-built {c} {s} {p = p} (an-if-else l m e a b) = ((_, tree-typed c s (p + 1) e), reads-built a, reads-built b)
+reads-built {c} {s} {p = p} (a-while l m e a) = ((_, tree-typed c s (p + 1) e), reads-built a)
 reads-built (a-forever l m a) = reads-built a
 reads-built (a-wait m n ts w) =
     let e = terms-length ts in
@@ -115,15 +115,15 @@ reads-built (a-wait m n ts w) =
 pub stmt-spells : {c : Scope} {s : List ℕ} {d p : ℕ} {b : Body Expr} → Bytes s → ReadsStmt (tree s) c s d p b → Spells s p (encodeStmt (b .stmt)) (b .next)
 unfolding encodeStmt
 stmt-spells bs (an-empty l m) = spells-cons l m (spells-nil (omega arith))
-stmt-spells {c} {s} {p = p} bs (an-assign l m x r e w) = spells-two l m x (tree-spells (c .widths) s (p + 2) bs e)
-stmt-spells {c} {s} {p = p} bs (a-later l m x r e w) = spells-two l m x (tree-spells (c .widths) s (p + 2) bs e)
+stmt-spells {c} {s} {p = p} bs (an-assign l m x r e w) = spells-two l m x (tree-spells c s (p + 2) bs e)
+stmt-spells {c} {s} {p = p} bs (a-later l m x r e w) = spells-two l m x (tree-spells c s (p + 2) bs e)
 stmt-spells bs (a-sequence l m a b) = spells-cons l m (spells-append (stmt-spells bs a) (stmt-spells bs b))
 stmt-spells {c} {s} {p = p} bs (an-if l m e a) =
-    spells-cons l m (spells-append (tree-spells (c .widths) s (p + 1) bs e) (stmt-spells bs a))
+    spells-cons l m (spells-append (tree-spells c s (p + 1) bs e) (stmt-spells bs a))
 stmt-spells {c} {s} {p = p} bs (an-if-else l m e a b) =
-    spells-cons l m (spells-append (spells-append (tree-spells (c .widths) s (p + 1) bs e) (stmt-spells bs a)) (stmt-spells bs b))
+    spells-cons l m (spells-append (spells-append (tree-spells c s (p + 1) bs e) (stmt-spells bs a)) (stmt-spells bs b))
 stmt-spells {c} {s} {p = p} bs (a-while l m e a) =
-    spells-cons l m (spells-append (tree-spells (c .widths) s (p + 1) bs e) (stmt-spells bs a))
+    spells-cons l m (spells-append (tree-spells c s (p + 1) bs e) (stmt-spells bs a))
 stmt-spells bs (a-forever l m a) = spells-cons l m (stmt-spells bs a)
 stmt-spells bs (a-wait m n ts w) =
     spells-two (n .below) m (n .same ∙ sym (terms-length ts)) (terms-spells (omega arith) ts)
@@ -139,10 +139,10 @@ spells-stmt {d = suc d} empty t r =
     rw (r .ends) (an-empty (h .0) (h .1))
 spells-stmt {c} {d = suc d} (assign v e) t r =
     let h = spells-heads r in
-    an-assign (h .0) (h .1) (h .2) (target-register c v (t .0)) (spells-tree (c .widths) e (t .1) (h .3)) refl
+    an-assign (h .0) (h .1) (h .2) (target-register c v (t .0)) (spells-tree c e (t .1) (h .3)) refl
 spells-stmt {c} {d = suc d} (later v e) t r =
     let h = spells-heads r in
-    a-later (h .0) (h .1) (h .2) (target-register c v (t .0)) (spells-tree (c .widths) e (t .1) (h .3)) refl
+    a-later (h .0) (h .1) (h .2) (target-register c v (t .0)) (spells-tree c e (t .1) (h .3)) refl
 spells-stmt {d = suc d} (sequence a b) t r =
     let h = spells-head r in
     let x = spells-split (encodeStmt a) (encodeStmt b) (h .2) in
@@ -150,16 +150,16 @@ spells-stmt {d = suc d} (sequence a b) t r =
 spells-stmt {c} {d = suc d} (ifThen e a) t r =
     let h = spells-head r in
     let x = spells-split (encodeExpr e) (encodeStmt a) (h .2) in
-    an-if (h .0) (h .1) (spells-tree (c .widths) e (t .0 .1) (x .0)) (spells-stmt a (t .1) (x .1))
+    an-if (h .0) (h .1) (spells-tree c e (t .0 .1) (x .0)) (spells-stmt a (t .1) (x .1))
 spells-stmt {c} {d = suc d} (ifElse e a b) t r =
     let h = spells-head r in
     let y = spells-split (encodeExpr e ++ encodeStmt a) (encodeStmt b) (h .2) in
     let x = spells-split (encodeExpr e) (encodeStmt a) (y .0) in
-    an-if-else (h .0) (h .1) (spells-tree (c .widths) e (t .0 .1) (x .0)) (spells-stmt a (t .1) (x .1)) (spells-stmt b (t .2) (y .1))
+    an-if-else (h .0) (h .1) (spells-tree c e (t .0 .1) (x .0)) (spells-stmt a (t .1) (x .1)) (spells-stmt b (t .2) (y .1))
 spells-stmt {c} {d = suc d} (while e a) t r =
     let h = spells-head r in
     let x = spells-split (encodeExpr e) (encodeStmt a) (h .2) in
-    a-while (h .0) (h .1) (spells-tree (c .widths) e (t .0 .1) (x .0)) (spells-stmt a (t .1) (x .1))
+    a-while (h .0) (h .1) (spells-tree c e (t .0 .1) (x .0)) (spells-stmt a (t .1) (x .1))
 spells-stmt {d = suc d} (forever a) t r =
     let h = spells-head r in
     a-forever (h .0) (h .1) (spells-stmt a t (h .2))

@@ -7,8 +7,8 @@ use Rattle.values.specs.Operators.{unaryWidth, binaryWidth}
 use Rattle.values.specs.declared.Edge.{Edge}
 use Rattle.values.specs.declared.Edge.the-variants.{Change, Posedge, Negedge}
 use Rattle.sheet.specs.declared.EdgeTerm.{EdgeTerm}
-use Rattle.sheet.specs.Expression.{Expr, variable, constant, unknown, unary, binary, conditional, call}
-use Rattle.sheet.specs.Statement.{Stmt, empty, assign, later, sequence, ifThen, ifElse, while, forever, wait, size, Scope}
+use Rattle.sheet.specs.Expression.{Expr, variable, constant, unknown, unary, binary, conditional, call, Arguments, no-more, argument, noFunction, Scope}
+use Rattle.sheet.specs.Statement.{Stmt, empty, assign, later, sequence, ifThen, ifElse, while, forever, wait, size}
 use Rattle.sheet.specs.Module.{Module}
 use Rattle.encoding.specs.Encoding.{encode}
 
@@ -18,30 +18,40 @@ Between low high n = (low ≤ n) × (n ≤ high)
 
 -- ---- expressions
 
--- e is an expression of width w and of depth at most d, over variables of widths ws.
-unfoldable pub WellTyped : List ℕ → ℕ → Expr → ℕ → Type 0
-WellTyped ws zero e w = ⊥
+-- ys are expressions of these widths, one for each; `Typed` says what an expression of a width is.
+unfoldable pub AllTyped : (Expr → ℕ → Type 0) → List ℕ → Arguments → Type 0
+AllTyped Typed [] no-more = Unit {0}
+AllTyped Typed [] (argument e ys) = ⊥
+AllTyped Typed (w ∷ ws) no-more = ⊥
+AllTyped Typed (w ∷ ws) (argument e ys) = Typed e w × AllTyped Typed ws ys
+
+-- e is an expression of width w and of depth at most d, over what the scope c names.
+unfoldable pub WellTyped : Scope → ℕ → Expr → ℕ → Type 0
+WellTyped c zero e w = ⊥
 -- It names one of the variables, and has its width.
-WellTyped ws (suc d) (variable v) w = (v < length ws) × (w ≡ getD ws v 0)
+WellTyped c (suc d) (variable v) w = (v < length (c .widths)) × (w ≡ getD (c .widths) v 0)
 -- "A value is a number below 2^width"; widths are 1 to 32.
-WellTyped ws (suc d) (constant k v) w = Between 1 32 k × (v < 2 ^ k) × (w ≡ k)
-WellTyped ws (suc d) (unknown k) w = Between 1 32 k × (w ≡ k)
+WellTyped c (suc d) (constant k v) w = Between 1 32 k × (v < 2 ^ k) × (w ≡ k)
+WellTyped c (suc d) (unknown k) w = Between 1 32 k × (w ≡ k)
 -- "11h with operators 1 ~, 2 !"; the node holds its operand's width; 2 gives width 1.
-WellTyped ws (suc d) (unary o k a) w = Between 1 2 o × WellTyped ws d a k × (w ≡ unaryWidth o k)
+WellTyped c (suc d) (unary o k a) w = Between 1 2 o × WellTyped c d a k × (w ≡ unaryWidth o k)
 -- "31h with 3 &, 4 |, 5 ^, 6 +, 7 -, 8 ==, 9 < (unsigned)": "Operands of 3 to 9 have equal widths"; 8 and 9 give width 1.
-WellTyped ws (suc d) (binary o k a b) w = Between 3 9 o × WellTyped ws d a k × WellTyped ws d b k × (w ≡ binaryWidth o k)
+WellTyped c (suc d) (binary o k a b) w = Between 3 9 o × WellTyped c d a k × WellTyped c d b k × (w ≡ binaryWidth o k)
 -- "71h with 10 ?:": equal widths "have the last two of 10"; the condition has any.
-WellTyped ws (suc d) (conditional c a b) w = ((k : ℕ) × WellTyped ws d c k) × WellTyped ws d a w × WellTyped ws d b w
--- A sheet without functions has no map for a call.
-WellTyped ws (suc d) (call n k ys b) w = ⊥
+WellTyped c (suc d) (conditional q a b) w = ((k : ℕ) × WellTyped c d q k) × WellTyped c d a w × WellTyped c d b w
+-- Document 02, [5]: the number is that of a function that may be called here, the node holds its result's width and its body,
+-- and each argument has its parameter's width.
+WellTyped c (suc d) (call n k ys b) w =
+    (n < c .declared) × (n < length (c .functions)) × (k ≡ getD (c .functions) n noFunction .result)
+    × (b ≡ getD (c .functions) n noFunction .body) × AllTyped (WellTyped c d) (getD (c .functions) n noFunction .parameters) ys × (w ≡ k)
 
 -- "Depth at most 16."
-abbrev pub HasWidth : List ℕ → Expr → ℕ → Type 0
-HasWidth ws e w = WellTyped ws 16 e w
+abbrev pub HasWidth : Scope → Expr → ℕ → Type 0
+HasWidth c e w = WellTyped c 16 e w
 
 -- A condition has any width.
-abbrev pub IsCondition : List ℕ → Expr → Type 0
-IsCondition ws e = (w : ℕ) × HasWidth ws e w
+abbrev pub IsCondition : Scope → Expr → Type 0
+IsCondition c e = (w : ℕ) × HasWidth c e w
 
 -- ---- statements
 
@@ -51,7 +61,7 @@ IsTarget c v = (c .inputs ≤ v) × (v < c .inputs + c .registers)
 
 -- "A target [..] has its expression's width."
 unfoldable pub IsAssignment : Scope → ℕ → Expr → Type 0
-IsAssignment c t e = IsTarget c t × HasWidth (c .widths) e (getD (c .widths) t 0)
+IsAssignment c t e = IsTarget c t × HasWidth c e (getD (c .widths) t 0)
 
 -- "Edges 1 and 2 need a one-bit variable."
 unfoldable pub EdgeFits : Edge → ℕ → Type 0
@@ -71,9 +81,9 @@ WellBuilt c (suc d) empty = Unit {0}
 WellBuilt c (suc d) (assign t e) = IsAssignment c t e
 WellBuilt c (suc d) (later t e) = IsAssignment c t e
 WellBuilt c (suc d) (sequence a b) = WellBuilt c d a × WellBuilt c d b
-WellBuilt c (suc d) (ifThen e a) = IsCondition (c .widths) e × WellBuilt c d a
-WellBuilt c (suc d) (ifElse e a b) = IsCondition (c .widths) e × WellBuilt c d a × WellBuilt c d b
-WellBuilt c (suc d) (while e a) = IsCondition (c .widths) e × WellBuilt c d a
+WellBuilt c (suc d) (ifThen e a) = IsCondition c e × WellBuilt c d a
+WellBuilt c (suc d) (ifElse e a b) = IsCondition c e × WellBuilt c d a × WellBuilt c d b
+WellBuilt c (suc d) (while e a) = IsCondition c e × WellBuilt c d a
 WellBuilt c (suc d) (forever a) = WellBuilt c d a
 -- "a wait, being a count (1 to 8) and so many pairs of edge [..] and variable"
 WellBuilt c (suc d) (wait ts) = Between 1 8 (length ts) × PairsFit (c .widths) ts
@@ -86,9 +96,9 @@ AreWidths [] = Unit {0}
 AreWidths (w ∷ ws) = Between 1 32 w × AreWidths ws
 
 -- "A [..] wire has its expression's width." The first of these wires is variable v.
-unfoldable pub WiresFit : List ℕ → ℕ → List Expr → Type 0
-WiresFit ws v [] = Unit {0}
-WiresFit ws v (e ∷ es) = HasWidth ws e (getD ws v 0) × WiresFit ws (v + 1) es
+unfoldable pub WiresFit : Scope → ℕ → List Expr → Type 0
+WiresFit c v [] = Unit {0}
+WiresFit c v (e ∷ es) = HasWidth c e (getD (c .widths) v 0) × WiresFit c (v + 1) es
 
 -- "Depth at most 64; the outermost is 1." "A thread is a forever of its statement, at most 256 instructions."
 unfoldable pub ThreadsFit : Scope → List (Stmt Expr) → Type 0
@@ -101,13 +111,15 @@ pub record WellFormed (m : Module Expr) : Type 0 where
   pub registers : Between 1 32 (m .scope .registers)
   pub wires : length (m .wires) ≤ 32
   pub threads : Between 1 8 (length (m .threads))
+  -- No function is declared, and none may be called.
+  pub plain : (m .scope .declared ≡ 0) × (m .scope .functions ≡ [])
   -- "Then one width byte for each variable (1 to 32): inputs, registers, wires"
   pub variables : length (m .scope .widths) ≡ m .scope .inputs + m .scope .registers + length (m .wires)
   pub widths : AreWidths (m .scope .widths)
   -- "Input 0 is the clock, width 1."
   pub clock : getD (m .scope .widths) 0 0 ≡ 1
   -- "Then an expression for each wire, a statement for each thread"; the wires follow the registers.
-  pub wired : WiresFit (m .scope .widths) (m .scope .inputs + m .scope .registers) (m .wires)
+  pub wired : WiresFit (m .scope) (m .scope .inputs + m .scope .registers) (m .wires)
   pub threaded : ThreadsFit (m .scope) (m .threads)
   -- "At most 8,192 bytes."
   pub short : length (encode m) ≤ 8192

@@ -1,23 +1,24 @@
 -- What the code works out on bytes is `eval` of the tree wherever the sheet's reader accepted; `eval` stays within
 -- the widths, and depends on no variable that doesn't stand in the expression. Assumes nothing.
 use mathlib.Core.Path.{_≡_, refl, ap, _∙_}
-use mathlib.Core.Bool.{Bool, true, false, _||_}
+use mathlib.Core.Bool.{Bool, true, false, _||_, _&&_}
 use mathlib.Core.List.{List, [], _∷_, _++_}
-use Prim.Native.Nat.{ℕ, zero, suc, _+_, _<_}
+use Prim.Native.Nat.{ℕ, zero, suc, _+_, _≤_, _<_}
 use native.Mathlib.Omega.{arith}
 use native.Mathlib.Decide.{decLt}
 use lib.ListN.{length, getD, length-append, List·getD-append}
 use lib.Seq.{getD-at}
-use borrow.Author.Tests.{eq-eqb}
+use lib.Dec.{eqb}
+use borrow.Author.Tests.{eq-eqb, eqb-true}
 use Rattle.values.specs.declared.Value.{Value}
 use Rattle.values.specs.Values.{fits, holds, allUnknown, nowhere}
 use Rattle.values.specs.Operators as operators
 use Rattle.values.proofs.Values.{fits-known, fits-unknown, pick-fits}
 use Rattle.values.proofs.Operators.{unary-fits, binary-fits, choice-fits}
 use Rattle.sheet.specs.Reading.{ok}
-use Rattle.sheet.specs.Expression.{Expr, variable, constant, unknown, unary, binary, conditional, call, Arguments, no-more, argument, Parsed, readExpr}
+use Rattle.sheet.specs.Expression.{Expr, variable, constant, unknown, unary, binary, conditional, call, Arguments, no-more, argument, Function, noFunction, Scope, Parsed, Passed, sameWidths, readExpr}
 use Rattle.sheet.specs.Expression.{Body, nothing, result, inTurn, ifThen, ifElse}
-use Rattle.sheet.proofs.Expression.{Reads, a-variable, a-constant, an-unknown, a-unary, a-binary, a-conditional, derive}
+use Rattle.sheet.proofs.Expression.{Reads, a-variable, a-constant, an-unknown, a-unary, a-binary, a-conditional, a-call, ReadsAll, no-arguments, an-argument, derive}
 use Rattle.evaluation.specs.declared.Evaluated.{Evaluated}
 use Rattle.evaluation.specs.Evaluation.{frame, eval, evalAll, run, reads, readsAll}
 use Rattle.evaluation.specs.Widths.{Typed, AllTyped, BodyTyped}
@@ -29,28 +30,72 @@ use Rattle.evaluation.specs.Bytes.{variableNode, unaryNode, binaryNode, 
 abbrev pub worth : (ℕ → Value) → Parsed Expr → Evaluated
 worth env q = record { value = eval env (q .item); width = q .width; next = q .next }
 
-pub evalAt-eval : {ws s : List ℕ} {d p : ℕ} {q : Parsed Expr} (env : ℕ → Value) → Reads ws s d p q → evalAt d s ws env p ≡ worth env q
+-- By the depth, in a sheet without functions.
+plain-eval : {c : Scope} {s : List ℕ} (d : ℕ) {p : ℕ} {q : Parsed Expr} (env : ℕ → Value) → c .declared ≡ 0 → Reads c s d p q →
+    evalAt d s (c .widths) env p ≡ worth env q
 unfolding evalAt nodeAt innerNode variableNode unaryNode binaryNode conditionalNode eval
-evalAt-eval env (a-variable m h e l) = rw (m, e) refl
-evalAt-eval env (a-constant m w h e l) = rw (m, w .same, e) refl
-evalAt-eval env (an-unknown m w) = rw (m, w .same) refl
-evalAt-eval env (a-unary m o a) = rw (m, o .same, evalAt-eval env a) refl
-evalAt-eval env (a-binary m o a b e) = rw (m, o .same, evalAt-eval env a, evalAt-eval env b) refl
-evalAt-eval env (a-conditional m o c a b e) = rw (m, evalAt-eval env c, evalAt-eval env a, evalAt-eval env b) refl
+plain-eval (suc d) env z (a-variable m h e l) = rw (m, e) refl
+plain-eval (suc d) env z (a-constant m w h e l) = rw (m, w .same, e) refl
+plain-eval (suc d) env z (an-unknown m w) = rw (m, w .same) refl
+plain-eval (suc d) env z (a-unary m o a) = rw (m, o .same, plain-eval d env z a) refl
+plain-eval (suc d) env z (a-binary m o a b e) = rw (m, o .same, plain-eval d env z a, plain-eval d env z b) refl
+plain-eval (suc d) env z (a-conditional m o q a b e) = rw (m, plain-eval d env z q, plain-eval d env z a, plain-eval d env z b) refl
+plain-eval (suc d) env z (a-call m h e l f es w) = absurd (omega (arith, z))
 
-pub evalAt-read : (d : ℕ) (ws s : List ℕ) (env : ℕ → Value) (p : ℕ) {q : Parsed Expr} → readExpr d ws s p ≡ ok q → evalAt d s ws env p ≡ worth env q
-evalAt-read d ws s env p h = evalAt-eval env (derive ws s d p h)
+pub evalAt-eval : {c : Scope} {s : List ℕ} {d p : ℕ} {q : Parsed Expr} (env : ℕ → Value) → c .declared ≡ 0 → Reads c s d p q →
+    evalAt d s (c .widths) env p ≡ worth env q
+evalAt-eval {d = d} env z r = plain-eval d env z r
+
+pub evalAt-read : (d : ℕ) (c : Scope) (s : List ℕ) (env : ℕ → Value) (p : ℕ) {q : Parsed Expr} → c .declared ≡ 0 →
+    readExpr d c s p ≡ ok q → evalAt d s (c .widths) env p ≡ worth env q
+evalAt-read d c s env p z h = evalAt-eval env z (derive c s d p h)
 
 -- ---- an expression that was read has its width
 
-pub read-typed : {ws s : List ℕ} {d p : ℕ} {q : Parsed Expr} → Reads ws s d p q → Typed ws (q .item) (q .width)
+-- Of a function: its result has a width, and its body assigns that width.
+pub record TypedFunction (f : Function) : Type 0 where
+  pub some : 1 ≤ f .result
+  pub most : f .result ≤ 32
+  pub assigns : BodyTyped (f .parameters ++ (f .result ∷ [])) (f .body) (f .result)
+
+abbrev pub TypedFunctions : List Function → Type 0
+TypedFunctions fs = (n : ℕ) → n < length fs → TypedFunction (getD fs n noFunction)
+
+same-first : (u v : ℕ) (us vs : List ℕ) → sameWidths (u ∷ us) (v ∷ vs) ≡ true → (u ≡ v) × (sameWidths us vs ≡ true)
+unfolding sameWidths
+same-first u v us vs h = by (eqb u v) refl h
+  where
+    by : (t : Bool) → eqb u v ≡ t → (t && sameWidths us vs) ≡ true → (u ≡ v) × (sameWidths us vs ≡ true)
+    by true e g = (eqb-true u v e, g)
+    by false e g = let z : _≡_ {A = ℕ} 0 1 = cc in absurd (omega arith)
+
+module _ {c : Scope} {s : List ℕ} {d : ℕ} (inner : (p : ℕ) (q : Parsed Expr) → Reads c s d p q → Typed (c .widths) (q .item) (q .width)) where
+  all-typed : {n p : ℕ} {es : Passed} (ps : List ℕ) → ReadsAll c s d n p es → sameWidths ps (es .widths) ≡ true →
+      AllTyped (c .widths) (es .items) ps
+  unfolding Typed sameWidths
+  all-typed [] no-arguments h = tt
+  all-typed (p ∷ ps) no-arguments h = let z : _≡_ {A = ℕ} 0 1 = cc in absurd (omega arith)
+  all-typed [] (an-argument x es) h = let z : _≡_ {A = ℕ} 0 1 = cc in absurd (omega arith)
+  all-typed (p ∷ ps) (an-argument {e = e} {es = r} x es) h =
+      let y = same-first p (e .width) ps (r .widths) h in
+      (rw (y .0) (inner _ e x), all-typed ps es (y .1))
+
+depth-typed : {c : Scope} {s : List ℕ} (d : ℕ) {p : ℕ} {q : Parsed Expr} → TypedFunctions (c .functions) → Reads c s d p q →
+    Typed (c .widths) (q .item) (q .width)
 unfolding Typed
-read-typed (a-variable m h e l) = (l, refl)
-read-typed (a-constant m w h e l) = (w .least, w .most, l, refl)
-read-typed (an-unknown m w) = (w .least, w .most, refl)
-read-typed (a-unary m o a) = (o .least, o .most, read-typed a, refl)
-read-typed (a-binary m o a b e) = (o .least, o .most, read-typed a, rw e (read-typed b), refl)
-read-typed (a-conditional m o c a b e) = ((_, read-typed c), read-typed a, rw e (read-typed b))
+depth-typed (suc d) t (a-variable m h e l) = (l, refl)
+depth-typed (suc d) t (a-constant m w h e l) = (w .least, w .most, l, refl)
+depth-typed (suc d) t (an-unknown m w) = (w .least, w .most, refl)
+depth-typed (suc d) t (a-unary m o a) = (o .least, o .most, depth-typed d t a, refl)
+depth-typed (suc d) t (a-binary m o a b e) = (o .least, o .most, depth-typed d t a, rw e (depth-typed d t b), refl)
+depth-typed (suc d) t (a-conditional m o q a b e) = ((_, depth-typed d t q), depth-typed d t a, rw e (depth-typed d t b))
+depth-typed {c} (suc d) t (a-call {n = n} m h e l f es w) =
+    let x = t n f in
+    (x .some, x .most, (getD (c .functions) n noFunction .parameters, all-typed (λ p q r. depth-typed d t r) _ es w, x .assigns), refl)
+
+pub read-typed : {c : Scope} {s : List ℕ} {d p : ℕ} {q : Parsed Expr} → TypedFunctions (c .functions) → Reads c s d p q →
+    Typed (c .widths) (q .item) (q .width)
+read-typed {d = d} t r = depth-typed d t r
 
 -- ---- values that fit widths, one by one
 

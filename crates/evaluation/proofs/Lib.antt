@@ -1,3 +1,4 @@
 pub mod Bytes
 pub mod Evaluation
+pub mod Functions
 pub mod Samples

@@ -12,7 +12,7 @@ use Rattle.values.specs.Values.{pick}
 use Rattle.sheet.specs.Reading.{Res, ok, no}
 use Rattle.sheet.specs.Expression.{Expr, tree}
 use Rattle.sheet.specs.Module.{Module, Sheet, readSheet, read}
-use Rattle.sheet.proofs.Numbers.{numbered-no, tree-numbered, sheet-numbered}
+use Rattle.sheet.proofs.Numbers.{Numbered, accepted, refused, later-call, no-body, tree-numbered, sheet-numbered}
 use Rattle.state.specs.declared.State.{State}
 use Rattle.state.specs.State.{Shaped, full, users, countOf, allowanceOf}
 use Rattle.soundness.proofs.Soundness.{sound}
@@ -23,6 +23,7 @@ use Rattle.events.specs.declared.Verdict.the-variants.{Refused}
 use Rattle.events.specs.declared.Rested.{Rested}
 use Rattle.events.specs.Calls.{stateFits, judged, chooseIn, choose, inputOf, inputsFit, instantIn, instant}
 use Rattle.events.specs.Calls.{runIn, runList, runBy, plainChoice, runPlain}
+use Rattle.events.specs.Refused.{RunRefused, the-sheet, a-later-function, a-barred-body, the-state, the-user}
 use Rattle.events.specs.Steps.{Step, Instant, Alike}
 use Rattle.events.specs.Runs.{Refuses, a-sheet, a-state, Accepts, RunRefuses, a-call, a-user, ListRun, PlainRun, refused-call, a-run, a-plain-run, Demand2}
 use Rattle.events.proofs.Runs.{over-runIn, chain-runIn, plainly-runBy, length-choicesBy, ended-plain, says}
@@ -39,20 +40,32 @@ pub record Taken (s : List ℕ) (st : State) (call : Module Expr → Chosen) (r 
 abbrev refusing : State → ℕ → Chosen
 refusing st n = record { number = n; state = st }
 
--- A refusal of the sheet has a number from 1 to 11.
-pub numbered : (s : List ℕ) (n p : ℕ) → read s ≡ no n p → (1 ≤ n) × (n ≤ 11)
+-- A refusal of the sheet has one of its numbers.
+number-of : {A : Type 0} {x : Res A} {n p : ℕ} → Numbered x → x ≡ no n p → RunRefused n
+number-of (accepted a) h = let z : _≡_ {A = ℕ} 0 1 = cc in absurd (omega arith)
+number-of {n = n} (refused k q l m) h = let e : k ≡ n = cc in rw (← e) (the-sheet l m)
+number-of {n = n} (later-call q) h = let e : 44 ≡ n = cc in rw (← e) a-later-function
+number-of {n = n} (no-body q) h = let e : 45 ≡ n = cc in rw (← e) a-barred-body
+
+pub numbered : (s : List ℕ) (n p : ℕ) → read s ≡ no n p → RunRefused n
 unfolding read
 numbered s n p e = by (readSheet (tree s) s) refl
   where
-    by : (x : Res (Sheet Expr)) → readSheet (tree s) s ≡ x → (1 ≤ n) × (n ≤ 11)
+    by : (x : Res (Sheet Expr)) → readSheet (tree s) s ≡ x → RunRefused n
     by (ok x) h = let z : ok (x .contents) ≡ no n p = (rw h at e) in let o : _≡_ {A = ℕ} 0 1 = cc in absurd (omega arith)
     by (no k q) h =
         let z : _≡_ {A = Res (Module Expr)} (no k q) (no n p) = (rw h at e) in
         let g : k ≡ n = cc in
-        let l = numbered-no (sheet-numbered (tree s) (tree-numbered s) s) h in
-        (omega (arith, l .0), omega (arith, l .1))
+        rw (← g) (number-of (sheet-numbered (tree s) (tree-numbered s) s) h)
 
-judged-taken : (s : List ℕ) (st : State) (call : Module Expr → Chosen) → ((n p : ℕ) → read s ≡ no n p → (1 ≤ n) × (n ≤ 11)) →
+some-number : {n : ℕ} → RunRefused n → 1 ≤ n
+some-number (the-sheet l h) = l
+some-number a-later-function = omega arith
+some-number a-barred-body = omega arith
+some-number the-state = omega arith
+some-number the-user = omega arith
+
+judged-taken : (s : List ℕ) (st : State) (call : Module Expr → Chosen) → ((n p : ℕ) → read s ≡ no n p → RunRefused n) →
     judged (read s) st (refusing st) call .number ≡ 0 → Taken s st call (judged (read s) st (refusing st) call)
 unfolding judged
 judged-taken s st call numbered h = by (read s) refl h
@@ -65,7 +78,7 @@ judged-taken s st call numbered h = by (read s) refl h
     by : (x : Res (Module Expr)) → read s ≡ x → judged x st (refusing st) call .number ≡ 0 →
         Taken s st call (judged x st (refusing st) call)
     by (ok m) e z = fit m e (stateFits m st) refl z
-    by (no n p) e z = let l = numbered n p e .0 in absurd (omega arith)
+    by (no n p) e z = let l = some-number (numbered n p e) in absurd (omega arith)
 
 -- On a sheet that was read and a state that fits it, a call is the call on the module.
 pub judged-fits : (s : List ℕ) (m : Module Expr) (st : State) (call : Module Expr → Chosen) → Accepts s st m →

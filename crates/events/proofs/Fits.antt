@@ -17,8 +17,7 @@ use Rattle.values.specs.declared.Value.{Value}
 use Rattle.values.specs.Values.{ones, allUnknown, fits}
 use Rattle.values.specs.Planes.{valueAt}
 use Rattle.values.proofs.Values.{fits-unknown}
-use Rattle.sheet.specs.Expression.{Expr}
-use Rattle.sheet.specs.Statement.{Scope}
+use Rattle.sheet.specs.Expression.{Expr, Scope}
 use Rattle.sheet.specs.Module.{Module}
 use Rattle.evaluation.specs.Evaluation.{eval, reads}
 use Rattle.pseudocode.specs.Translation.{Instr, set!, later!, go, ifnot}

@@ -67,7 +67,7 @@ module _ (s : List ℕ) (st : State) where
 -- ---- the numbers of a refused call, and those of a choice
 
 refuses-number : (s : List ℕ) (st : State) {n : ℕ} → Refuses s st n → RunRefused n
-refuses-number s st (a-sheet {n = n} {p = p} e) = let l = numbered s n p e in the-sheet (l .0) (l .1)
+refuses-number s st (a-sheet {n = n} {p = p} e) = numbered s n p e
 refuses-number s st (a-state e f) = the-state
 
 run-number : (s : List ℕ) (st : State) (u : ℕ) {n : ℕ} → RunRefuses s st u n → RunRefused n

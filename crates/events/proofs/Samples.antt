@@ -28,7 +28,7 @@ use Rattle.events.specs.Calls.{dueBelow, started, widthOf, answer, spend
 abbrev pub module-of : ℕ → List ℕ → List Expr → List (Stmt Expr) → Module Expr
 module-of registers widths wires threads =
     record {
-      scope = record { inputs = 1; registers = registers; widths = 1 ∷ widths };
+      scope = record { inputs = 1; registers = registers; widths = 1 ∷ widths; declared = 0; functions = [] };
       wires = wires;
       threads = threads;
     }

@@ -10,9 +10,12 @@ use Rattle.events.specs.declared.Verdict.the-variants.{Refused}
 use Rattle.events.specs.Calls.{started, start, choose, runList, runPlain, instant}
 
 -- The numbers of a refused run. "Runs: 1 to 11, 31, then choice by choice"; "a run stopped at a choice isn't a refused call". A user above
--- 3 is 46, "for either run's one user, after 31".
+-- 3 is 46, "for either run's one user, after 31". Document 02, [5]: "a call to the same or a later function (44)", "a body with a wait, loop or
+-- later assignment (45)" are refusals of the sheet.
 pub data RunRefused : ℕ → Type 0 where
   the-sheet : {n : ℕ} → 1 ≤ n → n ≤ 11 → RunRefused n
+  a-later-function : RunRefused 44
+  a-barred-body : RunRefused 45
   the-state : RunRefused 31
   the-user : RunRefused 46
 

@@ -2,12 +2,11 @@
 -- said, or the thread has stopped. Where the sheet was read, it is the thread's (proofs/Walking.antt, proofs/Reading.antt).
 use Prim.Native.Nat.{ℕ, zero, suc, _+_, _*_}
 use mathlib.Core.Bool.{Bool, true, false, not, _&&_, _||_}
-use mathlib.Core.List.{List, []}
-use lib.ListN.{length, getD}
+use mathlib.Core.List.{List}
+use lib.ListN.{getD}
 use lib.Dec.{ltb, eqb}
-use Rattle.values.specs.Values.{pick, _is_then_else_}
-use Rattle.values.specs.Edges.{edgeOf}
-use Rattle.sheet.specs.Reading.{Res, ok, no, wordOf}
+use Rattle.values.specs.Values.{pick}
+use Rattle.sheet.specs.Reading.{Res, ok, no}
 use Rattle.sheet.specs.Statement.{Form, anEmpty, anAssign, aLater, aSequence, anIf, anIfElse, aWhile, aForever, aWait, formOf}
 use Rattle.pseudocode.specs.Skipping.{skipAt}
 use Rattle.pseudocode.specs.Filling.{after}
@@ -15,9 +14,8 @@ use Rattle.rules.specs.Walking.{walkAt}
 use Rattle.writing.specs.Ascii.{ascii}
 use Rattle.writing.specs.Numbers.{decimal}
 use Rattle.writing.specs.Buffer.{Text, filled, puts}
-use Rattle.signs.specs.Signs.{operands, constantText, unknownText}
-use Rattle.verilog.specs.Verilog.{_&_, indent, before, edgeText}
-use Rattle.verilog.specs.Printing.{Shown, shown, behind, operandsAt}
+use Rattle.verilog.specs.Verilog.{_&_, indent}
+use Rattle.verilog.specs.Printing.{shownAt, termsAt}
 use Rattle.explaining.specs.declared.Walked.{Walked}
 use Rattle.explaining.specs.Explaining.{headingText}
 
@@ -92,59 +90,13 @@ module _ (condition inner : ℕ → Stage → Stage) (level : ℕ) where
   unfoldable pub whileAt : Stage → Stage
   whileAt w = let a = ifAt w in pick (roundAt w a) (ifAt (anew w a)) a
 
--- ---- the parts of a sheet s, by names
+-- ---- waits of a sheet s, by names; w stands behind the map
 
 module _ (name : ℕ → List ℕ) (s : List ℕ) where
-  -- ---- expressions
-
-  -- The node whose map stands at p, with the byte after it: variable, constant, unknown constant, operator.
-  unfoldable pub nodeAt : (ℕ → Shown) → ℕ → ℕ → ℕ → Shown
-  nodeAt operand p m b =
-      m is 0x02 then shown (p + 2) (name b) else
-      m is 0x0C then shown (p + 6) (constantText b (wordOf s (p + 2))) else
-      m is 0x04 then shown (p + 2) (unknownText b) else
-      behind (ascii "(") (operandsAt operand b (operands b) (p + 2))
-
-  -- The expression at p, with so many levels left; nothing past the sheet's end.
-  unfoldable pub shownAt : ℕ → ℕ → Shown
-  shownAt zero p = shown p []
-  shownAt (suc d) p = pick (ltb p (length s)) (nodeAt (shownAt d) p (getD s p 0) (getD s (p + 1) 0)) (shown p [])
-
-  -- ---- waits
-
-  -- The pair of a wait at p, which is the wait's kth.
-  unfoldable pub termAt : ℕ → ℕ → List ℕ
-  termAt k p = before (ascii " or ") k & edgeText (edgeOf (getD s p 0)) & name (getD s (p + 1) 0)
-
-  -- n pairs of a wait, the first at p.
-  unfoldable pub termsAt : ℕ → ℕ → ℕ → List ℕ
-  termsAt zero k p = []
-  termsAt (suc n) k p = termAt k p & termsAt n (k + 1) (p + 2)
-
-  -- ---- lines
-
-  -- An assignment whose target stands at p.
-  unfoldable pub assignLine : List ℕ → ℕ → ℕ → List ℕ
-  assignLine sign level p = indent level & name (getD s p 0) & sign & shownAt 16 (p + 1) .text & ascii ";\n"
-
-  -- A condition at p.
-  unfoldable pub conditionLine : ℕ → ℕ → List ℕ
-  conditionLine level p = indent level & ascii "if (" & shownAt 16 p .text & ascii ") begin\n"
-
   -- Wait k, whose count stands at p.
   unfoldable pub waitLine : ℕ → ℕ → ℕ → List ℕ
   waitLine k level p =
-      indent level & ascii "@(" & termsAt (getD s p 0) 0 (p + 1) & ascii "); // wait " & decimal k & ascii "\n"
-
-  -- ---- statements; w stands behind the map
-
-  unfoldable pub assignAt : List ℕ → ℕ → Stage → Stage
-  assignAt sign level w =
-      stage (skipAt 16 s (w .next + 1)) (w .waits) (w .seen) (w .on) (said (w .on) (w .text) (assignLine sign level (w .next)))
-
-  unfoldable pub conditionAt : ℕ → Stage → Stage
-  conditionAt level w =
-      stage (skipAt 16 s (w .next)) (w .waits) (w .seen) (w .on) (said (w .on) (w .text) (conditionLine level (w .next)))
+      indent level & ascii "@(" & termsAt name s (getD s p 0) 0 (p + 1) & ascii "); // wait " & decimal k & ascii "\n"
 
   -- Wait k is looked for. At a wait the thread stops; from the one that is looked for it goes on.
   unfoldable pub waitAt : ℕ → ℕ → Stage → Stage
@@ -152,6 +104,29 @@ module _ (name : ℕ → List ℕ) (s : List ℕ) where
       let n = after (w .waits) in
       stage (w .next + 1 + 2 * getD s (w .next) 0) n (w .seen || eqb n k) (not (w .seen) && eqb n k)
       (said (w .on) (w .text) (waitLine n level (w .next)))
+
+-- ---- the parts of a sheet s whose functions' definitions stand at ds, by names
+
+module _ (name : ℕ → List ℕ) (s ds : List ℕ) where
+  -- ---- lines
+
+  -- An assignment whose target stands at p.
+  unfoldable pub assignLine : List ℕ → ℕ → ℕ → List ℕ
+  assignLine sign level p = indent level & name (getD s p 0) & sign & shownAt name s ds 16 (p + 1) .text & ascii ";\n"
+
+  -- A condition at p.
+  unfoldable pub conditionLine : ℕ → ℕ → List ℕ
+  conditionLine level p = indent level & ascii "if (" & shownAt name s ds 16 p .text & ascii ") begin\n"
+
+  -- ---- statements; w stands behind the map
+
+  unfoldable pub assignAt : List ℕ → ℕ → Stage → Stage
+  assignAt sign level w =
+      stage (skipAt 16 s ds (w .next + 1)) (w .waits) (w .seen) (w .on) (said (w .on) (w .text) (assignLine sign level (w .next)))
+
+  unfoldable pub conditionAt : ℕ → Stage → Stage
+  conditionAt level w =
+      stage (skipAt 16 s ds (w .next)) (w .waits) (w .seen) (w .on) (said (w .on) (w .text) (conditionLine level (w .next)))
 
   -- The statement of a form whose map stands at w's next byte. What is no map is no statement.
   unfoldable pub formAt : ℕ → (ℕ → Stage → Stage) → ℕ → Stage → Res Form → Stage
@@ -163,7 +138,7 @@ module _ (name : ℕ → List ℕ) (s : List ℕ) where
   formAt k inner level w (ok anIfElse) = ifElseAt conditionAt inner level (inside w)
   formAt k inner level w (ok aWhile) = whileAt conditionAt inner level (inside w)
   formAt k inner level w (ok aForever) = foreverAt inner level (inside w)
-  formAt k inner level w (ok aWait) = waitAt k level (inside w)
+  formAt k inner level w (ok aWait) = waitAt name s k level (inside w)
   formAt k inner level w (no n p) = w
 
   -- With so many levels left. Past 8,192 bytes there is no statement.
@@ -191,6 +166,6 @@ module _ (name : ℕ → List ℕ) (s : List ℕ) where
       pointsAt (w .waits) 1 p (w .text)
 
 -- The place of thread i's statement, the first thread's being at p.
-unfoldable pub bodyAt : List ℕ → ℕ → ℕ → ℕ
-bodyAt s zero p = p
-bodyAt s (suc i) p = bodyAt s i (walkAt 64 s p .next)
+unfoldable pub bodyAt : List ℕ → List ℕ → ℕ → ℕ → ℕ
+bodyAt s ds zero p = p
+bodyAt s ds (suc i) p = bodyAt s ds i (walkAt 64 s ds p .next)

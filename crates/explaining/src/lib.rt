@@ -4,24 +4,20 @@
 use naming::put_name;
 use pseudocode::skip_expr;
 use sheet::byte_at;
-use signs::put_lead;
-use verilog::Printed;
-use writing::put_byte;
+use verilog::print_expr;
+use verilog::put_indent;
+use verilog::put_terms;
 use writing::put_decimal;
-use writing::put_many;
 use writing::put_word;
 ghost use mathlib.Core.Path.{_≡_};
 ghost use mathlib.Core.Bool.{not, _&&_, _||_, true};
 ghost use Prim.Native.Nat.{_+_, _<_, _≤_};
-ghost use lib.ListN.{length};
-ghost use Rattle.values.specs.Edges.{edgeOf};
 ghost use Rattle.writing.specs.Buffer.{filled, puts};
 ghost use Rattle.naming.specs.Naming.{nameOf};
-ghost use Rattle.verilog.specs.Verilog.{_&_, indent, before, edgeText, answer};
-ghost use Rattle.verilog.specs.Printing.{told as printed, leaves, operandsAt};
+ghost use Rattle.verilog.specs.Verilog.{_&_, indent, answer};
 ghost use Rattle.explaining.specs.Explaining.{headingText, explained};
 ghost use Rattle.explaining.specs.Walking.{told, stage, said, deeper, sequenceAt, ifAt, ifElseAt, whileAt, foreverAt};
-ghost use Rattle.explaining.specs.Walking.{shownAt, termAt, termsAt, assignLine, conditionLine, waitLine};
+ghost use Rattle.explaining.specs.Walking.{assignLine, conditionLine, waitLine};
 ghost use Rattle.explaining.specs.Walking.{assignAt, conditionAt, waitAt, stmtAt, pointAt, pointsAt, threadAt, bodyAt};
 ghost use Rattle.pseudocode.specs.Filling.{after};
 
@@ -48,161 +44,12 @@ fn wide(b: u8) -> usize
     b as usize
 }
 
-// ---- expressions
-
-// `n` operands of an operator and the closing parenthesis.
-fn print_operands(
-    sheet: &[u8],
-    at: usize,
-    depth: u8,
-    n: u8,
-    op: u8,
-    names: &[u8; 2560],
-    text: &mut [u8; 65536],
-    pos: usize,
-) -> Printed
-    ensures { λ r. ⌜ printed r (now (text .exit)) ≡ leaves (filled (now (text .entry)) pos)
-        (operandsAt (shownAt (nameOf (now (names .entry))) (now (sheet .entry)) depth) op n at) ⌝ }
-{
-    if n == 0 {
-        let p = put_byte(b')', text, pos);
-        return Printed { next: at, pos: p };
-    }
-    let p = put_lead(op, n, text, pos);
-    let a = print_expr(sheet, at, depth, names, text, p);
-    let next = a.next;
-    let q = a.pos;
-    print_operands(sheet, next, depth, n - 1, op, names, text, q)
-}
-
-// The expression at a place of the sheet, with so many levels left.
-fn print_expr(
-    sheet: &[u8],
-    at: usize,
-    depth: u8,
-    names: &[u8; 2560],
-    text: &mut [u8; 65536],
-    pos: usize,
-) -> Printed
-    ensures { λ r. ⌜ printed r (now (text .exit)) ≡ leaves (filled (now (text .entry)) pos)
-        (shownAt (nameOf (now (names .entry))) (now (sheet .entry)) depth at) ⌝ }
-{
-    if depth == 0 {
-        return Printed { next: at, pos };
-    }
-    if sheet.len() <= at {
-        return Printed { next: at, pos };
-    }
-    let map = byte_at(sheet, at);
-    let b = byte_at(sheet, at + 1);
-    if map == 0x02 {
-        let p = put_name(names, wide(b), text, pos);
-        return Printed {
-            next: at + 2,
-            pos: p,
-        };
-    }
-    if map == 0x0C {
-        let value = sheet::word_at(sheet, at + 2);
-        let p = signs::put_constant(b, value, text, pos);
-        return Printed {
-            next: at + 6,
-            pos: p,
-        };
-    }
-    if map == 0x04 {
-        let p = signs::put_unknown(b, text, pos);
-        return Printed {
-            next: at + 2,
-            pos: p,
-        };
-    }
-    let p = put_byte(b'(', text, pos);
-    let n = signs::operands(b);
-    print_operands(sheet, at + 2, depth - 1, n, b, names, text, p)
-}
-
-// ---- waits
-
-// A separator in front of every item but the first.
-fn put_before(separator: &[u8], k: usize, text: &mut [u8; 65536], pos: usize) -> usize
-    ensures { λ r. ⌜ filled (now (text .exit)) r ≡
-        puts (filled (now (text .entry)) pos) (before (now (separator .entry)) k) ⌝ }
-{
-    if k == 0 {
-        return pos;
-    }
-    put_word(separator, text, pos)
-}
-
-// The word of an edge by its number in the sheet.
-fn put_edge(edge: u8, text: &mut [u8; 65536], pos: usize) -> usize
-    ensures { λ r. ⌜ filled (now (text .exit)) r ≡ puts (filled (now (text .entry)) pos) (edgeText (edgeOf edge)) ⌝ }
-{
-    match edge {
-        0 => pos,
-        1 => put_word(b"posedge ", text, pos),
-        _ => put_word(b"negedge ", text, pos),
-    }
-}
-
-// The pair of a wait at a place, which is its kth.
-fn put_term(
-    sheet: &[u8],
-    at: usize,
-    k: usize,
-    names: &[u8; 2560],
-    text: &mut [u8; 65536],
-    pos: usize,
-) -> usize
-    requires { ⌜ at < 10000 ⌝ }
-    ensures { λ r. ⌜ filled (now (text .exit)) r ≡
-        puts (filled (now (text .entry)) pos) (termAt (nameOf (now (names .entry))) (now (sheet .entry)) k at) ⌝ }
-{
-    let edge = byte_at(sheet, at);
-    let v = byte_at(sheet, at + 1);
-    let p = put_before(b" or ", k, text, pos);
-    let q = put_edge(edge, text, p);
-    put_name(names, wide(v), text, q)
-}
-
-// The pairs of a wait, the first at a place.
-fn put_terms(
-    sheet: &[u8],
-    at: usize,
-    n: u8,
-    names: &[u8; 2560],
-    text: &mut [u8; 65536],
-    pos: usize,
-) -> usize
-    requires { ⌜ at < 9000 ⌝ }
-    ensures { λ r. ⌜ filled (now (text .exit)) r ≡
-        puts (filled (now (text .entry)) pos) (termsAt (nameOf (now (names .entry))) (now (sheet .entry)) n 0 at) ⌝ }
-{
-    let count = wide(n);
-    let mut p = pos;
-    let mut k: usize = 0;
-    let mut q = at;
-    while k < count {
-        p = put_term(sheet, q, k, names, text, p);
-        k += 1;
-        q += 2;
-    }
-    p
-}
-
 // ---- lines
-
-// Two blanks a level.
-fn put_indent(level: u8, text: &mut [u8; 65536], pos: usize) -> usize
-    ensures { λ r. ⌜ filled (now (text .exit)) r ≡ puts (filled (now (text .entry)) pos) (indent level) ⌝ }
-{
-    put_many(b' ', 2 * wide(level), text, pos)
-}
 
 // An assignment whose target stands at `at`.
 fn put_assign(
     sheet: &[u8],
+    definitions: &[usize; 8],
     at: usize,
     sign: &[u8],
     level: u8,
@@ -212,19 +59,20 @@ fn put_assign(
 ) -> usize
     requires { ⌜ at < 9000 ⌝ }
     ensures { λ r. ⌜ filled (now (text .exit)) r ≡ puts (filled (now (text .entry)) pos)
-        (assignLine (nameOf (now (names .entry))) (now (sheet .entry)) (now (sign .entry)) level at) ⌝ }
+        (assignLine (nameOf (now (names .entry))) (now (sheet .entry)) (now (definitions .entry)) (now (sign .entry)) level at) ⌝ }
 {
     let target = byte_at(sheet, at);
     let p = put_indent(level, text, pos);
     let q = put_name(names, wide(target), text, p);
     let w = put_word(sign, text, q);
-    let e = print_expr(sheet, at + 1, 16, names, text, w);
+    let e = print_expr(sheet, definitions, at + 1, 16, names, text, w);
     put_word(b";\n", text, e.pos)
 }
 
 // A condition at `at` and the beginning of a block.
 fn put_condition(
     sheet: &[u8],
+    definitions: &[usize; 8],
     at: usize,
     level: u8,
     names: &[u8; 2560],
@@ -232,11 +80,11 @@ fn put_condition(
     pos: usize,
 ) -> usize
     ensures { λ r. ⌜ filled (now (text .exit)) r ≡ puts (filled (now (text .entry)) pos)
-        (conditionLine (nameOf (now (names .entry))) (now (sheet .entry)) level at) ⌝ }
+        (conditionLine (nameOf (now (names .entry))) (now (sheet .entry)) (now (definitions .entry)) level at) ⌝ }
 {
     let p = put_indent(level, text, pos);
     let w = put_word(b"if (", text, p);
-    let e = print_expr(sheet, at, 16, names, text, w);
+    let e = print_expr(sheet, definitions, at, 16, names, text, w);
     put_word(b") begin\n", text, e.pos)
 }
 
@@ -267,6 +115,7 @@ fn put_wait(
 
 fn say_assign(
     sheet: &[u8],
+    definitions: &[usize; 8],
     at: usize,
     sign: &[u8],
     level: u8,
@@ -276,16 +125,17 @@ fn say_assign(
 ) -> usize
     requires { ⌜ at < 9000 ⌝ }
     ensures { λ r. ⌜ filled (now (text .exit)) r ≡ said (w .on) (filled (now (text .entry)) (w .pos))
-        (assignLine (nameOf (now (names .entry))) (now (sheet .entry)) (now (sign .entry)) level at) ⌝ }
+        (assignLine (nameOf (now (names .entry))) (now (sheet .entry)) (now (definitions .entry)) (now (sign .entry)) level at) ⌝ }
 {
     if w.on {
-        return put_assign(sheet, at, sign, level, names, text, w.pos);
+        return put_assign(sheet, definitions, at, sign, level, names, text, w.pos);
     }
     w.pos
 }
 
 fn say_condition(
     sheet: &[u8],
+    definitions: &[usize; 8],
     at: usize,
     level: u8,
     names: &[u8; 2560],
@@ -293,10 +143,10 @@ fn say_condition(
     text: &mut [u8; 65536],
 ) -> usize
     ensures { λ r. ⌜ filled (now (text .exit)) r ≡ said (w .on) (filled (now (text .entry)) (w .pos))
-        (conditionLine (nameOf (now (names .entry))) (now (sheet .entry)) level at) ⌝ }
+        (conditionLine (nameOf (now (names .entry))) (now (sheet .entry)) (now (definitions .entry)) level at) ⌝ }
 {
     if w.on {
-        return put_condition(sheet, at, level, names, text, w.pos);
+        return put_condition(sheet, definitions, at, level, names, text, w.pos);
     }
     w.pos
 }
@@ -337,6 +187,7 @@ fn say_word(on: bool, word: &[u8], level: u8, text: &mut [u8; 65536], pos: usize
 // An assignment.
 fn walk_assign(
     sheet: &[u8],
+    definitions: &[usize; 8],
     sign: &[u8],
     level: u8,
     names: &[u8; 2560],
@@ -344,12 +195,12 @@ fn walk_assign(
     text: &mut [u8; 65536],
 ) -> Walked
     requires { ⌜ w .next < 9000 ⌝ }
-    ensures { λ r. ⌜ told r (now (text .exit)) ≡ assignAt (nameOf (now (names .entry))) (now (sheet .entry))
+    ensures { λ r. ⌜ told r (now (text .exit)) ≡ assignAt (nameOf (now (names .entry))) (now (sheet .entry)) (now (definitions .entry))
         (now (sign .entry)) level (told w (now (text .entry))) ⌝ }
 {
     let at = w.next;
-    let next = skip_expr(sheet, at + 1, 16);
-    let pos = say_assign(sheet, at, sign, level, names, w, text);
+    let next = skip_expr(sheet, definitions, at + 1, 16);
+    let pos = say_assign(sheet, definitions, at, sign, level, names, w, text);
     Walked {
         next,
         waits: w.waits,
@@ -362,17 +213,18 @@ fn walk_assign(
 // The condition of an if or a while.
 fn walk_condition(
     sheet: &[u8],
+    definitions: &[usize; 8],
     level: u8,
     names: &[u8; 2560],
     w: Walked,
     text: &mut [u8; 65536],
 ) -> Walked
-    ensures { λ r. ⌜ told r (now (text .exit)) ≡ conditionAt (nameOf (now (names .entry))) (now (sheet .entry)) level
+    ensures { λ r. ⌜ told r (now (text .exit)) ≡ conditionAt (nameOf (now (names .entry))) (now (sheet .entry)) (now (definitions .entry)) level
         (told w (now (text .entry))) ⌝ }
 {
     let at = w.next;
-    let next = skip_expr(sheet, at, 16);
-    let pos = say_condition(sheet, at, level, names, w, text);
+    let next = skip_expr(sheet, definitions, at, 16);
+    let pos = say_condition(sheet, definitions, at, level, names, w, text);
     Walked {
         next,
         waits: w.waits,
@@ -447,6 +299,7 @@ fn deeper(on: bool, level: u8) -> u8
 // Two statements, one after the other.
 fn walk_sequence(
     sheet: &[u8],
+    definitions: &[usize; 8],
     k: usize,
     depth: u8,
     level: u8,
@@ -456,15 +309,16 @@ fn walk_sequence(
 ) -> Walked
     requires { ⌜ level + depth < 128 ⌝ }
     ensures { λ r. ⌜ told r (now (text .exit)) ≡ sequenceAt
-        (stmtAt (nameOf (now (names .entry))) (now (sheet .entry)) k depth) level (told w (now (text .entry))) ⌝ }
+        (stmtAt (nameOf (now (names .entry))) (now (sheet .entry)) (now (definitions .entry)) k depth) level (told w (now (text .entry))) ⌝ }
 {
-    let a = walk(sheet, k, depth, level, names, w, text);
-    walk(sheet, k, depth, level, names, a, text)
+    let a = walk(sheet, definitions, k, depth, level, names, w, text);
+    walk(sheet, definitions, k, depth, level, names, a, text)
 }
 
 // An if.
 fn walk_if(
     sheet: &[u8],
+    definitions: &[usize; 8],
     k: usize,
     depth: u8,
     level: u8,
@@ -473,12 +327,12 @@ fn walk_if(
     text: &mut [u8; 65536],
 ) -> Walked
     requires { ⌜ level + depth < 128 ⌝ }
-    ensures { λ r. ⌜ told r (now (text .exit)) ≡ ifAt (conditionAt (nameOf (now (names .entry))) (now (sheet .entry)))
-        (stmtAt (nameOf (now (names .entry))) (now (sheet .entry)) k depth) level (told w (now (text .entry))) ⌝ }
+    ensures { λ r. ⌜ told r (now (text .exit)) ≡ ifAt (conditionAt (nameOf (now (names .entry))) (now (sheet .entry)) (now (definitions .entry)))
+        (stmtAt (nameOf (now (names .entry))) (now (sheet .entry)) (now (definitions .entry)) k depth) level (told w (now (text .entry))) ⌝ }
 {
-    let c = walk_condition(sheet, level, names, w, text);
+    let c = walk_condition(sheet, definitions, level, names, w, text);
     let inner = deeper(w.on, level);
-    let a = walk(sheet, k, depth, inner, names, c, text);
+    let a = walk(sheet, definitions, k, depth, inner, names, c, text);
     let pos = say_word(w.on, b"end\n", level, text, a.pos);
     Walked {
         next: a.next,
@@ -492,6 +346,7 @@ fn walk_if(
 // An if-else.
 fn walk_if_else(
     sheet: &[u8],
+    definitions: &[usize; 8],
     k: usize,
     depth: u8,
     level: u8,
@@ -500,12 +355,12 @@ fn walk_if_else(
     text: &mut [u8; 65536],
 ) -> Walked
     requires { ⌜ level + depth < 128 ⌝ }
-    ensures { λ r. ⌜ told r (now (text .exit)) ≡ ifElseAt (conditionAt (nameOf (now (names .entry))) (now (sheet .entry)))
-        (stmtAt (nameOf (now (names .entry))) (now (sheet .entry)) k depth) level (told w (now (text .entry))) ⌝ }
+    ensures { λ r. ⌜ told r (now (text .exit)) ≡ ifElseAt (conditionAt (nameOf (now (names .entry))) (now (sheet .entry)) (now (definitions .entry)))
+        (stmtAt (nameOf (now (names .entry))) (now (sheet .entry)) (now (definitions .entry)) k depth) level (told w (now (text .entry))) ⌝ }
 {
-    let c = walk_condition(sheet, level, names, w, text);
+    let c = walk_condition(sheet, definitions, level, names, w, text);
     let inner = deeper(w.on, level);
-    let a = walk(sheet, k, depth, inner, names, c, text);
+    let a = walk(sheet, definitions, k, depth, inner, names, c, text);
     let middle = say_word(w.on, b"end else begin\n", level, text, a.pos);
     let second = Walked {
         next: a.next,
@@ -514,7 +369,7 @@ fn walk_if_else(
         on: w.on,
         pos: middle,
     };
-    let b = walk(sheet, k, depth, inner, names, second, text);
+    let b = walk(sheet, definitions, k, depth, inner, names, second, text);
     let pos = say_word(w.on, b"end\n", level, text, b.pos);
     Walked {
         next: b.next,
@@ -528,6 +383,7 @@ fn walk_if_else(
 // A while: an if, and once more where the wait was seen in its body and the thread goes on behind it.
 fn walk_while(
     sheet: &[u8],
+    definitions: &[usize; 8],
     k: usize,
     depth: u8,
     level: u8,
@@ -536,10 +392,10 @@ fn walk_while(
     text: &mut [u8; 65536],
 ) -> Walked
     requires { ⌜ level + depth < 128 ⌝ }
-    ensures { λ r. ⌜ told r (now (text .exit)) ≡ whileAt (conditionAt (nameOf (now (names .entry))) (now (sheet .entry)))
-        (stmtAt (nameOf (now (names .entry))) (now (sheet .entry)) k depth) level (told w (now (text .entry))) ⌝ }
+    ensures { λ r. ⌜ told r (now (text .exit)) ≡ whileAt (conditionAt (nameOf (now (names .entry))) (now (sheet .entry)) (now (definitions .entry)))
+        (stmtAt (nameOf (now (names .entry))) (now (sheet .entry)) (now (definitions .entry)) k depth) level (told w (now (text .entry))) ⌝ }
 {
-    let a = walk_if(sheet, k, depth, level, names, w, text);
+    let a = walk_if(sheet, definitions, k, depth, level, names, w, text);
     if only(w.seen, a.on) {
         let again = Walked {
             next: w.next,
@@ -548,7 +404,7 @@ fn walk_while(
             on: true,
             pos: a.pos,
         };
-        return walk_if(sheet, k, depth, level, names, again, text);
+        return walk_if(sheet, definitions, k, depth, level, names, again, text);
     }
     a
 }
@@ -556,6 +412,7 @@ fn walk_while(
 // A forever: its body, and once more where the wait was seen in it and the thread goes on behind it.
 fn walk_forever(
     sheet: &[u8],
+    definitions: &[usize; 8],
     k: usize,
     depth: u8,
     level: u8,
@@ -565,9 +422,9 @@ fn walk_forever(
 ) -> Walked
     requires { ⌜ level + depth < 128 ⌝ }
     ensures { λ r. ⌜ told r (now (text .exit)) ≡ foreverAt
-        (stmtAt (nameOf (now (names .entry))) (now (sheet .entry)) k depth) level (told w (now (text .entry))) ⌝ }
+        (stmtAt (nameOf (now (names .entry))) (now (sheet .entry)) (now (definitions .entry)) k depth) level (told w (now (text .entry))) ⌝ }
 {
-    let a = walk(sheet, k, depth, level, names, w, text);
+    let a = walk(sheet, definitions, k, depth, level, names, w, text);
     if only(w.seen, a.on) {
         let again = Walked {
             next: w.next,
@@ -576,7 +433,7 @@ fn walk_forever(
             on: true,
             pos: a.pos,
         };
-        return walk(sheet, k, depth, level, names, again, text);
+        return walk(sheet, definitions, k, depth, level, names, again, text);
     }
     a
 }
@@ -584,6 +441,7 @@ fn walk_forever(
 // The statement at a place of the sheet, with so many levels left; wait `k` is looked for.
 fn walk(
     sheet: &[u8],
+    definitions: &[usize; 8],
     k: usize,
     depth: u8,
     level: u8,
@@ -593,7 +451,7 @@ fn walk(
 ) -> Walked
     requires { ⌜ level + depth ≤ 128 ⌝ }
     ensures { λ r. ⌜ told r (now (text .exit)) ≡
-        stmtAt (nameOf (now (names .entry))) (now (sheet .entry)) k depth level (told w (now (text .entry))) ⌝ }
+        stmtAt (nameOf (now (names .entry))) (now (sheet .entry)) (now (definitions .entry)) k depth level (told w (now (text .entry))) ⌝ }
 {
     if depth == 0 {
         return w;
@@ -612,13 +470,13 @@ fn walk(
     };
     match map {
         0x00 => inside,
-        0x03 => walk_assign(sheet, b" = ", level, names, inside, text),
-        0x23 => walk_assign(sheet, b" <= ", level, names, inside, text),
-        0x0C => walk_sequence(sheet, k, depth - 1, level, names, inside, text),
-        0x06 => walk_if(sheet, k, depth - 1, level, names, inside, text),
-        0x0E => walk_if_else(sheet, k, depth - 1, level, names, inside, text),
-        0x46 => walk_while(sheet, k, depth - 1, level, names, inside, text),
-        0x44 => walk_forever(sheet, k, depth - 1, level, names, inside, text),
+        0x03 => walk_assign(sheet, definitions, b" = ", level, names, inside, text),
+        0x23 => walk_assign(sheet, definitions, b" <= ", level, names, inside, text),
+        0x0C => walk_sequence(sheet, definitions, k, depth - 1, level, names, inside, text),
+        0x06 => walk_if(sheet, definitions, k, depth - 1, level, names, inside, text),
+        0x0E => walk_if_else(sheet, definitions, k, depth - 1, level, names, inside, text),
+        0x46 => walk_while(sheet, definitions, k, depth - 1, level, names, inside, text),
+        0x44 => walk_forever(sheet, definitions, k, depth - 1, level, names, inside, text),
         0x10 => walk_wait(sheet, k, level, names, inside, text),
         _ => w,
     }
@@ -641,6 +499,7 @@ fn put_heading(k: usize, text: &mut [u8; 65536], pos: usize) -> usize
 // What is done from wait `k` on, from the start for 0.
 fn print_point(
     sheet: &[u8],
+    definitions: &[usize; 8],
     at: usize,
     k: usize,
     names: &[u8; 2560],
@@ -648,7 +507,7 @@ fn print_point(
     pos: usize,
 ) -> Walked
     ensures { λ r. ⌜ told r (now (text .exit)) ≡
-        pointAt (nameOf (now (names .entry))) (now (sheet .entry)) k at (filled (now (text .entry)) pos) ⌝ }
+        pointAt (nameOf (now (names .entry))) (now (sheet .entry)) (now (definitions .entry)) k at (filled (now (text .entry)) pos) ⌝ }
 {
     let p = put_heading(k, text, pos);
     let start = k == 0;
@@ -659,12 +518,13 @@ fn print_point(
         on: start,
         pos: p,
     };
-    walk_forever(sheet, k, 64, 2, names, w, text)
+    walk_forever(sheet, definitions, k, 64, 2, names, w, text)
 }
 
 // What is done from each of the first `n` waits on.
 fn print_points(
     sheet: &[u8],
+    definitions: &[usize; 8],
     at: usize,
     n: usize,
     names: &[u8; 2560],
@@ -672,13 +532,13 @@ fn print_points(
     pos: usize,
 ) -> usize
     ensures { λ r. ⌜ filled (now (text .exit)) r ≡
-        pointsAt (nameOf (now (names .entry))) (now (sheet .entry)) n 1 at (filled (now (text .entry)) pos) ⌝ }
+        pointsAt (nameOf (now (names .entry))) (now (sheet .entry)) (now (definitions .entry)) n 1 at (filled (now (text .entry)) pos) ⌝ }
 {
     let mut p = pos;
     let mut k = 0;
     while k < n {
         k += 1;
-        let w = print_point(sheet, at, k, names, text, p);
+        let w = print_point(sheet, definitions, at, k, names, text, p);
         p = w.pos;
     }
     p
@@ -687,29 +547,30 @@ fn print_points(
 // The thread with this number.
 fn print_thread(
     sheet: &[u8],
+    definitions: &[usize; 8],
     at: usize,
     thread: usize,
     names: &[u8; 2560],
     text: &mut [u8; 65536],
 ) -> usize
     ensures { λ r. ⌜ filled (now (text .exit)) r ≡
-        threadAt (nameOf (now (names .entry))) (now (sheet .entry)) thread at (filled (now (text .entry)) 0) ⌝ }
+        threadAt (nameOf (now (names .entry))) (now (sheet .entry)) (now (definitions .entry)) thread at (filled (now (text .entry)) 0) ⌝ }
 {
     let p = put_word(b"thread ", text, 0);
     let q = put_decimal(thread, text, p);
     let e = put_word(b"\n", text, q);
-    let w = print_point(sheet, at, 0, names, text, e);
-    print_points(sheet, at, w.waits, names, text, w.pos)
+    let w = print_point(sheet, definitions, at, 0, names, text, e);
+    print_points(sheet, definitions, at, w.waits, names, text, w.pos)
 }
 
 // The place of a thread's statement, the first one's being at `body`.
-fn body_at(sheet: &[u8], body: usize, thread: usize) -> usize
-    ensures { λ r. ⌜ r ≡ bodyAt (now (sheet .entry)) thread body ⌝ }
+fn body_at(sheet: &[u8], definitions: &[usize; 8], body: usize, thread: usize) -> usize
+    ensures { λ r. ⌜ r ≡ bodyAt (now (sheet .entry)) (now (definitions .entry)) thread body ⌝ }
 {
     let mut at = body;
     let mut i = 0;
     while i < thread {
-        let w = rules::walk(sheet, at, 64);
+        let w = rules::walk(sheet, definitions, at, 64);
         at = w.next;
         i += 1;
     }
@@ -736,14 +597,15 @@ pub fn explain(sheet: &[u8], names: &[u8; 2560], thread: usize, text: &mut [u8; 
             length: 0,
         };
     }
-    let at = body_at(sheet, l.body, thread);
-    let w = rules::walk(sheet, at, 64);
+    let definitions = l.definitions;
+    let at = body_at(sheet, &definitions, l.body, thread);
+    let w = rules::walk(sheet, &definitions, at, 64);
     if !rules::both(w.surely, w.loops) {
         return Explained {
             number: 17,
             length: 0,
         };
     }
-    let length = print_thread(sheet, at, thread, names, text);
+    let length = print_thread(sheet, &definitions, at, thread, names, text);
     Explained { number: 0, length }
 }

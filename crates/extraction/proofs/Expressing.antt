@@ -8,8 +8,8 @@ use lib.Dec.{ltb}
 use lib.ListN.{length, length-append}
 use borrow.Author.Tests.{ltb-true, ltb-false}
 use Rattle.sheet.specs.Reading.{Res, ok, no, _>>=_, _>>_, check}
-use Rattle.sheet.specs.Expression.{Expr, Parsed}
-use Rattle.sheet.proofs.Expression.{Reads, a-variable, a-constant, an-unknown, a-unary, a-binary, a-conditional}
+use Rattle.sheet.specs.Expression.{Expr, Scope, Parsed}
+use Rattle.sheet.proofs.Expression.{Reads, a-variable, a-constant, an-unknown, a-unary, a-binary, a-conditional, a-call}
 use Rattle.nextstate.specs.Nodes.{Node, aConstant, anUnknown, aUnary, aBinary, aConditional, fourWords, nodeWords}
 use Rattle.nextstate.specs.Walk.{Emitted, emit, express}
 use Rattle.extraction.specs.Emitting.{emitWords, emitCount, Expression, expression, expressed, made}
@@ -74,9 +74,10 @@ emit-outcome t n next k a b c e h = by (ltb (length t) 4096) refl
 
 -- ---- expressions
 
-module _ (held : ℕ → ℕ) {ws s : List ℕ} where
+-- In a sheet without functions: no call was read.
+module _ (held : ℕ → ℕ) {c : Scope} {s : List ℕ} (none : c .declared ≡ 0) where
   -- An operand goes on from a full table.
-  pub express-full : {d p : ℕ} {q : Parsed Expr} → Reads ws s d p q → (l : List ℕ) → Full (expressAt held d s p 4097 l) (q .next)
+  pub express-full : {d p : ℕ} {q : Parsed Expr} → Reads c s d p q → (l : List ℕ) → Full (expressAt held d s p 4097 l) (q .next)
   unfolding expressAt nodeAt unaryAt binaryAt conditionalAt
   express-full (a-variable m h e l) t = rw (m, e) (record { count = refl; goes-on = refl })
   express-full {p = p} (a-constant {w = w} {v = v} m b h e l) t = rw (m, b .same, e) (made-full (p + 6) 1 w (v % 65536) (v / 65536) t)
@@ -100,8 +101,9 @@ module _ (held : ℕ → ℕ) {ws s : List ℕ} where
       (λ q j n l. let z = expressAt held d s q n l in made (z .answer .next) (z .answer .count) 20 i j (z .answer .node) (z .words))
       (express-full x l)
       (λ j l. full-then (λ q k n l. made q n 20 i j k l) (express-full y l) (λ k l. made-full _ 20 i j k l))))
+  express-full (a-call m h e l f es w) t = absurd (omega arith)
 
-  pub express-outcome : {d p : ℕ} {q : Parsed Expr} → Reads ws s d p q → (t : List Node) → length t ≤ 4096
+  pub express-outcome : {d p : ℕ} {q : Parsed Expr} → Reads c s d p q → (t : List Node) → length t ≤ 4096
       → Outcome (expressAt held d s p (length t) (tableOf t)) (q .next) (express held (q .item) t)
   unfolding express expressAt nodeAt unaryAt binaryAt conditionalAt nodeWords
   express-outcome (a-variable m h e l) t room = rw (m, e) (fine (record { same = refl; room = room }))
@@ -125,7 +127,7 @@ module _ (held : ℕ → ℕ) {ws s : List ℕ} where
       (λ z g. emit-outcome (z .nodes) (aBinary o (u .node) (z .node)) _ (10 + o) (u .node) (z .node) 0 refl g)
       (λ k l. made-full _ (10 + o) (u .node) k 0 l))
       (λ j l. full-then (λ q k n l. made q n (10 + o) j k 0 l) (express-full y l) (λ k l. made-full _ (10 + o) j k 0 l)))
-  express-outcome (a-conditional {d = d} {o = o} {c = qc} {a = qa} {b = qb} m b c x y e) t room =
+  express-outcome (a-conditional {d = d} {o = o} {q = qc} {a = qa} {b = qb} m b c x y e) t room =
       rw m
       (outcome-then
       (λ v. express held (qa .item) (v .nodes) >>= λ u. express held (qb .item) (u .nodes) >>= λ z. emit (z .nodes) (aConditional (v .node) (u .node) (z .node)))
@@ -147,3 +149,4 @@ module _ (held : ℕ → ℕ) {ws s : List ℕ} where
       (λ q j n l. let z = expressAt held d s q n l in made (z .answer .next) (z .answer .count) 20 i j (z .answer .node) (z .words))
       (express-full x l)
       (λ j l. full-then (λ q k n l. made q n 20 i j k l) (express-full y l) (λ k l. made-full _ 20 i j k l))))
+  express-outcome (a-call m h e l f es w) t room = absurd (omega arith)

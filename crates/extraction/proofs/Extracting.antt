@@ -16,9 +16,10 @@ use Rattle.sheet.specs.Reading.{Res, ok, no}
 use Rattle.sheet.specs.Expression.{Expr, located, exprAt}
 use Rattle.sheet.specs.Statement.{mapStmt}
 use Rattle.sheet.specs.Module.{Module, mapModule, Sheet, readSheet, read}
-use Rattle.sheet.specs.Answers.{sheetAnswer, layoutOf}
+use Rattle.sheet.specs.Answers.{definitionsOf, sheetAnswer, layoutOf}
 use Rattle.sheet.proofs.Numbers.{numbered-no, located-numbered, sheet-numbered}
 use Rattle.sheet.proofs.Trees.{read-located, mapRes, trees}
+use Rattle.sheet.proofs.Closed.{unfunctioned}
 use Rattle.soundness.proofs.Soundness.{sound}
 use Rattle.pseudocode.specs.Compiling.{compileAt}
 use Rattle.events.specs.Cycle.{codeOf}
@@ -84,10 +85,10 @@ few-waits m e =
 
 module _ (s code : List ℕ) (x : Sheet ℕ) (m : Module Expr) (h : readSheet (located s) s ≡ ok x) (e : read s ≡ ok m) (long : length code ≡ 4096) where
   abbrev compiled-code : List ℕ
-  compiled-code = compileAt s (length (x .contents .threads)) (x .body) code .code
+  compiled-code = compileAt s (definitionsOf (x .definitions)) (length (x .contents .threads)) (x .body) code .code
 
   abbrev compiled-sizes : List ℕ
-  compiled-sizes = compileAt s (length (x .contents .threads)) (x .body) code .sizes
+  compiled-sizes = compileAt s (definitionsOf (x .definitions)) (length (x .contents .threads)) (x .body) code .sizes
 
   same-scope : x .contents .scope ≡ m .scope
   unfolding trees mapModule
@@ -95,12 +96,12 @@ module _ (s code : List ℕ) (x : Sheet ℕ) (m : Module Expr) (h : readSheet (l
 
   same-wires : length (x .contents .wires) ≡ length (m .wires)
   unfolding trees mapModule
-  same-wires = sym (length-map (x .contents .wires) (exprAt s (x .contents .scope .widths))) ∙ ap (λ (n : Module Expr). length (n .wires)) (module-same s x m h e)
+  same-wires = sym (length-map (x .contents .wires) (exprAt s (x .contents .scope))) ∙ ap (λ (n : Module Expr). length (n .wires)) (module-same s x m h e)
 
   same-threads : length (x .contents .threads) ≡ length (m .threads)
   unfolding trees mapModule
   same-threads =
-      sym (length-map (x .contents .threads) (mapStmt (exprAt s (x .contents .scope .widths))))
+      sym (length-map (x .contents .threads) (mapStmt (exprAt s (x .contents .scope))))
       ∙ ap (λ (n : Module Expr). length (n .threads)) (module-same s x m h e)
 
   pub fills : rule m ≡ 0 → Fills (fillAt s (layoutOf x) compiled-code compiled-sizes (replicate 16384 0) (replicate 1056 0))
@@ -110,8 +111,9 @@ module _ (s code : List ℕ) (x : Sheet ℕ) (m : Module Expr) (h : readSheet (l
       let z = sound s e in
       let all = holding-filled s x m h e code long in
       let n = length (m .threads) in
+      let none : m .scope .declared ≡ 0 = rw same-scope at (unfunctioned (located s) s h .0) in
       rw (same-threads, atMost-same 8 n (z .threads-most), same-scope, same-wires)
-      (threads-filled m z s compiled-code (fetched s code x h long m e)
+      (threads-filled m z none s compiled-code (fetched s code x h long m e)
       (plainBelow s compiled-code compiled-sizes (m .scope .inputs) n (replicate 8 0))
       (laterBelow s compiled-code compiled-sizes (m .scope .inputs) n (replicate 8 0))
       (plain-law z all (replicate 8 0) refl) (later-law z all (replicate 8 0) refl)
@@ -165,9 +167,9 @@ module _ (s : List ℕ) (r : SheetRead) (given : r ≡ sheetAnswer (readSheet (l
           absurd (omega (arith, l .0))
 
   module _ (fine : r .number ≡ 0) (code sizes readers : List ℕ) (broken : ℕ)
-      (code-is : code ≡ compileAt s (r .layout .threads) (r .layout .body) (replicate 4096 0) .code)
-      (sizes-are : sizes ≡ compileAt s (r .layout .threads) (r .layout .body) (replicate 4096 0) .sizes)
-      (readers-are : readers ≡ readersBelow s (r .layout .starts) (atMost 32 (r .layout .wires)) (replicate 80 0))
+      (code-is : code ≡ compileAt s (r .layout .definitions) (r .layout .threads) (r .layout .body) (replicate 4096 0) .code)
+      (sizes-are : sizes ≡ compileAt s (r .layout .definitions) (r .layout .threads) (r .layout .body) (replicate 4096 0) .sizes)
+      (readers-are : readers ≡ readersBelow s (r .layout .definitions) (r .layout .starts) (atMost 32 (r .layout .wires)) (replicate 80 0))
       (judged : broken ≡ ruleAt s (r .layout) code sizes readers) where
     abbrev it : Accepted
     it = accepted fine
@@ -184,8 +186,8 @@ module _ (s : List ℕ) (r : SheetRead) (given : r ≡ sheetAnswer (readSheet (l
         judged
         ∙ (λ i. ruleAt s (r .layout) (code-is i) (sizes-are i) (readers-are i))
         ∙ (λ i. let y = it .layout i in
-        ruleAt s y (compileAt s (y .threads) (y .body) (replicate 4096 0) .code) (compileAt s (y .threads) (y .body) (replicate 4096 0) .sizes)
-        (readersBelow s (y .starts) (atMost 32 (y .wires)) (replicate 80 0)))
+        ruleAt s y (compileAt s (y .definitions) (y .threads) (y .body) (replicate 4096 0) .code) (compileAt s (y .definitions) (y .threads) (y .body) (replicate 4096 0) .sizes)
+        (readersBelow s (y .definitions) (y .starts) (atMost 32 (y .wires)) (replicate 80 0)))
         ∙ rule-law s (it .sheet-read) m (it .located-as) (it .read-as) (replicate 4096 0) long
 
     pub answer-broken : (ns rs : List ℕ) → (broken ≡ 0 → ⊥) → Answers (expressions s) broken ns rs
@@ -199,15 +201,15 @@ module _ (s : List ℕ) (r : SheetRead) (given : r ≡ sheetAnswer (readSheet (l
         (done : filling e ns rs ≡ fillAt s (r .layout) code sizes l k) where
       filled-as : filling e ns rs
           ≡ fillAt s (layoutOf (it .sheet-read))
-          (compileAt s (length (it .sheet-read .contents .threads)) (it .sheet-read .body) (replicate 4096 0) .code)
-          (compileAt s (length (it .sheet-read .contents .threads)) (it .sheet-read .body) (replicate 4096 0) .sizes)
+          (compileAt s (definitionsOf (it .sheet-read .definitions)) (length (it .sheet-read .contents .threads)) (it .sheet-read .body) (replicate 4096 0) .code)
+          (compileAt s (definitionsOf (it .sheet-read .definitions)) (length (it .sheet-read .contents .threads)) (it .sheet-read .body) (replicate 4096 0) .sizes)
           (replicate 16384 0) (replicate 1056 0)
       unfolding layoutOf
       filled-as =
           done
           ∙ (λ i. fillAt s (r .layout) (code-is i) (sizes-are i) (no-nodes i) (no-rows i))
           ∙ (λ i. let y = it .layout i in
-          fillAt s y (compileAt s (y .threads) (y .body) (replicate 4096 0) .code) (compileAt s (y .threads) (y .body) (replicate 4096 0) .sizes)
+          fillAt s y (compileAt s (y .definitions) (y .threads) (y .body) (replicate 4096 0) .code) (compileAt s (y .definitions) (y .threads) (y .body) (replicate 4096 0) .sizes)
           (replicate 16384 0) (replicate 1056 0))
 
       keeps : rule m ≡ 0

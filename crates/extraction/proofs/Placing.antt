@@ -6,8 +6,9 @@ use Prim.Native.Nat.{ℕ, _<_}
 use lib.ListN.{length}
 use Rattle.sheet.specs.declared.EdgeTerm.{EdgeTerm}
 use Rattle.sheet.specs.Reading.{ok}
-use Rattle.sheet.specs.Expression.{Expr, located}
+use Rattle.sheet.specs.Expression.{Expr, Scope, located}
 use Rattle.sheet.specs.Module.{Module, Sheet, readSheet, read}
+use Rattle.sheet.specs.Answers.{definitionsOf}
 use Rattle.pseudocode.specs.Translation.{Instr, wait!, set!, later!, go, ifnot}
 use Rattle.pseudocode.specs.Instruction.{termsOf}
 use Rattle.pseudocode.specs.declared.Action.the-variants.{Set, Later, Go, IfNot}
@@ -22,14 +23,14 @@ use Rattle.events.specs.Cycle.{codeOf, instrAt}
 
 -- ---- an instruction of the translation, and the one that was fetched for it
 
-pub data Fetched (ws s : List ℕ) : Instr Expr → Instruction → Type 0 where
-  a-wait! : {ts : List EdgeTerm} → Fetched ws s (wait! ts) (Wait (termsOf ts))
-  a-set! : {t p : ℕ} {e : Expr} → ReadAt ws s e p → Fetched ws s (set! t e) (Act (Set t p))
-  a-later! : {t p : ℕ} {e : Expr} → ReadAt ws s e p → Fetched ws s (later! t e) (Act (Later t p))
-  a-go : {g : ℕ} → Fetched ws s (go g) (Act (Go g))
-  an-ifnot : {g p : ℕ} {e : Expr} → ReadAt ws s e p → Fetched ws s (ifnot e g) (Act (IfNot g p))
+pub data Fetched (c : Scope) (s : List ℕ) : Instr Expr → Instruction → Type 0 where
+  a-wait! : {ts : List EdgeTerm} → Fetched c s (wait! ts) (Wait (termsOf ts))
+  a-set! : {t p : ℕ} {e : Expr} → ReadAt c s e p → Fetched c s (set! t e) (Act (Set t p))
+  a-later! : {t p : ℕ} {e : Expr} → ReadAt c s e p → Fetched c s (later! t e) (Act (Later t p))
+  a-go : {g : ℕ} → Fetched c s (go g) (Act (Go g))
+  an-ifnot : {g p : ℕ} {e : Expr} → ReadAt c s e p → Fetched c s (ifnot e g) (Act (IfNot g p))
 
-coded-fetched : {ws s : List ℕ} {j : Instr Expr} {i : Instruction} → Coded ws s j i → Fetched ws s j i
+coded-fetched : {c : Scope} {s : List ℕ} {j : Instr Expr} {i : Instruction} → Coded c s j i → Fetched c s j i
 coded-fetched (codes-wait h n) = a-wait!
 coded-fetched (codes-set h x) = a-set! x
 coded-fetched (codes-later h x) = a-later! x
@@ -41,9 +42,9 @@ coded-fetched (codes-ifnot h x) = an-ifnot x
 abbrev pub AllFetched : List ℕ → List ℕ → Module Expr → Type 0
 AllFetched s code m =
     (i p : ℕ) → i < length (m .threads) → p < length (codeOf m i)
-    → Fetched (m .scope .widths) s (instrAt (codeOf m i) p) (fetchAt s code i p)
+    → Fetched (m .scope) s (instrAt (codeOf m i) p) (fetchAt s code i p)
 
 module _ (s code : List ℕ) (r : Sheet ℕ) (h : readSheet (located s) s ≡ ok r) (long : length code ≡ 4096) where
-  pub fetched : (m : Module Expr) → read s ≡ ok m → AllFetched s (compileAt s (length (r .contents .threads)) (r .body) code .code) m
+  pub fetched : (m : Module Expr) → read s ≡ ok m → AllFetched s (compileAt s (definitionsOf (r .definitions)) (length (r .contents .threads)) (r .body) code .code) m
   unfolding codeOf instrAt
   fetched m e i p l q = coded-fetched (coded s code r m h e long i p l q)

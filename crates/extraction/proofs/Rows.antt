@@ -12,8 +12,7 @@ use lib.Seq.{take-suc, take-all, length-take-le}
 use borrow.Author.Tests.{ltb-true, ltb-false, lt-ltb}
 use Rattle.values.specs.Values.{pick}
 use Rattle.sheet.specs.Reading.{Res, ok, no, _>>=_}
-use Rattle.sheet.specs.Expression.{Expr}
-use Rattle.sheet.specs.Statement.{Scope}
+use Rattle.sheet.specs.Expression.{Expr, Scope}
 use Rattle.sheet.specs.Module.{Module}
 use Rattle.soundness.specs.Soundness.{SoundInstr, sound-wait, sound-set, sound-later, sound-go, sound-ifnot, SoundCode, Sound}
 use Rattle.masks.specs.Masks.{bits, mask, either}
@@ -115,7 +114,7 @@ waits-below m n k h = rises (waitsBelow m) (threads-more m) n k h
 
 -- ---- a wait by its instruction and as it was fetched
 
-fetched-waits : {ws s : List ℕ} {j : Instr Expr} {u : Instruction} → Fetched ws s j u → waits u ≡ isWait j
+fetched-waits : {c : Scope} {s : List ℕ} {j : Instr Expr} {u : Instruction} → Fetched c s j u → waits u ≡ isWait j
 unfolding waits isWait
 fetched-waits a-wait! = refl
 fetched-waits (a-set! r) = refl
@@ -203,7 +202,7 @@ module _ (s code : List ℕ) (t : Thread) (size : ℕ) where
 
 -- ---- a thread's walks
 
-module _ (m : Module Expr) (z : Sound m) (s code : List ℕ) (fetched : AllFetched s code m) (plain later : List ℕ)
+module _ (m : Module Expr) (z : Sound m) (none : m .scope .declared ≡ 0) (s code : List ℕ) (fetched : AllFetched s code m) (plain later : List ℕ)
     (plain-is : (i r : ℕ) → i < length (m .threads) → getD (bits (getD plain i 0)) r false ≡ plainWrites m i (m .scope .inputs + r))
     (later-is : (i r : ℕ) → i < length (m .threads) → getD (bits (getD later i 0)) r false ≡ defers m i (m .scope .inputs + r)) where
   module _ (i : ℕ) (l : i < length (m .threads)) where
@@ -233,11 +232,11 @@ module _ (m : Module Expr) (z : Sound m) (s code : List ℕ) (fetched : AllFetch
     unfolding walkRow walkFrom threadAt ownRows instrAt
     walk-row p T r w inside short here room =
         let most = sound .most in
-        let long : Long m i _ (getD later i 0) (z .registers-most) writing (λ r h. later-is i r l) s (ownRows m) =
+        let long : Long m i _ (getD later i 0) (z .registers-most) writing (λ r h. later-is i r l) s none (ownRows m) =
         record { current = length-own m; later = length-own m } in
         rw (own-same m, after-in p (omega arith))
         (row-then T r short here
-        (walks m i (mask (either (bits (getD plain i 0)) (bits (getD later i 0)))) (getD later i 0) (z .registers-most) writing (λ r h. later-is i r l) s code sound
+        (walks m i (mask (either (bits (getD plain i 0)) (bits (getD later i 0)))) (getD later i 0) (z .registers-most) writing (λ r h. later-is i r l) s none code sound
         (λ p h. fetched i p l h) size (p + 1) (ownRows m) (T .nodes) long (wait-inside (sound .instruction p inside) w) room))
 
     from-then : (p : ℕ) → p < size → {x : Filling} {r : ℕ} {o : Res Tables} → Fills x r o → r + one (isWait (instrAt (codeOf m i) p)) ≤ 32

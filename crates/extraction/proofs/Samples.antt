@@ -31,7 +31,7 @@ use Rattle.extraction.specs.Filling.{walkRow, walkFromAt, walksBelowAt, 
 pub flipFlop : Module Expr
 flipFlop =
     record {
-      scope = record { inputs = 2; registers = 1; widths = 1 ∷ 8 ∷ 8 ∷ [] };
+      scope = record { inputs = 2; registers = 1; widths = 1 ∷ 8 ∷ 8 ∷ []; declared = 0; functions = [] };
       wires = [];
       threads = sequence (wait (record { edge = Posedge; variable = 0 } ∷ [])) (later 2 (variable 1)) ∷ [];
     }
@@ -67,7 +67,7 @@ flip-flop-words = refl
 pub branching : Module Expr
 branching =
     record {
-      scope = record { inputs = 2; registers = 1; widths = 1 ∷ 1 ∷ 8 ∷ [] };
+      scope = record { inputs = 2; registers = 1; widths = 1 ∷ 1 ∷ 8 ∷ []; declared = 0; functions = [] };
       wires = [];
       threads =
           sequence (wait (record { edge = Posedge; variable = 0 } ∷ [])) (ifThen (variable 1) (later 2 (unary 1 8 (variable 2)))) ∷ [];

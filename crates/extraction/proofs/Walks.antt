@@ -100,7 +100,7 @@ walk-stays s code t (suc f) p h l = refl
 module _ (m : Module Expr) (i written deferred : ℕ) (few : m .scope .registers ≤ 32)
     (writing : (r : ℕ) → r < 32 → getD (bits written) r false ≡ writes m i (m .scope .inputs + r))
     (deferring : (r : ℕ) → r < 32 → getD (bits deferred) r false ≡ defers m i (m .scope .inputs + r))
-    (s : List ℕ) where
+    (s : List ℕ) (none : m .scope .declared ≡ 0) where
   abbrev pub thread : Thread
   thread = record { number = i; inputs = m .scope .inputs; registers = m .scope .registers; written = written; deferred = deferred }
 
@@ -127,7 +127,7 @@ module _ (m : Module Expr) (i written deferred : ℕ) (few : m .scope .registers
 
     -- ---- assignments
 
-    visit-set : (v e : ℕ) {x : Expr} → ReadAt (m .scope .widths) s x e → m .scope .inputs ≤ v → v < m .scope .inputs + m .scope .registers → p + 1 < size
+    visit-set : (v e : ℕ) {x : Expr} → ReadAt (m .scope) s x e → m .scope .inputs ≤ v → v < m .scope .inputs + m .scope .registers → p + 1 < size
         → Ends (assignAt s thread nextAt 0 v e p (rowsOf h) (length t) (tableOf t)) (visit m i next p h t (set! v x))
     unfolding assignAt visit
     visit-set v e {x} (q, reads, same) low high further =
@@ -137,13 +137,13 @@ module _ (m : Module Expr) (i written deferred : ℕ) (few : m .scope .registers
         (after-expression
         (λ y. next (p + 1) (record { current = set (h .current) r (y .node); later = h .later }) (y .nodes))
         (λ j n l. nextAt (p + 1) (putAt (rowsOf h) 0 r j) n l)
-        (express-outcome (heldNode m (h .current)) reads t room)
+        (express-outcome (heldNode m (h .current)) none reads t room)
         (λ y k. rw (put-current h r (y .node) l)
         (goes (p + 1) (record { current = set (h .current) r (y .node); later = h .later }) (y .nodes)
         (record { current = length-set (h .current) r (y .node) ∙ long .current; later = long .later }) further k))
         (λ j l. stays (p + 1) (putAt (rowsOf h) 0 r j) l))
 
-    visit-later : (v e : ℕ) {x : Expr} → ReadAt (m .scope .widths) s x e → m .scope .inputs ≤ v → v < m .scope .inputs + m .scope .registers → p + 1 < size
+    visit-later : (v e : ℕ) {x : Expr} → ReadAt (m .scope) s x e → m .scope .inputs ≤ v → v < m .scope .inputs + m .scope .registers → p + 1 < size
         → Ends (assignAt s thread nextAt 1 v e p (rowsOf h) (length t) (tableOf t)) (visit m i next p h t (later! v x))
     unfolding assignAt visit
     visit-later v e {x} (q, reads, same) low high further =
@@ -153,7 +153,7 @@ module _ (m : Module Expr) (i written deferred : ℕ) (few : m .scope .registers
         (after-expression
         (λ y. next (p + 1) (record { current = h .current; later = set (h .later) r (y .node) }) (y .nodes))
         (λ j n l. nextAt (p + 1) (putAt (rowsOf h) 1 r j) n l)
-        (express-outcome (heldNode m (h .current)) reads t room)
+        (express-outcome (heldNode m (h .current)) none reads t room)
         (λ y k. rw (put-later h r (y .node) l)
         (goes (p + 1) (record { current = h .current; later = set (h .later) r (y .node) }) (y .nodes)
         (record { current = long .current; later = length-set (h .later) r (y .node) ∙ long .later }) further k))
@@ -172,7 +172,7 @@ module _ (m : Module Expr) (i written deferred : ℕ) (few : m .scope .registers
         (merge-below m i written writing c (walked n (a .place) (a .registers)) (walked (length (b .nodes)) (b .place) (b .registers)) la
         (b .nodes) refl rb 32 (omega arith))
 
-    visit-branch : (g e : ℕ) {x : Expr} → ReadAt (m .scope .widths) s x e → p + 1 < size → g < size
+    visit-branch : (g e : ℕ) {x : Expr} → ReadAt (m .scope) s x e → p + 1 < size → g < size
         → Ends (branchAt s thread nextAt g e p (rowsOf h) (length t) (tableOf t)) (visit m i next p h t (ifnot x g))
     unfolding branchAt visit
     visit-branch g e {x} (q, reads, same) further beyond =
@@ -181,7 +181,7 @@ module _ (m : Module Expr) (i written deferred : ℕ) (few : m .scope .registers
         (λ j n l. let a = nextAt (p + 1) (rowsOf h) n l in
         let b = nextAt g (rowsOf h) (a .answer .count) (a .words) in
         joinAt written j (a .answer) (b .answer) (b .words))
-        (express-outcome (heldNode m (h .current)) reads t room)
+        (express-outcome (heldNode m (h .current)) none reads t room)
         (λ c k. after-walk _
         (λ w. let b = nextAt g (rowsOf h) (w .answer .count) (w .words) in joinAt written (c .node) (w .answer) (b .answer) (b .words))
         (goes (p + 1) h (c .nodes) long further k)
@@ -201,7 +201,7 @@ module _ (m : Module Expr) (i written deferred : ℕ) (few : m .scope .registers
 
     -- ---- each instruction
 
-    pub visits : {j : Instr Expr} {u : Instruction} → Fetched (m .scope .widths) s j u → SoundInstr (m .scope) size p j
+    pub visits : {j : Instr Expr} {u : Instruction} → Fetched (m .scope) s j u → SoundInstr (m .scope) size p j
         → Ends (visitAt s thread nextAt p (rowsOf h) (length t) (tableOf t) u) (visit m i next p h t j)
     unfolding visitAt actAt visit
     visits a-wait! x = visit-wait
@@ -213,7 +213,7 @@ module _ (m : Module Expr) (i written deferred : ℕ) (few : m .scope .registers
   -- ---- the walk
 
   module _ (code : List ℕ) (sound : SoundCode (m .scope) (codeOf m i))
-      (fetched : (p : ℕ) → p < length (codeOf m i) → Fetched (m .scope .widths) s (instrAt (codeOf m i) p) (fetchAt s code i p)) where
+      (fetched : (p : ℕ) → p < length (codeOf m i) → Fetched (m .scope) s (instrAt (codeOf m i) p) (fetchAt s code i p)) where
     pub walks : (f p : ℕ) (h : Held) (t : List Node) → Long h → p < length (codeOf m i) → length t ≤ 4096
         → Ends (walkAt s code thread f p (rowsOf h) (length t) (tableOf t)) (walk m i f p h t)
     unfolding walkAt walk ended instrAt

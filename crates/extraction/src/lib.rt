@@ -121,10 +121,17 @@ fn expressions(sheet: &[u8], nodes: &mut [u16; 16384], rows: &mut [u16; 1056]) -
         return read.number;
     }
     let layout = read.layout;
+    let definitions = layout.definitions;
     let mut code = [0u16; 4096];
     let mut readers = [0u32; 80];
-    let sizes = pseudocode::compile(sheet, layout.threads, layout.body, &mut code);
-    tables::fill_readers(sheet, &layout.starts, layout.wires, &mut readers);
+    let sizes = pseudocode::compile(sheet, &definitions, layout.threads, layout.body, &mut code);
+    tables::fill_readers(
+        sheet,
+        &definitions,
+        &layout.starts,
+        layout.wires,
+        &mut readers,
+    );
     let broken = rules::rule(sheet, layout, &code, &sizes, &readers);
     if broken != 0 {
         return broken;

@@ -5,14 +5,15 @@ use mathlib.Core.Bool.{Bool, true, false}
 use mathlib.Core.List.{List, [], _∷_}
 use Prim.Native.Nat.{ℕ, _<_, _≤_}
 use native.Mathlib.Omega.{arith}
-use borrow.Author.Tests.{lt-ltb, ne-eqb}
+use borrow.Author.Tests.{lt-ltb, leb-true, ne-eqb}
 use lib.ListN.{length, getD}
 use lib.Dec.{leb}
 use Rattle.values.specs.Values.{pick}
-use Rattle.sheet.specs.Reading.{ok, within}
+use Rattle.sheet.specs.Reading.{ok, byteAt, within}
 use Rattle.sheet.specs.Expression.{Expr, tree}
-use Rattle.sheet.specs.Module.{Module, readHead, readSheet, read}
-use Rattle.sheet.proofs.Reading.{bind-ok, check-ok, within-ok}
+use Rattle.sheet.specs.Module.{Module, inputsOf, firstAt, readHead, readSheet, read}
+use Rattle.sheet.proofs.Reading.{bind-ok, check-ok, byte-ok, within-ok}
+use Rattle.sheet.proofs.Closed.{small-first, parts}
 use Rattle.hextext.specs.Characters.{digitOf, isDigit, isBlank, isGap, isText}
 
 small-digit : (b : ℕ) → b < 48 → isDigit b ≡ false
@@ -50,18 +51,30 @@ head-front (a ∷ b ∷ []) l x y z w = absurd (omega arith)
 head-front (a ∷ []) l x y z w = absurd (omega arith)
 head-front [] l x y z w = absurd (omega arith)
 
+-- The first byte, where the head is read and nothing is added to it.
+first-few : (s : List ℕ) {b : ℕ} → getD s 0 0 < 128 → firstAt s 0 ≡ ok b → getD s 0 0 ≤ 16
+unfolding firstAt inputsOf
+first-few s {b} h e =
+    let x = bind-ok (byteAt s 0) _ e in
+    let y = byte-ok s 0 (x .1) .1 in
+    let c = x .0 in
+    let i : inputsOf c ≡ c = simp (lt-ltb c 128 (omega arith)) in
+    let u = check-ok (leb 1 (inputsOf c)) 3 0 _ (x .2) in
+    let v = check-ok (leb (inputsOf c) 16) 3 0 _ (u .1) in
+    let z = leb-true (inputsOf c) 16 (v .0) in
+    omega arith
+
 pub sheet-no-text : (s : List ℕ) {m : Module Expr} → read s ≡ ok m → isText s ≡ false
-unfolding read readSheet readHead
+unfolding read readHead
 sheet-no-text s e =
     let r = bind-ok (readSheet (tree s) s) _ e in
-    let l = check-ok (leb (length s) 8192) 1 8192 _ (r .1) in
-    let h = bind-ok (readHead s) _ (l .1) in
-    let a = bind-ok (within 1 16 3 s 0) _ (h .1) in
+    let p = parts (tree s) s (r .1) in
+    let a = bind-ok (firstAt s 0) _ (p .head-read) in
     let b = bind-ok (within 1 32 3 s 1) _ (a .2) in
     let c = bind-ok (within 0 32 3 s 2) _ (b .2) in
     let d = bind-ok (within 1 8 3 s 3) _ (c .2) in
-    let i = within-ok 1 16 3 s 0 (a .1) in
+    let i = first-few s (small-first (tree s) s (r .1)) (a .1) in
     let j = within-ok 1 32 3 s 1 (b .1) in
     let k = within-ok 0 32 3 s 2 (c .1) in
     let t = within-ok 1 8 3 s 3 (d .1) in
-    head-front s (t .below) (omega arith) (omega arith) (omega arith) (omega arith)
+    head-front s (t .below) i (omega arith) (omega arith) (omega arith)

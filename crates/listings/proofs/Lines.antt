@@ -5,14 +5,14 @@ use native.Mathlib.Omega.{arith}
 use mathlib.Core.List.{List, [], _∷_, _++_}
 use lib.ListN.{length, getD, replicate, length-replicate}
 use lib.Seq.{sets}
-use lib.Dec.{leb, eqb}
+use lib.Dec.{leb}
 use Rattle.sheet.specs.declared.SheetRead.{SheetRead}
 use Rattle.sheet.specs.Reading.{Res, ok, no, _>>=_, _>>_}
-use Rattle.sheet.specs.Expression.{Expr, located}
-use Rattle.sheet.specs.Statement.{Stmt, empty, size, Scope, Body, readStmt}
-use Rattle.sheet.specs.Module.{Module, readHead, readWires, readThreads, Sheet, readSheet, read}
+use Rattle.sheet.specs.Expression.{Expr, Scope, located}
+use Rattle.sheet.specs.Statement.{Stmt, empty, size, Body, readStmt}
+use Rattle.sheet.specs.Module.{Module, readThreads, Sheet, readSheet, read}
 use Rattle.sheet.specs.Module as reading
-use Rattle.sheet.specs.Answers.{layoutOf, sheetAnswer}
+use Rattle.sheet.specs.Answers.{definitionsOf, layoutOf, sheetAnswer}
 use Rattle.sheet.proofs.Reading.{bind-ok, check-ok, ok-injective}
 use Rattle.sheet.proofs.Statements.{ReadsStmt, derive-stmt}
 use Rattle.sheet.proofs.Trees.{mapRes, trees, read-located}
@@ -21,6 +21,7 @@ use Rattle.pseudocode.specs.Translation.{Instr, go, threadCode}
 use Rattle.pseudocode.specs.Instruction.{instructionOf}
 use Rattle.pseudocode.specs.Compiling.{Compiled, compileAt}
 use Rattle.pseudocode.specs.Fetching.{fetchAt}
+use Rattle.pseudocode.proofs.Sheets.{scopeWith, sections}
 use Rattle.pseudocode.proofs.Translation.{threadCode-size}
 use Rattle.pseudocode.proofs.Compiling.{Compiles, compile-law}
 use Rattle.writing.specs.Buffer.{Text, filled, puts}
@@ -41,33 +42,33 @@ sub-zero n = omega arith
 one-more : (n i : ℕ) → i < n → n - i ≡ suc (n - (i + 1))
 one-more n i h = omega arith
 
-module _ (s code : List ℕ) (thread size place : ℕ) (t u : Text) where
-  pub code-turn : place < size → u ≡ puts t (showLine (textAt s) thread place (instrOf (fetchAt s code thread place)))
-      → puts u (codeLines s code thread (size - (place + 1)) (place + 1)) ≡ puts t (codeLines s code thread (size - place) place)
+module _ (s ds code : List ℕ) (thread size place : ℕ) (t u : Text) where
+  pub code-turn : place < size → u ≡ puts t (showLine (textAt s ds) thread place (instrOf (fetchAt s code thread place)))
+      → puts u (codeLines s ds code thread (size - (place + 1)) (place + 1)) ≡ puts t (codeLines s ds code thread (size - place) place)
   unfolding codeLines
   code-turn h e = rw (one-more size place h, puts-append, e) refl
 
-pub code-end : (s code : List ℕ) (thread size place : ℕ) → size ≤ place → codeLines s code thread (size - place) place ≡ []
+pub code-end : (s ds code : List ℕ) (thread size place : ℕ) → size ≤ place → codeLines s ds code thread (size - place) place ≡ []
 unfolding codeLines
-code-end s code thread size place h = let e : size - place ≡ 0 = omega arith in rw e refl
+code-end s ds code thread size place h = let e : size - place ≡ 0 = omega arith in rw e refl
 
-module _ (s code sizes : List ℕ) (threads thread : ℕ) (t u : Text) where
-  pub thread-turn : thread < threads → u ≡ puts t (codeLines s code thread (getD sizes thread 0) 0)
-      → puts u (threadLines s code sizes (threads - (thread + 1)) (thread + 1)) ≡ puts t (threadLines s code sizes (threads - thread) thread)
+module _ (s ds code sizes : List ℕ) (threads thread : ℕ) (t u : Text) where
+  pub thread-turn : thread < threads → u ≡ puts t (codeLines s ds code thread (getD sizes thread 0) 0)
+      → puts u (threadLines s ds code sizes (threads - (thread + 1)) (thread + 1)) ≡ puts t (threadLines s ds code sizes (threads - thread) thread)
   unfolding threadLines
   thread-turn h e = rw (one-more threads thread h, puts-append, e) refl
 
-pub thread-end : (s code sizes : List ℕ) (threads thread : ℕ) → threads ≤ thread → threadLines s code sizes (threads - thread) thread ≡ []
+pub thread-end : (s ds code sizes : List ℕ) (threads thread : ℕ) → threads ≤ thread → threadLines s ds code sizes (threads - thread) thread ≡ []
 unfolding threadLines
-thread-end s code sizes threads thread h = let e : threads - thread ≡ 0 = omega arith in rw e refl
+thread-end s ds code sizes threads thread h = let e : threads - thread ≡ 0 = omega arith in rw e refl
 
 -- ---- the way through the code of a whole listing
 
-pub listing-path : (s : List ℕ) (threads body : ℕ) (t u v : Text) {code sizes : List ℕ}
-    → sizes ≡ compileAt s threads body (replicate 4096 0) .sizes → code ≡ compileAt s threads body (replicate 4096 0) .code
-    → u ≡ puts t (showHead threads) → v ≡ puts u (threadLines s code sizes threads 0) → v ≡ puts t (tableListing s threads body)
+pub listing-path : (s ds : List ℕ) (threads body : ℕ) (t u v : Text) {code sizes : List ℕ}
+    → sizes ≡ compileAt s ds threads body (replicate 4096 0) .sizes → code ≡ compileAt s ds threads body (replicate 4096 0) .code
+    → u ≡ puts t (showHead threads) → v ≡ puts u (threadLines s ds code sizes threads 0) → v ≡ puts t (tableListing s ds threads body)
 unfolding tableListing
-listing-path s threads body t u v es ec eu ev = both t u v _ _ eu (ev ∙ rw (es, ec) refl)
+listing-path s ds threads body t u v es ec eu ev = both t u v _ _ eu (ev ∙ rw (es, ec) refl)
 
 -- ---- one thread
 
@@ -80,10 +81,10 @@ zero-add′ n = omega arith
 shift : (n k : ℕ) → n + 1 + k ≡ n + suc k
 shift n k = omega arith
 
-module _ {ws s : List ℕ} (code : List ℕ) (thread : ℕ) where
-  lines-code : {is : List (Instr ℕ)} {js : List (Instr Expr)} → PlacedAll ws s is js → (n place : ℕ) → n ≡ length is
+module _ {c : Scope} {s : List ℕ} (ds code : List ℕ) (thread : ℕ) where
+  lines-code : {is : List (Instr ℕ)} {js : List (Instr Expr)} → PlacedAll c s is js → (n place : ℕ) → n ≡ length is
       → ((k : ℕ) → k < length is → fetchAt s code thread (place + k) ≡ instructionOf (getD is k (go 0)))
-      → codeLines s code thread n place ≡ showCode (textAt s) thread place is
+      → codeLines s ds code thread n place ≡ showCode (textAt s ds) thread place is
   unfolding codeLines showCode
   lines-code none n place e fetched = rw e refl
   lines-code (more {i = i} {is = is} p ps) n place e fetched =
@@ -99,7 +100,7 @@ number-of r = r .number
 abbrev items : reading.Listed (Stmt ℕ) → List (Stmt ℕ)
 items l = l .items
 
-module _ (c : Scope) (s code sizes : List ℕ) where
+module _ (c : Scope) (s ds code sizes : List ℕ) where
   -- The table holds the threads from a number on.
   pub record Tabled (thread : ℕ) (threads : List (Stmt ℕ)) : Type 0 where
     pub sized : (k : ℕ) → k < length threads → getD sizes (thread + k) 0 ≡ size (getD threads k empty) + 1
@@ -114,15 +115,15 @@ module _ (c : Scope) (s code sizes : List ℕ) where
       }
 
   lines-thread : {d p : ℕ} {b : Body ℕ} {bs : List (Stmt ℕ)} → ReadsStmt (located s) c s d p b → (thread : ℕ) → Tabled thread (b .stmt ∷ bs)
-      → codeLines s code thread (getD sizes thread 0) 0 ≡ showCode (textAt s) thread 0 (threadCode (b .stmt))
+      → codeLines s ds code thread (getD sizes thread 0) 0 ≡ showCode (textAt s ds) thread 0 (threadCode (b .stmt))
   lines-thread {b = b} x thread t =
       let k : getD sizes thread 0 ≡ size (b .stmt) + 1 = ap (λ (i : ℕ). getD sizes i 0) (add-zero′ thread) ∙ t .sized 0 (omega arith) in
       let n = threadCode-size (b .stmt) in
-      lines-code code thread (thread-placed c s x) (getD sizes thread 0) 0 (k ∙ sym n)
+      lines-code ds code thread (thread-placed c s x) (getD sizes thread 0) 0 (k ∙ sym n)
       (λ i h. ap (fetchAt s code thread) (zero-add′ i) ∙ ap (λ (j : ℕ). fetchAt s code j i) (add-zero′ thread) ∙ t .fetched 0 i (omega arith) (omega arith))
 
   lines-threads : (n p : ℕ) {l : reading.Listed (Stmt ℕ)} → readThreads (located s) c s n p ≡ ok l → (ts : List (Stmt ℕ)) → l .items ≡ ts
-      → (thread : ℕ) → Tabled thread ts → threadLines s code sizes (length ts) thread ≡ showThreads (textAt s) thread ts
+      → (thread : ℕ) → Tabled thread ts → threadLines s ds code sizes (length ts) thread ≡ showThreads (textAt s ds) thread ts
   unfolding readThreads threadLines showThreads
   lines-threads zero p {l} h ts q thread t =
       let x : [] ≡ ts = ap items (ok-injective h) ∙ q in
@@ -139,27 +140,24 @@ module _ (c : Scope) (s code sizes : List ℕ) where
 
 -- ---- the sheet
 
-tabled : (c : Scope) (s : List ℕ) {threads : List (Stmt ℕ)} {k : Compiled} → Compiles s threads k → Tabled c s (k .code) (k .sizes) 0 threads
-tabled c s {threads} {k} h =
+tabled : (c : Scope) (s ds : List ℕ) {threads : List (Stmt ℕ)} {k : Compiled} → Compiles s threads k → Tabled c s ds (k .code) (k .sizes) 0 threads
+tabled c s ds {threads} {k} h =
     record {
       sized = λ i l. ap (λ (j : ℕ). getD (k .sizes) j 0) (zero-add′ i) ∙ h .size-of i l;
       fetched = λ i p l b. ap (λ (j : ℕ). fetchAt s (k .code) j p) (zero-add′ i) ∙ h .fetched i p l b;
     }
 
 pub table-listing : (s : List ℕ) (r : Sheet ℕ) → readSheet (located s) s ≡ ok r
-    → tableListing s (length (r .contents .threads)) (r .body) ≡ showModule (textAt s) (r .contents)
-unfolding readSheet tableListing showModule
+    → tableListing s (definitionsOf (r .definitions)) (length (r .contents .threads)) (r .body)
+    ≡ showModule (textAt s (definitionsOf (r .definitions))) (r .contents)
+unfolding tableListing showModule
 table-listing s r e =
-    let k = check-ok (leb (length s) 8192) 1 8192 _ e in
-    let h = bind-ok (readHead s) _ (k .1) in
-    let sc = h .0 .scope in
-    let es = bind-ok (readWires (located s) sc s (h .0 .wires) (sc .inputs + sc .registers) (h .0 .next)) _ (h .2) in
-    let ts = bind-ok (readThreads (located s) sc s (h .0 .threads) (es .0 .next)) _ (es .2) in
-    let z = check-ok (eqb (ts .0 .next) (length s)) 10 (ts .0 .next) _ (ts .2) in
-    let x : ts .0 .items ≡ r .contents .threads = ap threads-of (ok-injective (z .1)) in
-    let t = tabled sc s (compile-law s (replicate 4096 0) r e (length-replicate {A = ℕ} 4096 0)) in
+    let x = sections (located s) s e in
+    let c = scopeWith (x .head) (x .functions) in
+    let ds = definitionsOf (r .definitions) in
+    let t = tabled c s ds (compile-law s (replicate 4096 0) r e (length-replicate {A = ℕ} 4096 0)) in
     ap (λ (l : List ℕ). showHead (length (r .contents .threads)) ++ l)
-    (lines-threads sc s _ _ (h .0 .threads) (es .0 .next) (ts .1) (r .contents .threads) x 0 t)
+    (lines-threads c s ds _ _ (x .head .threads) (x .wires .next) (x .threads-read) (r .contents .threads) (sym (ap threads-of (x .made))) 0 t)
   where
     threads-of : Sheet ℕ → List (Stmt ℕ)
     threads-of q = q .contents .threads
@@ -198,7 +196,7 @@ module _ (s : List ℕ) (r : SheetRead) (e : r ≡ sheetAnswer (readSheet (locat
 
   -- The table's lines are the listing.
   listing-table : (q : Sheet ℕ) → readSheet (located s) s ≡ ok q →
-      listing (trees s q .contents) ≡ tableListing s (r .layout .threads) (r .layout .body)
+      listing (trees s q .contents) ≡ tableListing s (r .layout .definitions) (r .layout .threads) (r .layout .body)
   unfolding output printed printedAt mapRes sheetAnswer layoutOf
   listing-table q g =
       let a : r ≡ sheetAnswer (ok q) = e ∙ ap sheetAnswer g in
@@ -206,10 +204,10 @@ module _ (s : List ℕ) (r : SheetRead) (e : r ≡ sheetAnswer (readSheet (locat
       ∙ output-located s
       ∙ ap (printedAt s) g
       ∙ sym (table-listing s q g)
-      ∙ sym (ap (λ (x : SheetRead). tableListing s (x .layout .threads) (x .layout .body)) a)
+      ∙ sym (ap (λ (x : SheetRead). tableListing s (x .layout .definitions) (x .layout .threads) (x .layout .body)) a)
 
   pub list-read : r .number ≡ 0 → (l : List ℕ) {b : List ℕ} {n : ℕ} →
-      filled b n ≡ puts (filled l 0) (tableListing s (r .layout .threads) (r .layout .body)) →
+      filled b n ≡ puts (filled l 0) (tableListing s (r .layout .definitions) (r .layout .threads) (r .layout .body)) →
       Listing (record { number = 0; length = n }) l b
   unfolding sheetAnswer mapRes listed laidIn
   list-read h l {b} {n} w = by (readSheet (located s) s) refl

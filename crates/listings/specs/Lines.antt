@@ -8,20 +8,20 @@ use Rattle.pseudocode.specs.Fetching.{fetchAt}
 use Rattle.text.specs.Listing.{showLine, showHead}
 use Rattle.text.specs.Printing.{textAt, instrOf}
 
--- n instructions of a thread, the first at this place.
-unfoldable pub codeLines : List ℕ → List ℕ → ℕ → ℕ → ℕ → List ℕ
-codeLines s code thread zero place = []
-codeLines s code thread (suc n) place =
-    showLine (textAt s) thread place (instrOf (fetchAt s code thread place)) ++ codeLines s code thread n (place + 1)
+-- n instructions of a thread, the first at this place. The functions' definitions stand at the places ds.
+unfoldable pub codeLines : List ℕ → List ℕ → List ℕ → ℕ → ℕ → ℕ → List ℕ
+codeLines s ds code thread zero place = []
+codeLines s ds code thread (suc n) place =
+    showLine (textAt s ds) thread place (instrOf (fetchAt s code thread place)) ++ codeLines s ds code thread n (place + 1)
 
 -- n threads, the first with this number.
-unfoldable pub threadLines : List ℕ → List ℕ → List ℕ → ℕ → ℕ → List ℕ
-threadLines s code sizes zero thread = []
-threadLines s code sizes (suc n) thread =
-    codeLines s code thread (getD sizes thread 0) 0 ++ threadLines s code sizes n (thread + 1)
+unfoldable pub threadLines : List ℕ → List ℕ → List ℕ → List ℕ → ℕ → ℕ → List ℕ
+threadLines s ds code sizes zero thread = []
+threadLines s ds code sizes (suc n) thread =
+    codeLines s ds code thread (getD sizes thread 0) 0 ++ threadLines s ds code sizes n (thread + 1)
 
 -- The listing by the code table that `compile` fills from an empty one.
-unfoldable pub tableListing : List ℕ → ℕ → ℕ → List ℕ
-tableListing s threads body =
-    let c = compileAt s threads body (replicate 4096 0) in
-    showHead threads ++ threadLines s (c .code) (c .sizes) threads 0
+unfoldable pub tableListing : List ℕ → List ℕ → ℕ → ℕ → List ℕ
+tableListing s ds threads body =
+    let c = compileAt s ds threads body (replicate 4096 0) in
+    showHead threads ++ threadLines s ds (c .code) (c .sizes) threads 0

@@ -18,19 +18,20 @@ pub struct Listed {
 // The lines of one thread.
 fn print_code(
     sheet: &[u8],
+    definitions: &[usize; 8],
     code: &[u16; 4096],
     thread: usize,
     size: usize,
     text: &mut [u8; 65536],
     pos: usize,
 ) -> usize
-    ensures { λ r. ⌜ filled (now (text .exit)) r ≡ puts (filled (now (text .entry)) pos) (codeLines (now (sheet .entry)) (now (code .entry)) thread size 0) ⌝ }
+    ensures { λ r. ⌜ filled (now (text .exit)) r ≡ puts (filled (now (text .entry)) pos) (codeLines (now (sheet .entry)) (now (definitions .entry)) (now (code .entry)) thread size 0) ⌝ }
 {
     let mut p = pos;
     let mut place = 0;
     while place < size {
         let i = pseudocode::fetch(sheet, code, thread, place);
-        p = text::print_line(sheet, thread, place, i, text, p);
+        p = text::print_line(sheet, definitions, thread, place, i, text, p);
         place += 1;
     }
     p
@@ -46,33 +47,40 @@ fn size_at(sizes: [usize; 8], thread: usize) -> usize
 // The lines of the first threads.
 fn print_threads(
     sheet: &[u8],
+    definitions: &[usize; 8],
     code: &[u16; 4096],
     sizes: [usize; 8],
     threads: usize,
     text: &mut [u8; 65536],
     pos: usize,
 ) -> usize
-    ensures { λ r. ⌜ filled (now (text .exit)) r ≡ puts (filled (now (text .entry)) pos) (threadLines (now (sheet .entry)) (now (code .entry)) sizes threads 0) ⌝ }
+    ensures { λ r. ⌜ filled (now (text .exit)) r ≡ puts (filled (now (text .entry)) pos) (threadLines (now (sheet .entry)) (now (definitions .entry)) (now (code .entry)) sizes threads 0) ⌝ }
 {
     let mut p = pos;
     let mut thread = 0;
     while thread < threads {
         let size = size_at(sizes, thread);
-        p = print_code(sheet, code, thread, size, text, p);
+        p = print_code(sheet, definitions, code, thread, size, text, p);
         thread += 1;
     }
     p
 }
 
 // The listing of an accepted sheet with so many threads, the first one's statement at `body`.
-fn print_listing(sheet: &[u8], threads: u8, body: usize, text: &mut [u8; 65536]) -> usize
-    ensures { λ r. ⌜ filled (now (text .exit)) r ≡ puts (filled (now (text .entry)) 0) (tableListing (now (sheet .entry)) threads body) ⌝ }
+fn print_listing(
+    sheet: &[u8],
+    definitions: &[usize; 8],
+    threads: u8,
+    body: usize,
+    text: &mut [u8; 65536],
+) -> usize
+    ensures { λ r. ⌜ filled (now (text .exit)) r ≡ puts (filled (now (text .entry)) 0) (tableListing (now (sheet .entry)) (now (definitions .entry)) threads body) ⌝ }
 {
     let mut code = [0u16; 4096];
-    let sizes = pseudocode::compile(sheet, threads, body, &mut code);
+    let sizes = pseudocode::compile(sheet, definitions, threads, body, &mut code);
     let count = threads as usize;
     let p = text::print_head(count, text, 0);
-    print_threads(sheet, &code, sizes, count, text, p)
+    print_threads(sheet, definitions, &code, sizes, count, text, p)
 }
 
 // The listing of a sheet is put at the front of the buffer, and what lies behind it stays. A refused sheet leaves the buffer as it was.
@@ -87,7 +95,13 @@ pub fn list(sheet: &[u8], text: &mut [u8; 65536]) -> Listed
         return Listed { number, length: 0 };
     }
     let layout = read.layout;
-    let length = print_listing(sheet, layout.threads, layout.body, text);
+    let length = print_listing(
+        sheet,
+        &layout.definitions,
+        layout.threads,
+        layout.body,
+        text,
+    );
     Listed { number: 0, length }
 }
 

@@ -52,7 +52,7 @@ body =
 unfoldable pub feeder : Module Expr
 feeder =
     record {
-      scope = record { inputs = 2; registers = 2; widths = 1 ∷ 4 ∷ 4 ∷ 4 ∷ 4 ∷ [] };
+      scope = record { inputs = 2; registers = 2; widths = 1 ∷ 4 ∷ 4 ∷ 4 ∷ 4 ∷ []; declared = 0; functions = [] };
       wires = binary 6 4 (variable 2) (variable 3) ∷ [];
       threads = body ∷ sequence (wait (record { edge = Change; variable = 2 } ∷ [])) (assign 2 (constant 4 0)) ∷ [];
     }

@@ -25,8 +25,8 @@ use Rattle.rules.proofs.Rules.{sizeOf-at, low, waits-in, waits-law}
 use Rattle.named_findings.specs.Items.{waitsWith, waitsUnder, waitsAt}
 use Rattle.named_findings.specs.Claims.{WaitsCounted}
 
-module _ {s : List ℕ} {m : Module Expr} {starts sizes code readers : List ℕ} {watched : List Bool}
-    (z : Sound m) (h : Holding s m starts sizes code readers watched) (e : Expressions s m code) where
+module _ {s ds : List ℕ} {m : Module Expr} {starts sizes code readers : List ℕ} {watched : List Bool}
+    (z : Sound m) (h : Holding s m starts sizes code readers watched) (e : Expressions s ds m code) where
   with-tables : (i p : ℕ) → i < length (m .threads) → p ≤ length (codeOf m i)
       → waitsWith s i p code sizes ≡ waitsBelow m i + waitsBefore (codeOf m i) p
   unfolding waitsWith

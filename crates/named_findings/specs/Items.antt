@@ -23,7 +23,7 @@ waitsWith s i p code sizes = waitsOf s code sizes (atMost 8 i) + waitsIn s code 
 
 unfoldable pub waitsUnder : List ℕ → ℕ → ℕ → Layout → ℕ
 waitsUnder s i p l =
-    let c = compileAt s (l .threads) (l .body) (replicate 4096 0) in
+    let c = compileAt s (l .definitions) (l .threads) (l .body) (replicate 4096 0) in
     waitsWith s i p (c .code) (c .sizes)
 
 unfoldable pub waitsAt : List ℕ → ℕ → ℕ → ℕ

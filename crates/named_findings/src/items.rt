@@ -41,7 +41,13 @@ pub fn waits_before(sheet: &[u8], thread: usize, place: usize) -> usize
 {
     let layout = sheet::read(sheet).layout;
     let mut code = [0u16; 4096];
-    let sizes = pseudocode::compile(sheet, layout.threads, layout.body, &mut code);
+    let sizes = pseudocode::compile(
+        sheet,
+        &layout.definitions,
+        layout.threads,
+        layout.body,
+        &mut code,
+    );
     waits_with(sheet, &code, &sizes, thread, place)
 }
 

@@ -13,8 +13,8 @@ use lib.Dec.{eqb, leb}
 use borrow.Author.Tests.{not-false, eqb-true, ne-eqb, leb-false}
 use Rattle.values.specs.Values.{pick}
 use Rattle.sheet.specs.declared.EdgeTerm.{EdgeTerm}
-use Rattle.sheet.specs.Expression.{Expr}
-use Rattle.sheet.specs.Statement.{Scope, Stmt, empty, assign, later, sequence, ifThen, ifElse, while, forever, wait}
+use Rattle.sheet.specs.Expression.{Expr, Scope}
+use Rattle.sheet.specs.Statement.{Stmt, empty, assign, later, sequence, ifThen, ifElse, while, forever, wait}
 use Rattle.sheet.specs.Module.{Module}
 use Rattle.evaluation.specs.Evaluation.{reads}
 use Rattle.pseudocode.specs.Translation.{Instr, wait!, set!, later!, go, translate, threadCode}

@@ -17,7 +17,8 @@ use Rattle.sheet.specs.declared.EdgeTerm.{EdgeTerm}
 use Rattle.sheet.specs.Reading.{ok, no, byteAt, within, word, wordOf, wordAt}
 use Rattle.sheet.specs.Expression.{Expr, variable, constant, unknown, unary, binary, kindOf, variableAt, node, readExpr, tree}
 use Rattle.sheet.specs.Statement.{Stmt, empty, assign, later, sequence, ifThen, ifElse, while, forever, wait, size, isRegister, readTerms, narrow, narrowAll, formOf, assignment, form, readStmt}
-use Rattle.sheet.specs.Module.{Module, readWidths, readHead, readWires, readThreads, readSheet, read}
+use Rattle.sheet.specs.Functions.{readWidths, readFunctions}
+use Rattle.sheet.specs.Module.{Module, inputsOf, firstAt, functionCount, widthsAt, readHead, readWires, readThreads, wholeSheet, readSheet, read}
 use Rattle.evaluation.specs.Evaluation.{eval, reads}
 use Rattle.pseudocode.specs.Translation.{translate, threadCode}
 use Rattle.state.specs.Rows.{listOf}
@@ -36,7 +37,7 @@ use Rattle.nextstate.specs.CycleRun.{width?, nodeFits, nodesFit, widthsF
 -- ---- what the samples compute with: an `unfolding` line that names one of these opens all that its own line names
 
 unfoldable pub reading : Unit {0}
-unfolding read readSheet readHead readWidths readWires readThreads readStmt form formOf assignment readTerms narrowAll narrow isRegister size tree readExpr kindOf node variableAt wordAt wordOf word within byteAt edgeOf operators.unaryWidth operators.binaryWidth
+unfolding read readSheet wholeSheet readHead firstAt inputsOf functionCount widthsAt readWidths readFunctions readWires readThreads readStmt form formOf assignment readTerms narrowAll narrow isRegister size tree readExpr kindOf node variableAt wordAt wordOf word within byteAt edgeOf operators.unaryWidth operators.binaryWidth
 reading = tt
 
 unfoldable pub judging : Unit {0}
@@ -64,7 +65,7 @@ row l p = l ++ (replicate (32 - length l) 0 ++ (p ∷ []))
 abbrev pub flipFlop : Module Expr
 flipFlop =
     record {
-      scope = record { inputs = 2; registers = 1; widths = 1 ∷ 8 ∷ 8 ∷ [] };
+      scope = record { inputs = 2; registers = 1; widths = 1 ∷ 8 ∷ 8 ∷ []; declared = 0; functions = [] };
       wires = [];
       threads = sequence posedge-clock (later 2 (variable 1)) ∷ [];
     }
@@ -151,7 +152,7 @@ threads-of ts = module-of 2 (8 ∷ 8 ∷ []) [] ts
 abbrev deciding : Module Expr
 deciding =
     record {
-      scope = record { inputs = 2; registers = 2; widths = 1 ∷ 8 ∷ 8 ∷ 8 ∷ [] };
+      scope = record { inputs = 2; registers = 2; widths = 1 ∷ 8 ∷ 8 ∷ 8 ∷ []; declared = 0; functions = [] };
       wires = [];
       threads =
           on-clock
@@ -262,7 +263,7 @@ rule-14 = (refl, refl, refl, refl, refl)
 -- Inputs 0 and 1 of width 1, and a thread that waits.
 abbrev waiting : List EdgeTerm → Module Expr
 waiting ts =
-    record { scope = record { inputs = 2; registers = 1; widths = 1 ∷ 1 ∷ 8 ∷ [] }; wires = []; threads = wait ts ∷ [] }
+    record { scope = record { inputs = 2; registers = 1; widths = 1 ∷ 1 ∷ 8 ∷ []; declared = 0; functions = [] }; wires = []; threads = wait ts ∷ [] }
 
 -- "15 a wait other than the single posedge of input 0."
 pub rule-15 :
@@ -340,7 +341,7 @@ rule-20 = (refl, refl, refl, refl)
 abbrev branching : Module Expr
 branching =
     record {
-      scope = record { inputs = 2; registers = 1; widths = 1 ∷ 1 ∷ 8 ∷ [] };
+      scope = record { inputs = 2; registers = 1; widths = 1 ∷ 1 ∷ 8 ∷ []; declared = 0; functions = [] };
       wires = [];
       threads = on-clock (ifElse (variable 1) (later 2 (constant 8 1)) (later 2 (constant 8 2))) ∷ [];
     }
@@ -407,7 +408,7 @@ swapped-by-a-rise a b = (refl, refl)
 abbrev chain-of : Expr → Expr → Module Expr
 chain-of a b =
     record {
-      scope = record { inputs = 2; registers = 1; widths = 1 ∷ 8 ∷ 8 ∷ 8 ∷ 8 ∷ [] };
+      scope = record { inputs = 2; registers = 1; widths = 1 ∷ 8 ∷ 8 ∷ 8 ∷ 8 ∷ []; declared = 0; functions = [] };
       wires = a ∷ b ∷ [];
       threads = on-clock (later 2 (variable 4)) ∷ [];
     }

@@ -41,7 +41,7 @@ watchdog-sheet =
 unfoldable pub watchdog : Module Expr
 watchdog =
     record {
-      scope = record { inputs = 5; registers = 4; widths = 1 ∷ 1 ∷ 12 ∷ 8 ∷ 1 ∷ 12 ∷ 8 ∷ 1 ∷ 16 ∷ 1 ∷ 1 ∷ [] };
+      scope = record { inputs = 5; registers = 4; widths = 1 ∷ 1 ∷ 12 ∷ 8 ∷ 1 ∷ 12 ∷ 8 ∷ 1 ∷ 16 ∷ 1 ∷ 1 ∷ []; declared = 0; functions = [] };
       wires = binary 8 12 (variable 2) (variable 5) ∷ binary 8 8 (variable 6) (variable 3) ∷ [];
       threads =
           sequence posedge-clock
@@ -148,7 +148,7 @@ turnstile-sheet =
 unfoldable pub turnstile : Module Expr
 turnstile =
     record {
-      scope = record { inputs = 3; registers = 4; widths = 1 ∷ 1 ∷ 4 ∷ 4 ∷ 4 ∷ 1 ∷ 1 ∷ 1 ∷ 1 ∷ [] };
+      scope = record { inputs = 3; registers = 4; widths = 1 ∷ 1 ∷ 4 ∷ 4 ∷ 4 ∷ 1 ∷ 1 ∷ 1 ∷ 1 ∷ []; declared = 0; functions = [] };
       wires = binary 8 4 (variable 3) (variable 2) ∷ binary 3 1 (variable 1) (unary 2 1 (variable 7)) ∷ [];
       threads =
           sequence posedge-clock

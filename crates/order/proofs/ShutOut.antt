@@ -113,7 +113,7 @@ the-sheet =
 unfoldable the-module : Module Expr
 the-module =
     record {
-      scope = record { inputs = 2; registers = 2; widths = 1 ∷ 8 ∷ 8 ∷ 8 ∷ 8 ∷ [] };
+      scope = record { inputs = 2; registers = 2; widths = 1 ∷ 8 ∷ 8 ∷ 8 ∷ 8 ∷ []; declared = 0; functions = [] };
       wires = variable 1 ∷ [];
       threads =
           sequence posedge-clock (ifElse (variable 3) (later 2 (constant 8 1)) (later 2 (variable 4)))
@@ -205,7 +205,7 @@ nine-sheet =
 unfoldable nine : Module Expr
 nine =
     record {
-      scope = record { inputs = 2; registers = 1; widths = 1 ∷ 8 ∷ 8 ∷ [] };
+      scope = record { inputs = 2; registers = 1; widths = 1 ∷ 8 ∷ 8 ∷ []; declared = 0; functions = [] };
       wires = [];
       threads = sequence posedge-clock (later 2 (constant 8 9)) ∷ [];
     }

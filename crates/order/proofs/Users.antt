@@ -6,7 +6,7 @@ use mathlib.Core.Logic.{_≢_}
 use mathlib.Core.Bool.{Bool, true, false}
 use mathlib.Core.List.{List, [], _∷_}
 use mathlib.Core.Option.{none}
-use Prim.Native.Nat.{ℕ, _+_, _<_}
+use Prim.Native.Nat.{ℕ, _+_, _≤_, _<_}
 use native.Mathlib.Omega.{arith}
 use lib.ListN.{length}
 use lib.Dec.{eqb}
@@ -22,6 +22,7 @@ use Rattle.soundness.specs.Soundness.{Sound}
 use Rattle.soundness.proofs.Soundness.{sound}
 use Rattle.events.specs.declared.Inputs.{Inputs}
 use Rattle.events.specs.Calls.{started, startOf, start, judged, choose, runList, runPlain, instant}
+use Rattle.events.specs.Refused.{RunRefused, the-sheet, a-later-function, a-barred-body, the-state, the-user}
 use Rattle.events.proofs.Accepted.{numbered}
 use Rattle.events.proofs.Fits.{CountsFit, shaped-started, fits-started, time-started, count-started, allowance-started}
 use Rattle.events.proofs.Runs.{time-chain, count-chain, other-count-chain, allowance-chain}
@@ -190,15 +191,22 @@ module _ (s : List ℕ) (m : Module Expr) (e : read s ≡ ok m) (w : Sound m) wh
 
 -- ---- a sheet that isn't: every call is refused
 
+some-number : {n : ℕ} → RunRefused n → 1 ≤ n
+some-number (the-sheet l h) = l
+some-number a-later-function = omega arith
+some-number a-barred-body = omega arith
+some-number the-state = omega arith
+some-number the-user = omega arith
+
 module _ (s : List ℕ) (n p : ℕ) (e : read s ≡ no n p) where
   refused-all : (st : State) (k : Call) → Counted s st k (called s st k) × (called s st k .state ≡ st)
   unfolding called chosen ran rested instanced choose runList runPlain instant judged
   refused-all st (a-choice u c) =
-      rw e (counted-nothing s st (a-choice u c) _ refl (rw (ne-eqb n 0 (λ q. omega (arith, numbered s n p e .0))) refl) refl, refl)
+      rw e (counted-nothing s st (a-choice u c) _ refl (rw (ne-eqb n 0 (λ q. omega (arith, q, some-number (numbered s n p e)))) refl) refl, refl)
   refused-all st (a-run u cs) = rw e (counted-nothing s st (a-run u cs) _ refl refl refl, refl)
   refused-all st (a-plain-run u k) = rw e (counted-nothing s st (a-plain-run u k) _ refl refl refl, refl)
   refused-all st (an-instant a) =
-      rw e (counted-nothing s st (an-instant a) _ refl refl (rw (ne-eqb n 0 (λ q. omega (arith, numbered s n p e .0))) refl), refl)
+      rw e (counted-nothing s st (an-instant a) _ refl refl (rw (ne-eqb n 0 (λ q. omega (arith, q, some-number (numbered s n p e)))) refl), refl)
 
   refused-start : (allowances : List ℕ) → start s allowances .state ≡ started [] 0 allowances
   unfolding start startOf

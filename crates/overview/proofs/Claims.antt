@@ -13,7 +13,7 @@ use Rattle.values.specs.Values.{pick}
 use Rattle.sheet.specs.Reading.{ok}
 use Rattle.sheet.specs.Expression.{Expr, located}
 use Rattle.sheet.specs.Module.{Module, Sheet, readSheet, read}
-use Rattle.sheet.specs.Answers.{layoutOf}
+use Rattle.sheet.specs.Answers.{definitionsOf, layoutOf}
 use Rattle.pseudocode.specs.declared.Instruction.{Instruction}
 use Rattle.pseudocode.specs.declared.Instruction.the-variants.{Wait, Act}
 use Rattle.pseudocode.specs.Translation.{Instr}
@@ -154,8 +154,8 @@ head-fetched (a-later q) e i p = cc
 head-fetched a-go e i p = cc
 head-fetched (an-ifnot q) e i p = cc
 
-module _ {s : List ℕ} {m : Module Expr} {starts sizes code readers : List ℕ} {watched : List Bool}
-    (z : Sound m) (h : Holding s m starts sizes code readers watched) (e : Expressions s m code) where
+module _ {s ds : List ℕ} {m : Module Expr} {starts sizes code readers : List ℕ} {watched : List Bool}
+    (z : Sound m) (h : Holding s m starts sizes code readers watched) (e : Expressions s ds m code) where
   abbrev all : List ℕ
   all = headsOf s code sizes (length (m .threads))
 
@@ -189,6 +189,6 @@ module _ {s : List ℕ} {m : Module Expr} {starts sizes code readers : List ℕ}
 pub heads-stand : HeadsStand
 unfolding HeadsStand headed layoutOf
 heads-stand s x m h e code heads long room =
-    let c = compileAt s (length (x .contents .threads)) (x .body) code in
+    let c = compileAt s (definitionsOf (x .definitions)) (length (x .contents .threads)) (x .body) code in
     subst (λ (n : ℕ). Headed m (notes (noted heads 0) (headsOf s (c .code) (c .sizes) n))) (sym (threads-same s x m h e))
     (all-headed (sound s e) (holding-filled s x m h e code long) (expressed s code x m h e long) heads room)

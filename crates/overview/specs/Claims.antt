@@ -19,7 +19,7 @@ use Rattle.overview.specs.Heads.{Noted, noted, headsOf, notes}
 unfoldable pub headed : List ℕ → Sheet ℕ → List ℕ → List ℕ → Noted
 headed s x code heads =
     let l = layoutOf x in
-    let c = compileAt s (l .threads) (l .body) code in
+    let c = compileAt s (l .definitions) (l .threads) (l .body) code in
     notes (noted heads 0) (headsOf s (c .code) (c .sizes) (l .threads))
 
 -- As many heads as the threads of the module have waits; and over the row of thread i's wait at place p, of the 32 that the table has

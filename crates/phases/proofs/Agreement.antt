@@ -9,8 +9,7 @@ use lib.ListN.{length}
 use borrow.Author.Tests.{lt-ltb}
 use Rattle.values.specs.declared.Value.{Value}
 use Rattle.values.specs.Values.{pick, known, same}
-use Rattle.sheet.specs.Expression.{Expr}
-use Rattle.sheet.specs.Statement.{Scope}
+use Rattle.sheet.specs.Expression.{Expr, Scope}
 use Rattle.sheet.specs.Module.{Module}
 use Rattle.pseudocode.specs.Translation.{Instr}
 use Rattle.soundness.specs.Soundness.{Sound, SoundInstr, sound-wait, sound-set, sound-later, sound-go, sound-ifnot}

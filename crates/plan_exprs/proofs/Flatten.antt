@@ -4,7 +4,7 @@ use mathlib.Core.Logic.{_≢_}
 use mathlib.Core.Bool.{Bool, true, false}
 use mathlib.Core.List.{List}
 use Prim.Native.Nat.{ℕ, zero, suc, _+_, _*_, _%_, _^_, _<_, _≤_}
-use native.Mathlib.Nat.{mod-eq-of-lt}
+use native.Mathlib.Nat.{mod-eq-of-lt, not-suc-le-zero}
 use native.Mathlib.Omega.{arith}
 use borrow.Author.Tests.{lt-ltb}
 use lib.Dec.{ltb, eqb}
@@ -14,7 +14,7 @@ use Rattle.values.specs.Values.{pick, _is_then_else_}
 use Rattle.values.specs.Operators.{unaryWidth, binaryWidth}
 use Rattle.values.proofs.Values.{below-wider}
 use Rattle.sheet.specs.Reading.{wordOf}
-use Rattle.sheet.specs.Expression.{Expr, variable, constant, unknown, unary, binary, conditional, call, Parsed}
+use Rattle.sheet.specs.Expression.{Expr, variable, constant, unknown, unary, binary, conditional, call, Scope, Parsed}
 use Rattle.sheet.proofs.Expression as reading
 use Rattle.sheet.proofs.Expression.{Reads, reads-after}
 use Rattle.plan.specs.Plan.{Node, node, nodeAt, widthAt}
@@ -373,35 +373,48 @@ variable-laid vs n v next ws w l =
       long = refl;
     }
 
-module _ (vs s : List ℕ) (size : length s ≤ 8192) where
-  pub add-flat : {d p : ℕ} {q : Parsed Expr} (n : ℕ) (ws : List ℕ) → Widths vs ws → n + count (q .item) ≤ 4176
-      → Reads vs s d p q → Laid (length vs) n ws q (addAt d s p n ws)
+-- A function is called only where there are some.
+no-function : (c : Scope) → c .declared ≡ 0 → {n : ℕ} → n < c .declared → ⊥
+no-function c e l = not-suc-le-zero (rw e at l)
+
+-- The scope has no functions: no call was read. By the depth.
+module _ (c : Scope) (alone : c .declared ≡ 0) (s : List ℕ) (size : length s ≤ 8192) where
+  abbrev vs : List ℕ
+  vs = c .widths
+
+  flat-by : (d : ℕ) {p : ℕ} {q : Parsed Expr} (n : ℕ) (ws : List ℕ) → Widths vs ws → n + count (q .item) ≤ 4176
+      → Reads c s d p q → Laid (length vs) n ws q (addAt d s p n ws)
   unfolding count
-  add-flat {p = p} n ws w r (reading.a-variable {d = d} {v = v} m h e l) =
+  flat-by (suc d) {p = p} n ws w r (reading.a-variable {v = v} m h e l) =
       rw (at-variable s d p n ws (omega arith) v m e) (variable-laid vs n v (p + 2) ws w l)
-  add-flat {p = p} n ws w r (reading.a-constant {d = d} {w = x} {v = v} m b h e l) =
+  flat-by (suc d) {p = p} n ws w r (reading.a-constant {w = x} {v = v} m b h e l) =
       rw (at-constant s d p n ws (omega arith) x v m (b .same) e) (constant-laid (length vs) n ws (w .long) r x v (p + 6) (b .most) l)
-  add-flat {p = p} n ws w r (reading.an-unknown {d = d} {w = x} m b) =
+  flat-by (suc d) {p = p} n ws w r (reading.an-unknown {w = x} m b) =
       let h = b .below in
       rw (at-unknown s d p n ws (omega arith) x m (b .same)) (unknown-laid (length vs) n ws (w .long) r x (p + 2) (b .most))
-  add-flat {p = p} n ws w r (reading.a-unary {d = d} {o = o} {a = a} m b x) =
+  flat-by (suc d) {p = p} n ws w r (reading.a-unary {o = o} {a = a} m b x) =
       let h = b .below in
       rw (at-unary s d p n ws (omega arith) o m (b .same))
-      (unary-step s (addAt d s) (length vs) n (p + 2) ws (w .long) a (add-flat n ws w (omega arith) x) o r (b .least) (b .most))
-  add-flat {p = p} n ws w r (reading.a-binary {d = d} {o = o} {a = a} {b = c} m b x1 x2 e) =
+      (unary-step s (addAt d s) (length vs) n (p + 2) ws (w .long) a (flat-by d n ws w (omega arith) x) o r (b .least) (b .most))
+  flat-by (suc d) {p = p} n ws w r (reading.a-binary {o = o} {a = a} {b = g} m b x1 x2 e) =
       let h = b .below in
-      let y = add-flat n ws w (omega arith) x1 in
+      let y = flat-by d n ws w (omega arith) x1 in
       rw (at-binary s d p n ws (omega arith) o m (b .same))
-      (binary-step s (addAt d s) (length vs) n (p + 2) ws (w .long) a y c
-      (add-flat (n + count (a .item)) (addAt d s (p + 2) n ws .words) (after-widths vs ws (addAt d s (p + 2) n ws) y w) (omega arith) x2)
+      (binary-step s (addAt d s) (length vs) n (p + 2) ws (w .long) a y g
+      (flat-by d (n + count (a .item)) (addAt d s (p + 2) n ws .words) (after-widths vs ws (addAt d s (p + 2) n ws) y w) (omega arith) x2)
       o r (b .least) (b .most))
-  add-flat {p = p} n ws w r (reading.a-conditional {d = d} {c = f} {a = a} {b = c} m b x0 x1 x2 e) =
+  flat-by (suc d) {p = p} n ws w r (reading.a-conditional {q = f} {a = a} {b = g} m b x0 x1 x2 e) =
       let h = b .below in
       let t = addAt d s (p + 2) n ws in
-      let y = add-flat n ws w (omega arith) x0 in
+      let y = flat-by d n ws w (omega arith) x0 in
       let w2 = after-widths vs ws t y w in
       let t2 = addAt d s (f .next) (n + count (f .item)) (t .words) in
-      let z = add-flat (n + count (f .item)) (t .words) w2 (omega arith) x1 in
+      let z = flat-by d (n + count (f .item)) (t .words) w2 (omega arith) x1 in
       rw (at-conditional s d p n ws (omega arith) m)
-      (conditional-step s (addAt d s) (length vs) n (p + 2) ws (w .long) f y a z c
-      (add-flat (n + count (f .item) + count (a .item)) (t2 .words) (after-widths vs (t .words) t2 z w2) (omega arith) x2) r)
+      (conditional-step s (addAt d s) (length vs) n (p + 2) ws (w .long) f y a z g
+      (flat-by d (n + count (f .item) + count (a .item)) (t2 .words) (after-widths vs (t .words) t2 z w2) (omega arith) x2) r)
+  flat-by (suc d) n ws w r (reading.a-call m h e l f es x) = absurd (no-function c alone l)
+
+  pub add-flat : {d p : ℕ} {q : Parsed Expr} (n : ℕ) (ws : List ℕ) → Widths vs ws → n + count (q .item) ≤ 4176
+      → Reads c s d p q → Laid (length vs) n ws q (addAt d s p n ws)
+  add-flat {d} = flat-by d

@@ -5,7 +5,7 @@ use mathlib.Core.List.{List}
 use Prim.Native.Nat.{ℕ, _+_, _≤_, _<_}
 use lib.ListN.{length}
 use Rattle.values.specs.declared.Value.{Value}
-use Rattle.sheet.specs.Expression.{Parsed, Expr}
+use Rattle.sheet.specs.Expression.{Expr, Scope, Parsed}
 use Rattle.sheet.proofs.Expression.{Reads}
 use Rattle.evaluation.specs.Evaluation.{eval}
 use Rattle.values.specs.Cells.{cellAt}
@@ -15,11 +15,11 @@ use Rattle.plan_nodes.proofs.Flat.{flat-eval}
 use Rattle.plan_exprs.specs.Flatten.{addAt}
 use Rattle.plan_exprs.proofs.Flatten.{count, Widths, add-flat}
 
-pub worked : (vs s : List ℕ) → length s ≤ 8192 → {d p : ℕ} {q : Parsed Expr} → Reads vs s d p q
-    → (n : ℕ) (ws : List ℕ) → Widths vs ws → length vs ≤ n → n + count (q .item) ≤ 4176
-    → (cs : List ℕ) (env : ℕ → Value) → length cs ≡ 4176 → ((v : ℕ) → v < length vs → cellAt cs v ≡ env v)
+pub worked : (c : Scope) → c .declared ≡ 0 → (s : List ℕ) → length s ≤ 8192 → {d p : ℕ} {q : Parsed Expr} → Reads c s d p q
+    → (n : ℕ) (ws : List ℕ) → Widths (c .widths) ws → length (c .widths) ≤ n → n + count (q .item) ≤ 4176
+    → (cs : List ℕ) (env : ℕ → Value) → length cs ≡ 4176 → ((v : ℕ) → v < length (c .widths) → cellAt cs v ≡ env v)
     → let r = addAt d s p n ws in
     cellAt (workFrom (nodeAt (r .words)) n (count (q .item)) cs) (r .added .root) ≡ eval env (q .item)
-worked vs s size {d} {p} x n ws w b h cs env l f =
+worked c alone s size {d} {p} x n ws w b h cs env l f =
     let r = addAt d s p n ws in
-    flat-eval (nodeAt (r .words)) (length vs) cs env l b h f (add-flat vs s size n ws w h x .flat) .value
+    flat-eval (nodeAt (r .words)) (length (c .widths)) cs env l b h f (add-flat c alone s size n ws w h x .flat) .value

@@ -35,9 +35,9 @@ module _ {A : Type 0} (step : ℕ → A → A) (x : A) where
 
 -- ---- widths, sizes
 
-pub width-put : (s ws : List ℕ) (v : ℕ) {w : ℕ} → w ≡ getD s (4 + v) 0 → set ws (widthPlace v) w ≡ putWidth s v ws
+pub width-put : (s : List ℕ) (at : ℕ) (ws : List ℕ) (v : ℕ) {w : ℕ} → w ≡ getD s (at + v) 0 → set ws (widthPlace v) w ≡ putWidth s at v ws
 unfolding putWidth
-width-put s ws v e = rw e
+width-put s at ws v e = rw e
 
 pub size-put : (sizes ws : List ℕ) (i : ℕ) {w : ℕ} → w ≡ atMost 256 (getD sizes i 0) → set ws (sizePlace i) w ≡ putSize sizes i ws
 unfolding putSize

@@ -11,11 +11,11 @@ use Rattle.values.specs.Values.{pick}
 use lib.ListN.{length, getD, replicate, length-replicate, length-map}
 use Rattle.masks.specs.Masks.{bits}
 use Rattle.sheet.specs.Reading.{Res, ok, no}
-use Rattle.sheet.specs.Expression.{Expr, unknown, located, exprAt}
+use Rattle.sheet.specs.Expression.{Expr, unknown, Scope, located, exprAt}
 use Rattle.sheet.specs.Statement.{Stmt, empty, mapStmt}
-use Rattle.sheet.specs.Module.{Module, mapModule, Sheet, readSheet, read}
+use Rattle.sheet.specs.Module.{Module, mapModule, widthsAt, Sheet, readSheet, read}
 use Rattle.sheet.specs.declared.Layout.{Layout}
-use Rattle.sheet.specs.Answers.{startsOf, layoutOf, sheetAnswer}
+use Rattle.sheet.specs.Answers.{startsOf, definitionsOf, layoutOf, sheetAnswer}
 use Rattle.sheet.proofs.Trees.{trees, mapRes, read-located}
 use Rattle.sheet.proofs.Reading.{no≢ok}
 use Rattle.pseudocode.specs.Translation.{Instr, go, threadCode}
@@ -41,7 +41,7 @@ use Rattle.plan_fill.proofs.Room.{nodesOf, total}
 use Rattle.plan_fill.proofs.Laying.{Ready, Four, four-put, planned, WireIn, lies-kept, wire-planned}
 use Rattle.plan_fill.proofs.Sections.{Put, put-up, Tabled, tabled, tabled-kept}
 use Rattle.plan_fill.proofs.Watching.{watched-below}
-use Rattle.plan_fill.proofs.Accepting.{Sheeted, sheeted}
+use Rattle.plan_fill.proofs.Accepting.{counts-first, Sheeted, sheeted}
 use Rattle.plan_fill.proofs.Stages.{WireMade, wires-ran, ThreadMade, threads-ran}
 
 -- ---- sums over a list of trees
@@ -68,17 +68,18 @@ module _ (l : Layout) (ws : List ℕ) (long : length ws ≡ 25212) where
   counts-long = four-length 25200 (l .inputs) (l .registers) (l .wires) (l .threads) ws ∙ long
 
   with-widths : (s : List ℕ)
-      → Put 25120 (atMost 80 (l .inputs + l .registers + l .wires)) (λ v. getD s (4 + v) 0) ws (withWidths s l ws)
+      → Put 25120 (atMost 80 (l .inputs + l .registers + l .wires)) (λ v. getD s (atMost 5 (l .widths) + v) 0) ws (withWidths s l ws)
   unfolding withWidths putWidth
   with-widths s =
-      put-up (putWidth s) 25120 (λ v. getD s (4 + v) 0) (λ k us. refl) (atMost 80 (l .inputs + l .registers + l .wires)) ws
-      (omega (arith, atMost-most 80 (l .inputs + l .registers + l .wires)))
+      put-up (putWidth s (atMost 5 (l .widths))) 25120 (λ v. getD s (atMost 5 (l .widths) + v) 0) (λ k us. refl)
+      (atMost 80 (l .inputs + l .registers + l .wires)) ws (omega (arith, atMost-most 80 (l .inputs + l .registers + l .wires)))
 
   with-readers : (s : List ℕ)
-      → Put 24960 80 (λ v. getD (readersBelow s (l .starts) (atMost 32 (l .wires)) (replicate 80 0)) v 0) ws (withReaders s l ws)
+      → Put 24960 80 (λ v. getD (readersBelow s (l .definitions) (l .starts) (atMost 32 (l .wires)) (replicate 80 0)) v 0) ws
+      (withReaders s l ws)
   unfolding withReaders copyWord
   with-readers s =
-      let rs = readersBelow s (l .starts) (atMost 32 (l .wires)) (replicate 80 0) in
+      let rs = readersBelow s (l .definitions) (l .starts) (atMost 32 (l .wires)) (replicate 80 0) in
       put-up (copyWord rs 24960) 24960 (λ v. getD rs v 0) (λ k us. refl) 80 ws (omega arith)
 
 module _ (ws : List ℕ) (long : length ws ≡ 25212) where
@@ -127,11 +128,14 @@ wire-after {base} {m} {n} {k} {ws = ws} {us = us} {e = e} h l y x =
 -- ---- an accepted sheet
 
 module _ (s : List ℕ) (r : Sheet ℕ) (ws : List ℕ) (x : Accepted s r) (y : Sheeted s r) (long : length ws ≡ 25212) where
+  abbrev scope : Scope
+  scope = r .contents .scope
+
   abbrev vs : List ℕ
-  vs = r .contents .scope .widths
+  vs = scope .widths
 
   abbrev at : ℕ → Expr
-  at = exprAt s vs
+  at = exprAt s scope
 
   abbrev wires : List Expr
   wires = map at (r .contents .wires)
@@ -145,8 +149,11 @@ module _ (s : List ℕ) (r : Sheet ℕ) (ws : List ℕ) (x : Accepted s r) (y : 
   abbrev blank : List ℕ
   blank = replicate 4096 0
 
+  abbrev definitions : List ℕ
+  definitions = definitionsOf (r .definitions)
+
   abbrev table : Compiled
-  table = compileAt s (length (r .contents .threads)) (r .body) blank
+  table = compileAt s definitions (length (r .contents .threads)) (r .body) blank
 
   abbrev starts : List ℕ
   starts = startsOf (r .contents .wires)
@@ -185,7 +192,8 @@ module _ (s : List ℕ) (r : Sheet ℕ) (ws : List ℕ) (x : Accepted s r) (y : 
         let m = x .thread i (thread-below s blank r x i h) .most in
         omega arith
 
-    coded : (i p : ℕ) → i < length threads → p < length (is i) → Coded vs s (getD (is i) p (go 0)) (fetching.fetchAt s (table .code) i p)
+    coded : (i p : ℕ) → i < length threads → p < length (is i)
+        → Coded scope s (getD (is i) p (go 0)) (fetching.fetchAt s (table .code) i p)
     coded = coded-at s blank r x z
 
     sized : (i : ℕ) → i < length threads → atMost 256 (getD (table .sizes) i 0) ≡ length (is i)
@@ -196,7 +204,7 @@ module _ (s : List ℕ) (r : Sheet ℕ) (ws : List ℕ) (x : Accepted s r) (y : 
     watched =
         let m = x .threads in
         let e = threads-same in
-        watched-below vs s (x .widths) (table .code) (table .sizes) is (length threads) (omega arith) coded sized (length threads)
+        watched-below scope s (x .widths) (table .code) (table .sizes) is (length threads) (omega arith) coded sized (length threads)
         (le-refl (length threads))
 
     -- ---- the stages
@@ -222,7 +230,8 @@ module _ (s : List ℕ) (r : Sheet ℕ) (ws : List ℕ) (x : Accepted s r) (y : 
     abbrev Words : List ℕ → Type 0
     Words us =
         Tabled (r .contents .scope .inputs) (r .contents .scope .registers) (length (r .contents .wires)) (length (r .contents .threads))
-        (length vs) (λ v. getD s (4 + v) 0) (λ v. getD (readersBelow s starts (length wires) (replicate 80 0)) v 0)
+        (length vs) (λ v. getD s (widthsAt (scope .declared) + v) 0)
+        (λ v. getD (readersBelow s definitions starts (length wires) (replicate 80 0)) v 0)
         (λ v. getD (upTo (watchThread s (table .code) (table .sizes)) (length threads) (replicate 80 0)) v 0)
         (λ i. atMost 256 (getD (table .sizes) i 0)) us
 
@@ -231,6 +240,9 @@ module _ (s : List ℕ) (r : Sheet ℕ) (ws : List ℕ) (x : Accepted s r) (y : 
         let e = y .bytes .long in
         let m = x .widths in
         atMost-same 80 (r .contents .scope .inputs + r .contents .scope .registers + length (r .contents .wires)) (omega arith) ∙ sym e
+
+    widths-place : atMost 5 (widthsAt (scope .declared)) ≡ widthsAt (scope .declared)
+    widths-place = atMost-same 5 (widthsAt (scope .declared)) (counts-first (scope .declared) .1)
 
     base-tabled : Words base-words
     unfolding layoutOf
@@ -247,7 +259,7 @@ module _ (s : List ℕ) (r : Sheet ℕ) (ws : List ℕ) (x : Accepted s r) (y : 
         let u4 = withWatchers s (table .code) (table .sizes) (length threads) u3 in
         let p4 = with-watchers u3 l3 s (table .code) (table .sizes) (length threads) in
         let l4 : length u4 ≡ 25212 = p4 .long ∙ l3 in
-        tabled u1 u2 u3 u4 base-words l1 (x .widths) (with-counts l ws long) (rw widths-cut at p2) (rw wires-cut at p3) p4
+        tabled u1 u2 u3 u4 base-words l1 (x .widths) (with-counts l ws long) (rw (widths-cut, widths-place) at p2) (rw wires-cut at p3) p4
         (with-sizes u4 l4 (table .sizes))
 
     base-ready : Ready vs base-words
@@ -277,22 +289,24 @@ module _ (s : List ℕ) (r : Sheet ℕ) (ws : List ℕ) (x : Accepted s r) (y : 
     threads-few : length threads ≤ 8
     threads-few = let e = threads-same in let m = x .threads in omega arith
 
-    wires-done : Ran (WireMade vs s (y .short) (x .widths) starts wire (length wires) wires-few (wire-read s blank r x))
+    wires-done : Ran
+        (WireMade scope (x .closed) s (y .short) (x .widths) starts wire (length wires) wires-few (wire-read s blank r x))
         (Ready vs) (fillWire s starts) (λ k. count (wire k)) wirePlace (length wires) (filling 80 base-words) wired
     wires-done =
         let a = room in
-        wires-ran vs s (y .short) (x .widths) starts wire (length wires) wires-few (wire-read s blank r x) (filling 80 base-words)
-        (omega arith) base-ready (omega arith)
+        wires-ran scope (x .closed) s (y .short) (x .widths) starts wire (length wires) wires-few (wire-read s blank r x)
+        (filling 80 base-words) (omega arith) base-ready (omega arith)
 
     threads-done : Ran
-        (ThreadMade vs s (y .short) (x .widths) (table .code) (table .sizes) is (length threads) threads-few code-most coded sized)
+        (ThreadMade scope (x .closed) s (y .short) (x .widths) (table .code) (table .sizes) is (length threads) threads-few code-most
+        coded sized)
         (Ready vs) (fillThread s (table .code) (table .sizes)) (λ i. sumBelow (λ p. nodesOf (getD (is i) p (go 0))) (length (is i)))
         (λ i. codePlace i 0) (length threads) wired done
     threads-done =
         let a = room in
         let b = wires-done .free in
-        threads-ran vs s (y .short) (x .widths) (table .code) (table .sizes) is (length threads) threads-few code-most coded sized wired
-        (omega arith) (wires-done .ready) (omega arith)
+        threads-ran scope (x .closed) s (y .short) (x .widths) (table .code) (table .sizes) is (length threads) threads-few code-most
+        coded sized wired (omega arith) (wires-done .ready) (omega arith)
 
     end-most : done .free ≤ 4175
     end-most = let a = room in let b = wires-done .free in let c = threads-done .free in omega arith

@@ -13,7 +13,7 @@ use Rattle.values.specs.declared.Edge.{Edge}
 use Rattle.values.specs.declared.Edge.the-variants.{Change, Posedge, Negedge}
 use Rattle.values.specs.Edges.{edgeOf, edgeNumber}
 use Rattle.sheet.specs.declared.EdgeTerm.{EdgeTerm}
-use Rattle.sheet.specs.Expression.{Expr, Parsed}
+use Rattle.sheet.specs.Expression.{Expr, Scope, Parsed}
 use Rattle.pseudocode.specs.Translation.{Instr, wait!, set!, later!, go, ifnot}
 use Rattle.pseudocode.specs.Instruction.{noTerm, termsOf}
 use Rattle.pseudocode.specs.Fetching.{termAt}
@@ -261,49 +261,52 @@ module _ (base at : ℕ) (f : Filling) (low : 16704 ≤ at) (high : at + 4 ≤ 2
     expr-lies : Lies (nodeAt us) base (a .added .free) e (record { first = f .free; root = a .added .root })
     expr-lies = rw expr-free (laid-lies base (f .free) (f .words) q a y us e same few some (last-kept .below))
 
-module _ (vs s : List ℕ) (size : length s ≤ 8192) (few : length vs ≤ 80) (at : ℕ) (f : Filling) (low : 16704 ≤ at) (high : at + 4 ≤ 25120)
-    (some : 80 ≤ f .free) (x : Ready vs (f .words)) where
-  laid-at : (e : Expr) (p : ℕ) (r : f .free + count e ≤ 4175) (z : ReadAt vs s e p)
-      → Laid (length vs) (f .free) (f .words) (z .0) (addAt 16 s p (f .free) (f .words))
+module _ (c : Scope) (alone : c .declared ≡ 0) (s : List ℕ) (size : length s ≤ 8192) (few : length (c .widths) ≤ 80)
+    (at : ℕ) (f : Filling) (low : 16704 ≤ at) (high : at + 4 ≤ 25120) (some : 80 ≤ f .free) (x : Ready (c .widths) (f .words)) where
+  laid-at : (e : Expr) (p : ℕ) (r : f .free + count e ≤ 4175) (z : ReadAt c s e p)
+      → Laid (length (c .widths)) (f .free) (f .words) (z .0) (addAt 16 s p (f .free) (f .words))
   laid-at e p r z =
-      add-flat vs s size (f .free) (f .words) (x .widths)
+      add-flat c alone s size (f .free) (f .words) (x .widths)
       (rw (z .2) (omega arith)) (z .1)
 
-  pub instr-filled : {j : Instr Expr} {i : fetched.Instruction} → Coded vs s j i → f .free + nodesOf j ≤ 4175
-      → Filled (length vs) j at f (fillInstr s i at f)
+  pub instr-filled : {j : Instr Expr} {i : fetched.Instruction} → Coded c s j i → f .free + nodesOf j ≤ 4175
+      → Filled (length (c .widths)) j at f (fillInstr s i at f)
   unfolding fillInstr fillAct fillExpr fillWait nodesOf termsOf
   instr-filled (codes-wait {ts = ts} h n) r =
       rw (atMost-same 8 (length ts) h)
-      (wait-filled (length vs) at f low high (x .long) ts (upTo (putTerm (termsOf ts)) (length ts) f) h
+      (wait-filled (length (c .widths)) at f low high (x .long) ts (upTo (putTerm (termsOf ts)) (length ts) f) h
       (λ k l. omega (arith, n k noTerm l)) r
       (terms-put ts h (length ts) f (x .widths .long) (omega arith)))
   instr-filled (codes-set {t = t} {p = p} {e = e} h z) r =
       let a = addAt 16 s p (f .free) (f .words) in
       let y = laid-at e p r z in
       record {
-        free = expr-free (length vs) at f low high (x .long) few some e r (z .0) a y (z .2) 1 t;
-        kept = expr-kept (length vs) at f low high (x .long) few some e r (z .0) a y (z .2) 1 t;
-        put = put-set (f .free) (a .added .root) h (expr-four (length vs) at f low high (x .long) few some e r (z .0) a y (z .2) 1 t)
-            (expr-lies (length vs) at f low high (x .long) few some e r (z .0) a y (z .2) 1 t);
+        free = expr-free (length (c .widths)) at f low high (x .long) few some e r (z .0) a y (z .2) 1 t;
+        kept = expr-kept (length (c .widths)) at f low high (x .long) few some e r (z .0) a y (z .2) 1 t;
+        put = put-set (f .free) (a .added .root) h
+            (expr-four (length (c .widths)) at f low high (x .long) few some e r (z .0) a y (z .2) 1 t)
+            (expr-lies (length (c .widths)) at f low high (x .long) few some e r (z .0) a y (z .2) 1 t);
       }
   instr-filled (codes-later {t = t} {p = p} {e = e} h z) r =
       let a = addAt 16 s p (f .free) (f .words) in
       let y = laid-at e p r z in
       record {
-        free = expr-free (length vs) at f low high (x .long) few some e r (z .0) a y (z .2) 2 t;
-        kept = expr-kept (length vs) at f low high (x .long) few some e r (z .0) a y (z .2) 2 t;
-        put = put-later (f .free) (a .added .root) h (expr-four (length vs) at f low high (x .long) few some e r (z .0) a y (z .2) 2 t)
-            (expr-lies (length vs) at f low high (x .long) few some e r (z .0) a y (z .2) 2 t);
+        free = expr-free (length (c .widths)) at f low high (x .long) few some e r (z .0) a y (z .2) 2 t;
+        kept = expr-kept (length (c .widths)) at f low high (x .long) few some e r (z .0) a y (z .2) 2 t;
+        put = put-later (f .free) (a .added .root) h
+            (expr-four (length (c .widths)) at f low high (x .long) few some e r (z .0) a y (z .2) 2 t)
+            (expr-lies (length (c .widths)) at f low high (x .long) few some e r (z .0) a y (z .2) 2 t);
       }
-  instr-filled (codes-go {g = g} h) r = go-filled (length vs) at f low high (x .long) g h (omega arith)
+  instr-filled (codes-go {g = g} h) r = go-filled (length (c .widths)) at f low high (x .long) g h (omega arith)
   instr-filled (codes-ifnot {g = g} {p = p} {e = e} h z) r =
       let a = addAt 16 s p (f .free) (f .words) in
       let y = laid-at e p r z in
       rw (mod-eq-of-lt {m = 256} h) (record {
-        free = expr-free (length vs) at f low high (x .long) few some e r (z .0) a y (z .2) 4 g;
-        kept = expr-kept (length vs) at f low high (x .long) few some e r (z .0) a y (z .2) 4 g;
-        put = put-ifnot (f .free) (a .added .root) h (expr-four (length vs) at f low high (x .long) few some e r (z .0) a y (z .2) 4 g)
-            (expr-lies (length vs) at f low high (x .long) few some e r (z .0) a y (z .2) 4 g);
+        free = expr-free (length (c .widths)) at f low high (x .long) few some e r (z .0) a y (z .2) 4 g;
+        kept = expr-kept (length (c .widths)) at f low high (x .long) few some e r (z .0) a y (z .2) 4 g;
+        put = put-ifnot (f .free) (a .added .root) h
+            (expr-four (length (c .widths)) at f low high (x .long) few some e r (z .0) a y (z .2) 4 g)
+            (expr-lies (length (c .widths)) at f low high (x .long) few some e r (z .0) a y (z .2) 4 g);
       })
 
 -- ---- the instruction that the words stand for

@@ -6,12 +6,12 @@ use native.Mathlib.Omega.{arith}
 use lib.Dec.{leb, eqb}
 use lib.ListN.{length, getD}
 use Rattle.sheet.specs.Reading.{ok}
-use Rattle.sheet.specs.Expression.{Expr, Parsed, tree, located, exprAt}
-use Rattle.sheet.specs.Statement.{Stmt, size, mapStmt, Scope, Body, readStmt}
+use Rattle.sheet.specs.Expression.{Expr, Scope, Parsed, tree, located, exprAt}
+use Rattle.sheet.specs.Statement.{Stmt, size, mapStmt, Body, readStmt}
 use Rattle.sheet.specs.Module.{Listed, readWires, readThreads}
 use Rattle.sheet.proofs.Reading.{bind-ok, check-ok, ok-injective}
 use Rattle.sheet.proofs.Expression as reading
-use Rattle.sheet.proofs.Expression.{Reads, derive}
+use Rattle.sheet.proofs.Expression.{Reads, reads-after, derive}
 use Rattle.sheet.proofs.Statements.{terms-length, ReadsStmt, an-empty, an-assign, a-later, a-sequence, an-if, an-if-else, a-while}
 use Rattle.sheet.proofs.Statements.{a-forever, a-wait, derive-stmt}
 use Rattle.sheet.proofs.Trees.{expr-at}
@@ -38,52 +38,56 @@ total-append (i ∷ is) js = let e = total-append is js in omega arith
 
 -- ---- an expression
 
-pub expr-room : {ws s : List ℕ} {d p : ℕ} {q : Parsed Expr} → Reads ws s d p q → p + 2 * count (q .item) ≤ q .next
+-- By its depth; a call has no nodes.
+expr-room : {c : Scope} {s : List ℕ} (d : ℕ) {p : ℕ} {q : Parsed Expr} → Reads c s d p q → p + 2 * count (q .item) ≤ q .next
 unfolding count
-expr-room (reading.a-variable m h e l) = omega arith
-expr-room (reading.a-constant m w h e l) = omega arith
-expr-room (reading.an-unknown m w) = omega arith
-expr-room (reading.a-unary m o a) = let x = expr-room a in omega arith
-expr-room (reading.a-binary m o a b e) = let x = expr-room a in let y = expr-room b in omega arith
-expr-room (reading.a-conditional m o c a b e) = let z = expr-room c in let x = expr-room a in let y = expr-room b in omega arith
+expr-room (suc d) (reading.a-variable m h e l) = omega arith
+expr-room (suc d) (reading.a-constant m w h e l) = omega arith
+expr-room (suc d) (reading.an-unknown m w) = omega arith
+expr-room (suc d) (reading.a-unary m o a) = let x = expr-room d a in omega arith
+expr-room (suc d) (reading.a-binary m o a b e) = let x = expr-room d a in let y = expr-room d b in omega arith
+expr-room (suc d) (reading.a-conditional m o q a b e) =
+    let z = expr-room d q in let x = expr-room d a in let y = expr-room d b in omega arith
+expr-room (suc d) (reading.a-call m h e l f es w) =
+    let x = reads-after (reading.a-call {d = d} m h e l f es w) in omega arith
 
-located-room : (s ws : List ℕ) (p : ℕ) {e : Parsed ℕ} → located s ws p ≡ ok e → p + 2 * count (exprAt s ws (e .item)) ≤ e .next
+located-room : (s : List ℕ) (c : Scope) (p : ℕ) {e : Parsed ℕ} → located s c p ≡ ok e → p + 2 * count (exprAt s c (e .item)) ≤ e .next
 unfolding located tree
-located-room s ws p h =
-    let t = bind-ok (tree s ws p) _ h in
-    let r = expr-room (derive ws s 16 p (t .1)) in
-    rw (← ok-injective (t .2)) (rw (expr-at s ws p (t .1)) r)
+located-room s c p h =
+    let t = bind-ok (tree s c p) _ h in
+    let r = expr-room 16 (derive c s 16 p (t .1)) in
+    rw (← ok-injective (t .2)) (rw (expr-at s c p (t .1)) r)
 
 -- ---- a statement
 
 module _ (c : Scope) (s : List ℕ) where
   abbrev treeAt : ℕ → Expr
-  treeAt = exprAt s (c .widths)
+  treeAt = exprAt s c
 
   stmt-room : {d p : ℕ} {b : Body ℕ} → ReadsStmt (located s) c s d p b → (n : ℕ)
       → 2 * total (translate (mapStmt treeAt (b .stmt)) n) + p ≤ b .next
   unfolding translate mapStmt sumOver nodesOf
   stmt-room (an-empty l m) n = omega arith
-  stmt-room (an-assign l m t r e w) n = let x = located-room s (c .widths) _ e in omega arith
-  stmt-room (a-later l m t r e w) n = let x = located-room s (c .widths) _ e in omega arith
+  stmt-room (an-assign l m t r e w) n = let x = located-room s c _ e in omega arith
+  stmt-room (a-later l m t r e w) n = let x = located-room s c _ e in omega arith
   stmt-room (a-sequence {a = a} {b = b} l m x y) n =
       let k = n + size (mapStmt treeAt (a .stmt)) in
       let u = stmt-room x n in
       let v = stmt-room y k in
       let w = total-append (translate (mapStmt treeAt (a .stmt)) n) (translate (mapStmt treeAt (b .stmt)) k) in
       omega arith
-  stmt-room (an-if l m e x) n = let w = located-room s (c .widths) _ e in let u = stmt-room x (n + 1) in omega arith
+  stmt-room (an-if l m e x) n = let w = located-room s c _ e in let u = stmt-room x (n + 1) in omega arith
   stmt-room (an-if-else {a = a} {b = b} l m e x y) n =
       let i = size (mapStmt treeAt (a .stmt)) in
       let j = size (mapStmt treeAt (b .stmt)) in
-      let w = located-room s (c .widths) _ e in
+      let w = located-room s c _ e in
       let u = stmt-room x (n + 1) in
       let v = stmt-room y (n + 2 + i) in
       let z = total-append (translate (mapStmt treeAt (a .stmt)) (n + 1))
       (go (n + 2 + i + j) ∷ translate (mapStmt treeAt (b .stmt)) (n + 2 + i)) in
       omega arith
   stmt-room (a-while {a = a} l m e x) n =
-      let w = located-room s (c .widths) _ e in
+      let w = located-room s c _ e in
       let u = stmt-room x (n + 1) in
       let z = total-append (translate (mapStmt treeAt (a .stmt)) (n + 1)) (go n ∷ []) in
       omega arith
@@ -107,10 +111,10 @@ module _ (c : Scope) (s : List ℕ) where
   unfolding readWires sumOver
   wires-room zero v p h = rw (← ok-injective h) (omega arith)
   wires-room (suc n) v p h =
-      let e = bind-ok (located s (c .widths) p) _ h in
+      let e = bind-ok (located s c p) _ h in
       let w = check-ok (eqb (e .0 .width) (getD (c .widths) v 0)) 8 p _ (e .2) in
       let es = bind-ok (readWires (located s) c s n (v + 1) (e .0 .next)) _ (w .1) in
-      let x = located-room s (c .widths) p (e .1) in
+      let x = located-room s c p (e .1) in
       let y = wires-room n (v + 1) (e .0 .next) (es .1) in
       rw (← ok-injective (es .2)) (omega arith)
 

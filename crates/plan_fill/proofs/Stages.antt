@@ -6,7 +6,7 @@ use native.Mathlib.Nat.{le-refl}
 use native.Mathlib.Omega.{arith}
 use lib.ListN.{length, getD, set, length-set}
 use lib.Seq.{getD-set-same, getD-set-other}
-use Rattle.sheet.specs.Expression.{Expr, Parsed}
+use Rattle.sheet.specs.Expression.{Expr, Scope, Parsed}
 use Rattle.pseudocode.specs.Translation.{Instr, go}
 use Rattle.pseudocode.specs.Fetching.{fetchAt}
 use Rattle.plan.specs.Sections.{codePlace, wirePlace}
@@ -47,18 +47,18 @@ module _ (n at a b : ℕ) (ws : List ℕ) (h : n ≤ 4176) (l : 16704 ≤ at) wh
 
 -- ---- wires
 
-module _ (vs s : List ℕ) (short : length s ≤ 8192) (few : length vs ≤ 80) (starts : List ℕ) (wire : ℕ → Expr) (N : ℕ) (most : N ≤ 32)
-    (read : (k : ℕ) → k < N → ReadAt vs s (wire k) (getD starts k 0)) where
+module _ (c : Scope) (alone : c .declared ≡ 0) (s : List ℕ) (short : length s ≤ 8192) (few : length (c .widths) ≤ 80)
+    (starts : List ℕ) (wire : ℕ → Expr) (N : ℕ) (most : N ≤ 32) (read : (k : ℕ) → k < N → ReadAt c s (wire k) (getD starts k 0)) where
   abbrev pub WireMade : ℕ → ℕ → List ℕ → Type 0
-  WireMade k m ws = WireIn (length vs) m ws k (wire k)
+  WireMade k m ws = WireIn (length (c .widths)) m ws k (wire k)
 
   abbrev pub wireCost : ℕ → ℕ
   wireCost k = count (wire k)
 
   -- A wire that was laid out, with its two words.
-  wire-laid : (k : ℕ) → k < 32 → (f : Filling) → 80 ≤ f .free → Ready vs (f .words) → f .free + wireCost k ≤ 4175
-      → (q : Parsed Expr) (a : Adding) → Laid (length vs) (f .free) (f .words) q a → q .item ≡ wire k
-      → Stepped WireMade (Ready vs) (fillWire s starts) wireCost wirePlace k f
+  wire-laid : (k : ℕ) → k < 32 → (f : Filling) → 80 ≤ f .free → Ready (c .widths) (f .words) → f .free + wireCost k ≤ 4175
+      → (q : Parsed Expr) (a : Adding) → Laid (length (c .widths)) (f .free) (f .words) q a → q .item ≡ wire k
+      → Stepped WireMade (Ready (c .widths)) (fillWire s starts) wireCost wirePlace k f
       (filling (a .added .free) (set (set (a .words) (wirePlace k) (f .free)) (wirePlace k + 1) (a .added .root)))
   wire-laid k h f some x r q a y same =
       let at = wirePlace k in
@@ -69,7 +69,8 @@ module _ (vs s : List ℕ) (short : length s ≤ 8192) (few : length vs ≤ 80) 
       let k2 = two-kept m at (f .free) (a .added .root) (a .words) (omega arith) (omega arith) in
       let k1 : Kept (f .free) at (wirePlace (suc k)) (f .words) us =
       kept-wider
-      (kept-then (laid-kept (length vs) (f .free) (f .words) q a y at at (omega arith)) k2 (omega arith) (omega arith) (omega arith))
+      (kept-then (laid-kept (length (c .widths)) (f .free) (f .words) q a y at at (omega arith)) k2
+      (omega arith) (omega arith) (omega arith))
       (omega arith) (omega arith) (omega arith) in
       record {
         free = d;
@@ -79,63 +80,65 @@ module _ (vs s : List ℕ) (short : length s ≤ 8192) (few : length vs ≤ 80) 
           root = a .added .root;
           at-first = two-0 m at (f .free) (a .added .root) (a .words) (omega arith) (omega arith) (omega arith);
           at-root = two-1 m at (f .free) (a .added .root) (a .words) (omega arith) (omega arith) (omega arith);
-          lies = rw d (laid-lies (length vs) (f .free) (f .words) q a y us (wire k) same few some (k2 .below));
+          lies = rw d (laid-lies (length (c .widths)) (f .free) (f .words) q a y us (wire k) same few some (k2 .below));
         };
-        ready = ready-kept vs (f .words) us (omega arith) k1 x;
+        ready = ready-kept (c .widths) (f .words) us (omega arith) k1 x;
       }
 
-  wire-stepped : (k : ℕ) → k < N → (f : Filling) → 80 ≤ f .free → Ready vs (f .words) → f .free + wireCost k ≤ 4175
-      → Stepped WireMade (Ready vs) (fillWire s starts) wireCost wirePlace k f (fillWire s starts k f)
+  wire-stepped : (k : ℕ) → k < N → (f : Filling) → 80 ≤ f .free → Ready (c .widths) (f .words) → f .free + wireCost k ≤ 4175
+      → Stepped WireMade (Ready (c .widths)) (fillWire s starts) wireCost wirePlace k f (fillWire s starts k f)
   unfolding fillWire
   wire-stepped k h f some x r =
       let z = read k h in
       wire-laid k (omega arith) f some x r (z .0) (addAt 16 s (getD starts k 0) (f .free) (f .words))
-      (add-flat vs s short (f .free) (f .words) (x .widths) (rw (z .2) (omega arith)) (z .1)) (z .2)
+      (add-flat c alone s short (f .free) (f .words) (x .widths) (rw (z .2) (omega arith)) (z .1)) (z .2)
 
-  pub wires-ran : (f : Filling) → 80 ≤ f .free → Ready vs (f .words) → f .free + sumBelow wireCost N ≤ 4175
-      → Ran WireMade (Ready vs) (fillWire s starts) wireCost wirePlace N f (upTo (fillWire s starts) N f)
+  pub wires-ran : (f : Filling) → 80 ≤ f .free → Ready (c .widths) (f .words) → f .free + sumBelow wireCost N ≤ 4175
+      → Ran WireMade (Ready (c .widths)) (fillWire s starts) wireCost wirePlace N f (upTo (fillWire s starts) N f)
   wires-ran =
-      run WireMade (Ready vs) (fillWire s starts) wireCost wirePlace N (λ k n h. omega arith)
+      run WireMade (Ready (c .widths)) (fillWire s starts) wireCost wirePlace N (λ k n h. omega arith)
       (λ k m n a b ws us h l y x. wire-stays h l y x) wire-stepped N (le-refl N)
 
 -- ---- instructions
 
-module _ (vs s : List ℕ) (short : length s ≤ 8192) (few : length vs ≤ 80) (code : List ℕ) where
+module _ (c : Scope) (alone : c .declared ≡ 0) (s : List ℕ) (short : length s ≤ 8192) (few : length (c .widths) ≤ 80) (code : List ℕ) where
   module _ (i : ℕ) (hi : i < 8) (is : List (Instr Expr)) (most : length is ≤ 256)
-      (coded : (p : ℕ) → p < length is → Coded vs s (getD is p (go 0)) (fetchAt s code i p)) where
+      (coded : (p : ℕ) → p < length is → Coded c s (getD is p (go 0)) (fetchAt s code i p)) where
     abbrev pub PlaceMade : ℕ → ℕ → List ℕ → Type 0
-    PlaceMade p m ws = PutIn (length vs) m ws (codePlace i p) (getD is p (go 0))
+    PlaceMade p m ws = PutIn (length (c .widths)) m ws (codePlace i p) (getD is p (go 0))
 
     abbrev pub placeCost : ℕ → ℕ
     placeCost p = nodesOf (getD is p (go 0))
 
-    place-step : (p : ℕ) → p < 256 → (f g : Filling) → Ready vs (f .words) → Filled (length vs) (getD is p (go 0)) (codePlace i p) f g
-        → Stepped PlaceMade (Ready vs) (fillPlace s code i) placeCost (codePlace i) p f g
+    place-step : (p : ℕ) → p < 256 → (f g : Filling) → Ready (c .widths) (f .words)
+        → Filled (length (c .widths)) (getD is p (go 0)) (codePlace i p) f g
+        → Stepped PlaceMade (Ready (c .widths)) (fillPlace s code i) placeCost (codePlace i) p f g
     place-step p h f g x y =
         let k : Kept (f .free) (codePlace i p) (codePlace i (suc p)) (f .words) (g .words) =
         kept-wider (y .kept) (omega arith) (omega arith) (omega arith) in
-        record { free = y .free; kept = k; made = y .put; ready = ready-kept vs (f .words) (g .words) (omega arith) k x }
+        record { free = y .free; kept = k; made = y .put; ready = ready-kept (c .widths) (f .words) (g .words) (omega arith) k x }
 
-    place-stepped : (p : ℕ) → p < length is → (f : Filling) → 80 ≤ f .free → Ready vs (f .words) → f .free + placeCost p ≤ 4175
-        → Stepped PlaceMade (Ready vs) (fillPlace s code i) placeCost (codePlace i) p f (fillPlace s code i p f)
+    place-stepped : (p : ℕ) → p < length is → (f : Filling) → 80 ≤ f .free → Ready (c .widths) (f .words) → f .free + placeCost p ≤ 4175
+        → Stepped PlaceMade (Ready (c .widths)) (fillPlace s code i) placeCost (codePlace i) p f (fillPlace s code i p f)
     unfolding fillPlace
     place-stepped p h f some x r =
         place-step p (omega arith) f _ x
-        (instr-filled vs s short few (codePlace i p) f (omega arith) (omega arith) some x (coded p h) r)
+        (instr-filled c alone s short few (codePlace i p) f (omega arith) (omega arith) some x (coded p h) r)
 
-    pub places-ran : (f : Filling) → 80 ≤ f .free → Ready vs (f .words) → f .free + sumBelow placeCost (length is) ≤ 4175
-        → Ran PlaceMade (Ready vs) (fillPlace s code i) placeCost (codePlace i) (length is) f (upTo (fillPlace s code i) (length is) f)
+    pub places-ran : (f : Filling) → 80 ≤ f .free → Ready (c .widths) (f .words) → f .free + sumBelow placeCost (length is) ≤ 4175
+        → Ran PlaceMade (Ready (c .widths)) (fillPlace s code i) placeCost (codePlace i) (length is) f
+        (upTo (fillPlace s code i) (length is) f)
     places-ran =
-        run PlaceMade (Ready vs) (fillPlace s code i) placeCost (codePlace i) (length is) (λ k n h. omega arith)
+        run PlaceMade (Ready (c .widths)) (fillPlace s code i) placeCost (codePlace i) (length is) (λ k n h. omega arith)
         (λ k m n a b ws us h l y x. put-stays h (omega arith) (omega arith) y x) place-stepped (length is) (le-refl (length is))
 
   -- ---- threads
 
   module _ (sizes : List ℕ) (is : ℕ → List (Instr Expr)) (N : ℕ) (few-threads : N ≤ 8) (most : (i : ℕ) → i < N → length (is i) ≤ 256)
-      (coded : (i p : ℕ) → i < N → p < length (is i) → Coded vs s (getD (is i) p (go 0)) (fetchAt s code i p))
+      (coded : (i p : ℕ) → i < N → p < length (is i) → Coded c s (getD (is i) p (go 0)) (fetchAt s code i p))
       (sized : (i : ℕ) → i < N → atMost 256 (getD sizes i 0) ≡ length (is i)) where
     abbrev pub ThreadMade : ℕ → ℕ → List ℕ → Type 0
-    ThreadMade i m ws = (p : ℕ) → p < length (is i) → p < 256 → PutIn (length vs) m ws (codePlace i p) (getD (is i) p (go 0))
+    ThreadMade i m ws = (p : ℕ) → p < length (is i) → p < 256 → PutIn (length (c .widths)) m ws (codePlace i p) (getD (is i) p (go 0))
 
     abbrev pub threadCost : ℕ → ℕ
     threadCost i = sumBelow (λ p. nodesOf (getD (is i) p (go 0))) (length (is i))
@@ -143,8 +146,8 @@ module _ (vs s : List ℕ) (short : length s ≤ 8192) (few : length vs ≤ 80) 
     abbrev pub threadPlace : ℕ → ℕ
     threadPlace i = codePlace i 0
 
-    thread-stepped : (i : ℕ) → i < N → (f : Filling) → 80 ≤ f .free → Ready vs (f .words) → f .free + threadCost i ≤ 4175
-        → Stepped ThreadMade (Ready vs) (fillThread s code sizes) threadCost threadPlace i f (fillThread s code sizes i f)
+    thread-stepped : (i : ℕ) → i < N → (f : Filling) → 80 ≤ f .free → Ready (c .widths) (f .words) → f .free + threadCost i ≤ 4175
+        → Stepped ThreadMade (Ready (c .widths)) (fillThread s code sizes) threadCost threadPlace i f (fillThread s code sizes i f)
     unfolding fillThread
     thread-stepped i h f some x r =
         let l = most i h in
@@ -156,8 +159,8 @@ module _ (vs s : List ℕ) (short : length s ≤ 8192) (few : length vs ≤ 80) 
           ready = y .ready;
         })
 
-    pub threads-ran : (f : Filling) → 80 ≤ f .free → Ready vs (f .words) → f .free + sumBelow threadCost N ≤ 4175
-        → Ran ThreadMade (Ready vs) (fillThread s code sizes) threadCost threadPlace N f (upTo (fillThread s code sizes) N f)
+    pub threads-ran : (f : Filling) → 80 ≤ f .free → Ready (c .widths) (f .words) → f .free + sumBelow threadCost N ≤ 4175
+        → Ran ThreadMade (Ready (c .widths)) (fillThread s code sizes) threadCost threadPlace N f (upTo (fillThread s code sizes) N f)
     threads-ran =
-        run ThreadMade (Ready vs) (fillThread s code sizes) threadCost threadPlace N (λ k n h. omega arith)
+        run ThreadMade (Ready (c .widths)) (fillThread s code sizes) threadCost threadPlace N (λ k n h. omega arith)
         (λ k m n a b ws us h l y x p u v. put-stays h (omega arith) (omega arith) y (x p u v)) thread-stepped N (le-refl N)

@@ -9,7 +9,7 @@ use borrow.Author.Tests.{eq-eqb}
 use lib.Dec.{eqb}
 use lib.ListN.{length, getD, replicate}
 use Rattle.sheet.specs.declared.EdgeTerm.{EdgeTerm}
-use Rattle.sheet.specs.Expression.{Expr}
+use Rattle.sheet.specs.Expression.{Expr, Scope}
 use Rattle.pseudocode.specs.Translation.{Instr, wait!, go}
 use Rattle.pseudocode.specs.Instruction.{noTerm, termsOf}
 use Rattle.pseudocode.specs.Fetching.{fetchAt}
@@ -53,8 +53,8 @@ module _ (i : ℕ) (hi : i < 32) where
       rw (term-of ts n h)
       (marks-then x (marks-variable i (getD ts n noTerm .variable) (upTo (watchTerm i (termsOf ts)) n rs) hi (s n l) (x .long)))
 
-  module _ (vs s : List ℕ) (few : length vs ≤ 80) where
-    instr-marked : {j : Instr Expr} {x : fetched.Instruction} → Coded vs s j x → (rs : List ℕ) → length rs ≡ 80
+  module _ (c : Scope) (s : List ℕ) (few : length (c .widths) ≤ 80) where
+    instr-marked : {j : Instr Expr} {x : fetched.Instruction} → Coded c s j x → (rs : List ℕ) → length rs ≡ 80
         → Marks i rs (watchInstr i x rs) (namedBy j)
     unfolding watchInstr namedBy termsOf
     instr-marked (codes-wait {ts = ts} h n) rs long =
@@ -66,7 +66,7 @@ module _ (i : ℕ) (hi : i < 32) where
     instr-marked (codes-ifnot h z) rs long = marks-none i rs long
 
     module _ (code : List ℕ) (is : List (Instr Expr))
-        (coded : (p : ℕ) → p < length is → Coded vs s (getD is p (go 0)) (fetchAt s code i p)) where
+        (coded : (p : ℕ) → p < length is → Coded c s (getD is p (go 0)) (fetchAt s code i p)) where
       places-marked : (n : ℕ) → n ≤ length is → (rs : List ℕ) → length rs ≡ 80
           → Marks i rs (upTo (watchPlace s code i) n rs) (λ v. anyBelow (λ p. namedBy (getD is p (go 0)) v) n)
       unfolding upTo watchPlace anyBelow
@@ -82,8 +82,8 @@ module _ (i : ℕ) (hi : i < 32) where
 
 -- ---- all threads
 
-module _ (vs s : List ℕ) (few : length vs ≤ 80) (code sizes : List ℕ) (is : ℕ → List (Instr Expr)) (N : ℕ) (most : N ≤ 32)
-    (coded : (i p : ℕ) → i < N → p < length (is i) → Coded vs s (getD (is i) p (go 0)) (fetchAt s code i p))
+module _ (c : Scope) (s : List ℕ) (few : length (c .widths) ≤ 80) (code sizes : List ℕ) (is : ℕ → List (Instr Expr)) (N : ℕ)
+    (most : N ≤ 32) (coded : (i p : ℕ) → i < N → p < length (is i) → Coded c s (getD (is i) p (go 0)) (fetchAt s code i p))
     (sized : (i : ℕ) → i < N → atMost 256 (getD sizes i 0) ≡ length (is i)) where
   pub watched-below : (n : ℕ) → n ≤ N → Below (λ i. names (is i)) n (upTo (watchThread s code sizes) n (replicate 80 0))
   unfolding upTo
@@ -91,5 +91,5 @@ module _ (vs s : List ℕ) (few : length vs ≤ 80) (code sizes : List ℕ) (is 
   watched-below (suc n) h =
       let b = watched-below n (omega arith) in
       below-more (λ i. names (is i)) n b
-      (thread-marked n (omega arith) vs s few code (is n) (λ p. coded n p h) sizes (sized n h)
+      (thread-marked n (omega arith) c s few code (is n) (λ p. coded n p h) sizes (sized n h)
       (upTo (watchThread s code sizes) n (replicate 80 0)) (b .long))

@@ -33,9 +33,9 @@ copyWord xs base k ws = set ws (base + k) (getD xs k 0)
 
 -- ---- counts, widths, sizes
 
--- "Then one width byte for each variable (1 to 32)": after the four counts.
-unfoldable pub putWidth : List ℕ → ℕ → List ℕ → List ℕ
-putWidth s v ws = set ws (widthPlace v) (getD s (4 + v) 0)
+-- "Then one width byte for each variable (1 to 32)": the first stands at a place of the sheet, behind the four or five counts.
+unfoldable pub putWidth : List ℕ → ℕ → ℕ → List ℕ → List ℕ
+putWidth s at v ws = set ws (widthPlace v) (getD s (at + v) 0)
 
 unfoldable pub putSize : List ℕ → ℕ → List ℕ → List ℕ
 putSize sizes i ws = set ws (sizePlace i) (atMost 256 (getD sizes i 0))
@@ -114,11 +114,11 @@ unfoldable pub withCounts : Layout → List ℕ → List ℕ
 withCounts l ws = putFour (countPlace 0) (l .inputs) (l .registers) (l .wires) (l .threads) ws
 
 unfoldable pub withWidths : List ℕ → Layout → List ℕ → List ℕ
-withWidths s l ws = upTo (putWidth s) (atMost 80 (l .inputs + l .registers + l .wires)) ws
+withWidths s l ws = upTo (putWidth s (atMost 5 (l .widths))) (atMost 80 (l .inputs + l .registers + l .wires)) ws
 
 unfoldable pub withReaders : List ℕ → Layout → List ℕ → List ℕ
 withReaders s l ws =
-    upTo (copyWord (readersBelow s (l .starts) (atMost 32 (l .wires)) (replicate 80 0)) (readersPlace 0)) 80 ws
+    upTo (copyWord (readersBelow s (l .definitions) (l .starts) (atMost 32 (l .wires)) (replicate 80 0)) (readersPlace 0)) 80 ws
 
 unfoldable pub withWatchers : List ℕ → List ℕ → List ℕ → ℕ → List ℕ → List ℕ
 withWatchers s code sizes n ws =
@@ -135,7 +135,7 @@ unfoldable pub withThreads : List ℕ → List ℕ → List ℕ → ℕ → Fill
 withThreads s code sizes n f = upTo (fillThread s code sizes) n f
 
 unfoldable pub codeOf : List ℕ → Layout → Compiled
-codeOf s l = compileAt s (l .threads) (l .body) (replicate 4096 0)
+codeOf s l = compileAt s (l .definitions) (l .threads) (l .body) (replicate 4096 0)
 
 unfoldable pub filledPlan : List ℕ → Layout → List ℕ → List ℕ
 filledPlan s l ws =

@@ -84,14 +84,15 @@ fn fill_counts(layout: Layout, plan: &mut PlanTable)
     );
 }
 
-// Puts the first widths.
-fn put_widths(sheet: &[u8], n: usize, plan: &mut PlanTable)
+// Puts the first widths, which stand at a place of the sheet.
+fn put_widths(sheet: &[u8], at: usize, n: usize, plan: &mut PlanTable)
+    requires { ⌜ at ≤ 5 ⌝ }
     requires { ⌜ n ≤ 80 ⌝ }
-    ensures { λ _. ⌜ now (plan .exit) ≡ upTo (putWidth (now (sheet .entry))) n (now (plan .entry)) ⌝ }
+    ensures { λ _. ⌜ now (plan .exit) ≡ upTo (putWidth (now (sheet .entry)) at) n (now (plan .entry)) ⌝ }
 {
     let mut v: usize = 0;
     while v < n {
-        plan[plan::WIDTHS + v] = widen(byte_at(sheet, 4 + v));
+        plan[plan::WIDTHS + v] = widen(byte_at(sheet, at + v));
         v += 1;
     }
 }
@@ -101,15 +102,22 @@ fn fill_widths(sheet: &[u8], layout: Layout, plan: &mut PlanTable)
     ensures { λ _. ⌜ now (plan .exit) ≡ withWidths (now (sheet .entry)) layout (now (plan .entry)) ⌝ }
 {
     let n = wide(layout.inputs) + wide(layout.registers) + wide(layout.wires);
-    put_widths(sheet, at_most(80, n), plan);
+    put_widths(sheet, at_most(5, layout.widths), at_most(80, n), plan);
 }
 
 // Puts each variable's readers.
 fn fill_readers(sheet: &[u8], layout: Layout, plan: &mut PlanTable)
     ensures { λ _. ⌜ now (plan .exit) ≡ withReaders (now (sheet .entry)) layout (now (plan .entry)) ⌝ }
 {
+    let definitions = layout.definitions;
     let mut readers = [0u32; 80];
-    tables::fill_readers(sheet, &layout.starts, layout.wires, &mut readers);
+    tables::fill_readers(
+        sheet,
+        &definitions,
+        &layout.starts,
+        layout.wires,
+        &mut readers,
+    );
     copy(&readers, plan::READERS, plan);
 }
 
@@ -377,7 +385,13 @@ pub fn fill(sheet: &[u8], layout: Layout, plan: &mut PlanTable)
     ensures { λ _. ⌜ now (plan .exit) ≡ filledPlan (now (sheet .entry)) layout (now (plan .entry)) ⌝ }
 {
     let mut code = [0u16; 4096];
-    let sizes = pseudocode::compile(sheet, layout.threads, layout.body, &mut code);
+    let sizes = pseudocode::compile(
+        sheet,
+        &layout.definitions,
+        layout.threads,
+        layout.body,
+        &mut code,
+    );
     let threads = at_most(8, wide(layout.threads));
     fill_counts(layout, plan);
     fill_widths(sheet, layout, plan);

@@ -1,20 +1,22 @@
 -- The law of the code table, specs/Translated: for a sheet that is accepted, what is fetched at each place of each thread is the
 -- instruction at that place of the thread's translation, and the sizes are those of the threads (`compile-law`).
-use mathlib.Core.Path.{_≡_, refl, ap, _∙_}
+use mathlib.Core.Path.{_≡_, refl, sym, ap, _∙_, subst}
 use Prim.Native.Nat.{ℕ, zero, suc, _+_, _-_, _≤_, _<_}
 use native.Mathlib.Omega.{arith}
 use mathlib.Core.Bool.{Bool, true, false}
-use mathlib.Core.List.{List, _∷_}
+use mathlib.Core.List.{List, [], _∷_}
 use lib.ListN.{length, getD, set, length-set, replicate}
 use lib.Seq.{getD-set-same, getD-set-other}
-use lib.Dec.{ltb, leb, eqb}
+use lib.Dec.{ltb, leb}
 use borrow.Author.Tests.{ltb-true, leb-true, ltb-false}
 use Rattle.values.specs.Values.{pick}
-use Rattle.sheet.specs.Reading.{ok, within}
-use Rattle.sheet.specs.Expression.{located}
-use Rattle.sheet.specs.Statement.{Stmt, empty, size, Scope, Body, readStmt}
-use Rattle.sheet.specs.Module.{Listed, Head, readWidths, readHead, readWires, readThreads, readSheet}
-use Rattle.sheet.proofs.Reading.{bind-ok, check-ok, ok-injective, within-ok}
+use Rattle.sheet.specs.Reading.{Res, ok}
+use Rattle.sheet.specs.Expression.{Scope, Parsed, located}
+use Rattle.sheet.specs.Statement.{Stmt, empty, size, Body, readStmt}
+use Rattle.sheet.specs.Module.{Listed, readThreads, Sheet, readSheet}
+use Rattle.sheet.specs.Answers.{definitionsOf}
+use Rattle.sheet.proofs.Reading.{bind-ok, check-ok, ok-injective}
+use Rattle.sheet.proofs.Sections.{headed}
 use Rattle.sheet.proofs.Statements.{derive-stmt}
 use Rattle.pseudocode.specs.declared.Filled.{Filled}
 use Rattle.pseudocode.specs.Translation.{go, threadCode}
@@ -25,6 +27,8 @@ use Rattle.pseudocode.specs.Fetching.{fetchAt}
 use Rattle.pseudocode.specs.Translated.{CompileLaw}
 pub use Rattle.pseudocode.specs.Translated.{Compiles}
 use Rattle.pseudocode.proofs.Translation.{threadCode-size}
+use Rattle.pseudocode.proofs.Sheets.{scopeWith, sections}
+use Rattle.pseudocode.proofs.Skipping.{Counted, counted-none, functions-counted}
 use Rattle.pseudocode.proofs.Filling.{Frame, frame-none, frame-then}
 use Rattle.pseudocode.proofs.Holding.{Holds, holds-before, holds-at, forever-fills, fills}
 
@@ -46,20 +50,20 @@ threadCount-same n h = by (ltb n 8) refl
     by true e = refl
     by false e = let l = ltb-false n 8 e in omega arith
 
-module _ (s : List ℕ) (n t : ℕ) (c : Compiled) where
-  pub compile-turn : t < n → compileFrom s (n - t) t c ≡ compileFrom s (n - (t + 1)) (t + 1) (compileThread s t c)
+module _ (s ds : List ℕ) (n t : ℕ) (c : Compiled) where
+  pub compile-turn : t < n → compileFrom s ds (n - t) t c ≡ compileFrom s ds (n - (t + 1)) (t + 1) (compileThread s ds t c)
   unfolding compileFrom
   compile-turn h = let e : n - t ≡ suc (n - (t + 1)) = omega arith in rw e refl
 
-  pub compile-end : n ≤ t → compileFrom s (n - t) t c ≡ c
+  pub compile-end : n ≤ t → compileFrom s ds (n - t) t c ≡ c
   unfolding compileFrom
   compile-end h = let e : n - t ≡ 0 = omega arith in rw e refl
 
-pub thread-path : (s : List ℕ) (t next : ℕ) (sizes code : List ℕ) {f : Filled} {code' : List ℕ}
-    → filled f code' ≡ fillForever s t (fillAt s t 64) (filling next 0 code)
-    → compiled (f .next) (set sizes t (f .place)) code' ≡ compileThread s t (compiled next sizes code)
+pub thread-path : (s ds : List ℕ) (t next : ℕ) (sizes code : List ℕ) {f : Filled} {code' : List ℕ}
+    → filled f code' ≡ fillForever s ds t (fillAt s ds t 64) (filling next 0 code)
+    → compiled (f .next) (set sizes t (f .place)) code' ≡ compileThread s ds t (compiled next sizes code)
 unfolding compileThread
-thread-path s t next sizes code e = λ i. compiled (e i .next) (set sizes t (e i .place)) (e i .code)
+thread-path s ds t next sizes code e = λ i. compiled (e i .next) (set sizes t (e i .place)) (e i .code)
 
 -- ---- one thread
 
@@ -81,21 +85,21 @@ runs-kept {t = t} {a = a} l h k r =
     let e = threadCode-size a in
     record { size-of = k .sizes-before t l ∙ r .size-of; code = holds-before (k .code) (omega arith) (r .code) }
 
-module _ (s : List ℕ) (short : length s ≤ 8192) (sc : Scope) (few : sc .inputs + sc .registers ≤ 256) where
+module _ (s ds : List ℕ) (short : length s ≤ 8192) (sc : Scope) (counted : Counted s ds (sc .functions)) (few : sc .inputs + sc .registers ≤ 256) where
   -- One thread is compiled from the place of its statement.
   pub record Turn (t : ℕ) (c : Compiled) (b : Body ℕ) : Type 0 where
-    pub next : compileThread s t c .next ≡ b .next
-    pub runs : Runs s (compileThread s t c) t (b .stmt)
-    pub keeps : Keeps t (t + 1) c (compileThread s t c)
+    pub next : compileThread s ds t c .next ≡ b .next
+    pub runs : Runs s (compileThread s ds t c) t (b .stmt)
+    pub keeps : Keeps t (t + 1) c (compileThread s ds t c)
 
   turn : (t : ℕ) (c : Compiled) (b : Body ℕ) → t < 8 → readStmt (located s) sc s 64 (c .next) ≡ ok b → size (b .stmt) + 1 ≤ 256
       → length (c .code) ≡ 4096 → length (c .sizes) ≡ 8 → Turn t c b
   unfolding compileThread fillForever threadCode size
   turn t c b ht r h long eight =
       let f = filling (c .next) 0 (c .code) in
-      let x = fills s short sc few t ht (derive-stmt (located s) sc s 64 (c .next) r) 0 f refl refl (omega arith) long in
+      let x = fills s ds short sc counted few t ht (derive-stmt (located s) sc s 64 (c .next) r) 0 f refl refl (omega arith) long in
       let y = forever-fills s t ht (omega arith) long x in
-      let z : fillForever s t (fillAt s t 64) f .place ≡ size (b .stmt) + 1 = y .place ∙ omega arith in
+      let z : fillForever s ds t (fillAt s ds t 64) f .place ≡ size (b .stmt) + 1 = y .place ∙ omega arith in
       record {
         next = y .next;
         runs = record { size-of = getD-set-same (c .sizes) t _ 0 (omega arith) ∙ z; code = y .part .holds };
@@ -114,12 +118,12 @@ module _ (s : List ℕ) (short : length s ≤ 8192) (sc : Scope) (few : sc .inpu
 
   pub record Compiled-from (n t : ℕ) (c : Compiled) (ts : List (Stmt ℕ)) : Type 0 where
     pub count : length ts ≡ n
-    pub runs : (j : ℕ) → j < n → Runs s (compileFrom s n t c) (t + j) (getD ts j empty)
-    pub keeps : Keeps t (t + n) c (compileFrom s n t c)
+    pub runs : (j : ℕ) → j < n → Runs s (compileFrom s ds n t c) (t + j) (getD ts j empty)
+    pub keeps : Keeps t (t + n) c (compileFrom s ds n t c)
 
   module _ (n t : ℕ) (c : Compiled) (b : Body ℕ) (ts : List (Stmt ℕ)) (l : size (b .stmt) + 1 ≤ 256) (x : Turn t c b)
-      (y : Compiled-from n (t + 1) (compileThread s t c) ts) where
-    runs-more : (j : ℕ) → j < suc n → Runs s (compileFrom s (suc n) t c) (t + j) (getD (b .stmt ∷ ts) j empty)
+      (y : Compiled-from n (t + 1) (compileThread s ds t c) ts) where
+    runs-more : (j : ℕ) → j < suc n → Runs s (compileFrom s ds (suc n) t c) (t + j) (getD (b .stmt ∷ ts) j empty)
     unfolding compileFrom
     runs-more zero h = let e : t + 0 ≡ t = omega arith in rw e (runs-kept (omega arith) l (y .keeps) (x .runs))
     runs-more (suc j) h = let e : t + suc j ≡ t + 1 + j = omega arith in rw e (y .runs j (omega arith))
@@ -165,29 +169,10 @@ module _ (s : List ℕ) (short : length s ≤ 8192) (sc : Scope) (few : sc .inpu
       let l = leb-true (size (b .0 .stmt) + 1) 256 (k .0) in
       let x = turn t c (b .0) (omega arith) (b .1) l long eight in
       let e = ap (readThreads (located s) sc s n) (x .next) ∙ bs .1 in
-      let y = compile-from n (t + 1) (compileThread s t c) (omega arith) e (x .keeps .code .long ∙ long) (x .keeps .long ∙ eight) in
+      let y = compile-from n (t + 1) (compileThread s ds t c) (omega arith) e (x .keeps .code .long ∙ long) (x .keeps .long ∙ eight) in
       rw (← ok-injective (bs .2)) (compile-more n t c (b .0) (bs .0 .items) l x y)
 
 -- ---- the whole sheet
-
--- What a head that was read says of its counts.
-record Counts (h : Head) : Type 0 where
-  variables : h .scope .inputs + h .scope .registers ≤ 256
-  threads : h .threads ≤ 8
-
-head-counts : (s : List ℕ) {h : Head} → readHead s ≡ ok h → Counts h
-unfolding readHead
-head-counts s e =
-    let i = bind-ok (within 1 16 3 s 0) _ e in
-    let r = bind-ok (within 1 32 3 s 1) _ (i .2) in
-    let w = bind-ok (within 0 32 3 s 2) _ (r .2) in
-    let t = bind-ok (within 1 8 3 s 3) _ (w .2) in
-    let c = bind-ok (within 1 1 4 s 4) _ (t .2) in
-    let ws = bind-ok (readWidths (i .0 + r .0 + w .0 - 1) s 5) _ (c .2) in
-    let a = within-ok 1 16 3 s 0 (i .1) .most in
-    let b = within-ok 1 32 3 s 1 (r .1) .most in
-    let d = within-ok 1 8 3 s 3 (t .1) .most in
-    rw (← ok-injective (ws .2)) (record { variables = omega arith; threads = d })
 
 no-sizes : (n t : ℕ) → _≡_ {A = ℕ} (getD (replicate n 0) t 0) 0
 no-sizes zero t = refl
@@ -195,23 +180,23 @@ no-sizes (suc n) zero = refl
 no-sizes (suc n) (suc t) = no-sizes n t
 
 -- From the threads that were compiled to the statement.
-module _ (s : List ℕ) (short : length s ≤ 8192) (sc : Scope) (few : sc .inputs + sc .registers ≤ 256) (n body : ℕ) (code : List ℕ) (ts : List (Stmt ℕ))
-    (x : Compiled-from s short sc few n 0 (compiled body (replicate 8 0) code) ts) where
-  thread-runs : (t : ℕ) → t < length ts → Runs s (compileFrom s n 0 (compiled body (replicate 8 0) code)) t (getD ts t empty)
+module _ (s ds : List ℕ) (short : length s ≤ 8192) (sc : Scope) (counted : Counted s ds (sc .functions)) (few : sc .inputs + sc .registers ≤ 256)
+    (n body : ℕ) (code : List ℕ) (ts : List (Stmt ℕ)) (x : Compiled-from s ds short sc counted few n 0 (compiled body (replicate 8 0) code) ts) where
+  thread-runs : (t : ℕ) → t < length ts → Runs s (compileFrom s ds n 0 (compiled body (replicate 8 0) code)) t (getD ts t empty)
   thread-runs t l =
       let m = x .count in
       let e : 0 + t ≡ t = omega arith in
       rw e at (x .runs t (omega arith))
 
   thread-fetched : (t p : ℕ) → t < length ts → p < size (getD ts t empty) + 1
-      → fetchAt s (compileFrom s n 0 (compiled body (replicate 8 0) code) .code) t p
+      → fetchAt s (compileFrom s ds n 0 (compiled body (replicate 8 0) code) .code) t p
       ≡ instructionOf (getD (threadCode (getD ts t empty)) p (go 0))
   thread-fetched t p l h =
       let e : 0 + p ≡ p = omega arith in
       let k = threadCode-size (getD ts t empty) in
       rw e at (holds-at (thread-runs t l .code) p (omega arith))
 
-  compiles : n ≤ 8 → Compiles s ts (compileAt s (length ts) body code)
+  compiles : n ≤ 8 → Compiles s ts (compileAt s ds (length ts) body code)
   unfolding compileAt
   compiles h =
       let k = x .count in
@@ -223,18 +208,26 @@ module _ (s : List ℕ) (short : length s ≤ 8192) (sc : Scope) (few : sc .inpu
         fetched = thread-fetched;
       })
 
+-- The functions of a sheet have so many parameters as their definitions say.
+pub sheet-counted : {E : Type 0} (expr : Scope → ℕ → Res (Parsed E)) (s : List ℕ) {r : Sheet E} → readSheet expr s ≡ ok r
+    → Counted s (definitionsOf (r .definitions)) (r .contents .scope .functions)
+unfolding definitionsOf
+sheet-counted expr s e =
+    let x = sections expr s e in
+    let n = x .head .scope .declared in
+    let most = headed s (x .head-read) .functions-most in
+    rw (x .made)
+    (functions-counted n n [] s (x .head .next) (replicate 8 0) 0 refl (omega arith) refl (counted-none s (replicate 8 0)) (x .functions-read))
+
 pub compile-law : CompileLaw
-unfolding readSheet
 compile-law s code r e long =
-    let k = check-ok (leb (length s) 8192) 1 8192 _ e in
-    let h = bind-ok (readHead s) _ (k .1) in
-    let sc = h .0 .scope in
-    let es = bind-ok (readWires (located s) sc s (h .0 .wires) (sc .inputs + sc .registers) (h .0 .next)) _ (h .2) in
-    let ts = bind-ok (readThreads (located s) sc s (h .0 .threads) (es .0 .next)) _ (es .2) in
-    let z = check-ok (eqb (ts .0 .next) (length s)) 10 (ts .0 .next) _ (ts .2) in
-    let short = leb-true (length s) 8192 (k .0) in
-    let n = head-counts s (h .1) in
-    let few = n .variables in
-    let c = compiled (es .0 .next) (replicate 8 0) code in
-    let x = compile-from s short sc few (h .0 .threads) 0 c (omega (arith, n .threads)) (ts .1) long refl in
-    rw (← ok-injective (z .1)) (compiles s short sc few (h .0 .threads) (es .0 .next) code (ts .0 .items) x (n .threads))
+    let x = sections (located s) s e in
+    let c = scopeWith (x .head) (x .functions) in
+    let counts = headed s (x .head-read) in
+    let few : c .inputs + c .registers ≤ 256 = omega (arith, counts .inputs-most, counts .registers-most) in
+    let ds = definitionsOf (r .definitions) in
+    let counted : Counted s ds (c .functions) = subst (λ (q : Sheet ℕ). Counted s ds (q .contents .scope .functions)) (x .made) (sheet-counted (located s) s e) in
+    let start = compiled (x .wires .next) (replicate 8 0) code in
+    let y = compile-from s ds (x .short) c counted few (x .head .threads) 0 start (omega (arith, counts .threads-most)) (x .threads-read) long refl in
+    let z = compiles s ds (x .short) c counted few (x .head .threads) (x .wires .next) code (x .threads .items) y (counts .threads-most) in
+    subst (λ (q : Sheet ℕ). Compiles s (q .contents .threads) (compileAt s ds (length (q .contents .threads)) (q .body) code)) (sym (x .made)) z

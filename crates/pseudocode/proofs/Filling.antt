@@ -116,66 +116,66 @@ unfolding formOf
 no-form m p a b c d e f g h i =
     simp (ne-eqb _ _ a, ne-eqb _ _ b, ne-eqb _ _ c, ne-eqb _ _ d, ne-eqb _ _ e, ne-eqb _ _ f, ne-eqb _ _ g, ne-eqb _ _ h, ne-eqb _ _ i)
 
-module _ (s : List ℕ) (t : ℕ) (f : Filling) where
-  pub fill-none : (d : ℕ) → d ≡ 0 → fillAt s t d f ≡ f
+module _ (s ds : List ℕ) (t : ℕ) (f : Filling) where
+  pub fill-none : (d : ℕ) → d ≡ 0 → fillAt s ds t d f ≡ f
   unfolding fillAt
   fill-none d e = rw e refl
 
-  pub fill-far : (d : ℕ) → 8192 ≤ f .next → fillAt s t d f ≡ f
+  pub fill-far : (d : ℕ) → 8192 ≤ f .next → fillAt s ds t d f ≡ f
   unfolding fillAt
   fill-far zero h = refl
   fill-far (suc d) h = simp (le-ltb (f .next) 8192 h)
 
-  pub fill-full : (d : ℕ) → f .next < 8192 → 256 ≤ f .place → fillAt s t d f ≡ f
+  pub fill-full : (d : ℕ) → f .next < 8192 → 256 ≤ f .place → fillAt s ds t d f ≡ f
   unfolding fillAt
   fill-full zero h l = refl
   fill-full (suc d) h l = simp (lt-ltb (f .next) 8192 h, le-ltb (f .place) 256 l)
 
   fill-read : (d : ℕ) (k : Res Form) → (d ≡ 0 → ⊥) → f .next < 8192 → f .place < 256 → formOf (getD s (f .next) 0) (f .next) ≡ k
-      → fillAt s t d f ≡ fillForm s t (fillAt s t (d - 1)) f k
+      → fillAt s ds t d f ≡ fillForm s ds t (fillAt s ds t (d - 1)) f k
   unfolding fillAt
   fill-read zero k n h l e = absurd (n refl)
   fill-read (suc d) k n h l e = simp (lt-ltb (f .next) 8192 h, lt-ltb (f .place) 256 l, e, sub-one)
 
   pub fill-form : (d : ℕ) (k : Form) → (d ≡ 0 → ⊥) → f .next < 8192 → f .place < 256 → getD s (f .next) 0 ≡ formMap k
-      → fillAt s t d f ≡ fillForm s t (fillAt s t (d - 1)) f (ok k)
+      → fillAt s ds t d f ≡ fillForm s ds t (fillAt s ds t (d - 1)) f (ok k)
   fill-form d k n h l e = fill-read d (ok k) n h l (map-form (getD s (f .next) 0) (f .next) k e)
 
   pub fill-at : (d : ℕ) (k : Form) → f .next < 8192 → f .place < 256 → getD s (f .next) 0 ≡ formMap k
-      → fillAt s t (suc d) f ≡ fillForm s t (fillAt s t d) f (ok k)
+      → fillAt s ds t (suc d) f ≡ fillForm s ds t (fillAt s ds t d) f (ok k)
   unfolding fillAt
   fill-at d k h l e = simp (lt-ltb (f .next) 8192 h, lt-ltb (f .place) 256 l, map-form (getD s (f .next) 0) (f .next) k e)
 
   pub fill-other : (d : ℕ) → (d ≡ 0 → ⊥) → f .next < 8192 → f .place < 256 → formOf (getD s (f .next) 0) (f .next) ≡ no 5 (f .next)
-      → fillAt s t d f ≡ f
+      → fillAt s ds t d f ≡ f
   unfolding fillForm
   fill-other d n h l e = fill-read d (no 5 (f .next)) n h l e
 
 -- ---- the forms, from what the code's calls give
 
-module _ (s : List ℕ) (t : ℕ) (inner : Filling → Filling) (at n : ℕ) {code : List ℕ} where
+module _ (s ds : List ℕ) (t : ℕ) (inner : Filling → Filling) (at n : ℕ) {code : List ℕ} where
   pub sequence-path : {a b : Filled} {c d : List ℕ} → filled a c ≡ inner (filling at n code) → filled b d ≡ inner (filled a c)
-      → filled b d ≡ fillSequence s t inner (filling at n code)
+      → filled b d ≡ fillSequence s ds t inner (filling at n code)
   unfolding fillSequence
   sequence-path x y = y ∙ ap inner x
 
   -- The body behind a condition.
-  body-path : {inside m : ℕ} {a : Filled} {c : List ℕ} → inside ≡ skipAt 16 s at → m ≡ after n → filled a c ≡ inner (filling inside m code)
-      → filled a c ≡ fillBody s t inner (filling at n code)
+  body-path : {inside m : ℕ} {a : Filled} {c : List ℕ} → inside ≡ skipAt 16 s ds at → m ≡ after n → filled a c ≡ inner (filling inside m code)
+      → filled a c ≡ fillBody s ds t inner (filling at n code)
   unfolding fillBody
   body-path p q x = x ∙ λ i. inner (filling (p i) (q i) code)
 
-  pub if-path : {inside m : ℕ} {a : Filled} {c d : List ℕ} → inside ≡ skipAt 16 s at → m ≡ after n
-      → filled a c ≡ inner (filling inside m code) → d ≡ store t n ifnotKind at (a .place) c → filled a d ≡ fillIf s t inner (filling at n code)
+  pub if-path : {inside m : ℕ} {a : Filled} {c d : List ℕ} → inside ≡ skipAt 16 s ds at → m ≡ after n
+      → filled a c ≡ inner (filling inside m code) → d ≡ store t n ifnotKind at (a .place) c → filled a d ≡ fillIf s ds t inner (filling at n code)
   unfolding fillIf
   if-path {a = a} p q x y =
       let z = body-path p q x in
       ap (filled a) y ∙ λ i. filling (z i .next) (z i .place) (store t n ifnotKind at (z i .place) (z i .code))
 
-  pub if-else-path : {inside m k : ℕ} {a b : Filled} {c d u v : List ℕ} → inside ≡ skipAt 16 s at → m ≡ after n
+  pub if-else-path : {inside m k : ℕ} {a b : Filled} {c d u v : List ℕ} → inside ≡ skipAt 16 s ds at → m ≡ after n
       → filled a c ≡ inner (filling inside m code) → k ≡ after (a .place) → filled b d ≡ inner (filling (a .next) k c)
       → u ≡ store t (a .place) goKind 0 (b .place) d → v ≡ store t n ifnotKind at k u
-      → filled b v ≡ fillIfElse s t inner (filling at n code)
+      → filled b v ≡ fillIfElse s ds t inner (filling at n code)
   unfolding fillIfElse
   if-else-path {k = k} {a = a} {b = b} {d = d} p q x e y g h =
       let z = body-path p q x in
@@ -184,9 +184,9 @@ module _ (s : List ℕ) (t : ℕ) (inner : Filling → Filling) (at n : ℕ) {co
       ap (filled b) (h ∙ ap (store t n ifnotKind at k) g)
       ∙ λ i. filling (w i .next) (w i .place) (store t n ifnotKind at (r i) (store t (z i .place) goKind 0 (w i .place) (w i .code)))
 
-  pub while-path : {inside m : ℕ} {a b : Filled} {c d u : List ℕ} → inside ≡ skipAt 16 s at → m ≡ after n
+  pub while-path : {inside m : ℕ} {a b : Filled} {c d u : List ℕ} → inside ≡ skipAt 16 s ds at → m ≡ after n
       → filled a c ≡ inner (filling inside m code) → filled b d ≡ emit t goKind 0 n (a .next) (filled a c)
-      → u ≡ store t n ifnotKind at (b .place) d → filled b u ≡ fillWhile s t inner (filling at n code)
+      → u ≡ store t n ifnotKind at (b .place) d → filled b u ≡ fillWhile s ds t inner (filling at n code)
   unfolding fillWhile
   while-path {b = b} p q x y g =
       let z = body-path p q x in
@@ -194,6 +194,6 @@ module _ (s : List ℕ) (t : ℕ) (inner : Filling → Filling) (at n : ℕ) {co
       ap (filled b) g ∙ λ i. filling (w i .next) (w i .place) (store t n ifnotKind at (w i .place) (w i .code))
 
   pub forever-path : {a b : Filled} {c d : List ℕ} → filled a c ≡ inner (filling at n code)
-      → filled b d ≡ emit t goKind 0 n (a .next) (filled a c) → filled b d ≡ fillForever s t inner (filling at n code)
+      → filled b d ≡ emit t goKind 0 n (a .next) (filled a c) → filled b d ≡ fillForever s ds t inner (filling at n code)
   unfolding fillForever
   forever-path x y = y ∙ λ i. emit t goKind 0 n (x i .next) (x i)

@@ -8,8 +8,8 @@ use lib.ListN.{length, getD}
 use lib.Dec.{leb}
 use borrow.Author.Tests.{ltb-true}
 use Rattle.sheet.specs.Reading.{ok}
-use Rattle.sheet.specs.Expression.{located}
-use Rattle.sheet.specs.Statement.{Stmt, sequence, ifThen, ifElse, while, forever, size, Scope, isRegister, Body, Form, anEmpty, anAssign, aLater, aSequence, anIf, anIfElse, aWhile, aForever, aWait}
+use Rattle.sheet.specs.Expression.{Scope, located}
+use Rattle.sheet.specs.Statement.{Stmt, sequence, ifThen, ifElse, while, forever, size, isRegister, Body, Form, anEmpty, anAssign, aLater, aSequence, anIf, anIfElse, aWhile, aForever, aWait}
 use Rattle.sheet.proofs.Statements.{ReadsStmt, an-empty, an-assign, a-later, a-sequence, an-if, an-if-else, a-while, a-forever, a-wait, formMap}
 use Rattle.pseudocode.specs.declared.Action.the-variants.{Set, Later, Go, IfNot}
 use Rattle.pseudocode.specs.declared.Instruction.the-variants.{Wait, Act}
@@ -19,7 +19,7 @@ use Rattle.pseudocode.specs.Skipping.{skipAt}
 use Rattle.pseudocode.specs.Filling.{cell, firstWord, store, waitKind, setKind, laterKind, goKind, ifnotKind, Filling, filling, after, emit, fillAssign, fillSequence, fillBody, fillIf, fillIfElse, fillWhile, fillForever, fillForm, fillAt}
 use Rattle.pseudocode.specs.Fetching.{termsAt, decode, fetchAt}
 use Rattle.pseudocode.proofs.Translation.{translate-size}
-use Rattle.pseudocode.proofs.Skipping.{located-ok}
+use Rattle.pseudocode.proofs.Skipping.{Counted, located-ok}
 use Rattle.pseudocode.proofs.Fetching.{decode-wait, decode-set, decode-later, decode-go, decode-ifnot, word-kind, word-place, terms-at, fetch-in, fetch-same}
 use Rattle.pseudocode.proofs.Filling.{getD-store-first, getD-store-second, after-in, Frame, frame-none, frame-store, frame-then, length-store, fill-at}
 
@@ -252,7 +252,8 @@ module _ (s : List ℕ) (t : ℕ) (ht : t < 8) where
 
 -- ---- every statement that was read
 
-module _ (s : List ℕ) (short : length s ≤ 8192) (c : Scope) (few : c .inputs + c .registers ≤ 256) (t : ℕ) (ht : t < 8) where
+module _ (s ds : List ℕ) (short : length s ≤ 8192) (c : Scope) (counted : Counted s ds (c .functions)) (few : c .inputs + c .registers ≤ 256) (t : ℕ)
+    (ht : t < 8) where
   -- A target byte that names a register is below 256.
   target-below : (v : ℕ) → isRegister c v ≡ true → v < 256
   unfolding isRegister
@@ -265,61 +266,61 @@ module _ (s : List ℕ) (short : length s ≤ 8192) (c : Scope) (few : c .inputs
   -- From the form to the statement, wherever filling stands at its map.
   started : (d : ℕ) {p n : ℕ} {b : Body ℕ} (k : Form) (f : Filling) → p < length s → getD s p 0 ≡ formMap k
       → f .next ≡ p → f .place ≡ n → n < 256
-      → Fills s t n (f .code) (fillForm s t (fillAt s t d) (filling p n (f .code)) (ok k)) b
-      → Fills s t n (f .code) (fillAt s t (suc d) f) b
+      → Fills s t n (f .code) (fillForm s ds t (fillAt s ds t d) (filling p n (f .code)) (ok k)) b
+      → Fills s t n (f .code) (fillAt s ds t (suc d) f) b
   started d {p} {n} {b} k f l m e q hn x =
       let at : f ≡ filling p n (f .code) = λ i. filling (e i) (q i) (f .code) in
-      let step = fill-at s t (filling p n (f .code)) d k (omega arith) hn m in
-      subst (λ (g : Filling). Fills s t n (f .code) g b) (sym (ap (fillAt s t (suc d)) at ∙ step)) x
+      let step = fill-at s ds t (filling p n (f .code)) d k (omega arith) hn m in
+      subst (λ (g : Filling). Fills s t n (f .code) g b) (sym (ap (fillAt s ds t (suc d)) at ∙ step)) x
 
   pub fills : {d p : ℕ} {b : Body ℕ} → ReadsStmt (located s) c s d p b → (n : ℕ) (f : Filling) → f .next ≡ p → f .place ≡ n
-      → n + size (b .stmt) < 256 → length (f .code) ≡ 4096 → Fills s t n (f .code) (fillAt s t d f) b
+      → n + size (b .stmt) < 256 → length (f .code) ≡ 4096 → Fills s t n (f .code) (fillAt s ds t d f) b
   unfolding fillForm formMap size translate instructionOf fillAssign fillSequence fillBody fillIf fillIfElse fillWhile fillForever emit
   fills {p = p} (an-empty {d = d} l m) n f e q hn long =
       let z : n + 0 ≡ n = omega arith in
       started d anEmpty f l m e q (omega arith) (record { next = refl; place = sym z; part = rw z (part-none n (f .code)) })
   fills {p = p} (an-assign {d = d} {t = v} l m x r h w) n f e q hn long =
-      let o = located-ok (c .widths) s (p + 2) short h in
+      let o = located-ok c s ds (p + 2) short counted h in
       let a = o .after in
       let b = o .below in
       let y = fetch-set s t n (f .code) ht (omega arith) long (p + 2) v (omega arith) (target-below v r) in
       started d anAssign f (omega arith) m e q (omega arith)
-      (emit-fills s t ht n (f .code) setKind (p + 2) (getD s (p + 1) 0) (skipAt 16 s (p + 2)) p (set! v _) (omega arith) (o .skip)
+      (emit-fills s t ht n (f .code) setKind (p + 2) (getD s (p + 1) 0) (skipAt 16 s ds (p + 2)) p (set! v _) (omega arith) (o .skip)
       refl refl (rw x (y ∙ λ j. Act (Set v (sym (o .item) j)))))
   fills {p = p} (a-later {d = d} {t = v} l m x r h w) n f e q hn long =
-      let o = located-ok (c .widths) s (p + 2) short h in
+      let o = located-ok c s ds (p + 2) short counted h in
       let a = o .after in
       let b = o .below in
       let y = fetch-later s t n (f .code) ht (omega arith) long (p + 2) v (omega arith) (target-below v r) in
       started d aLater f (omega arith) m e q (omega arith)
-      (emit-fills s t ht n (f .code) laterKind (p + 2) (getD s (p + 1) 0) (skipAt 16 s (p + 2)) p (later! v _) (omega arith) (o .skip)
+      (emit-fills s t ht n (f .code) laterKind (p + 2) (getD s (p + 1) 0) (skipAt 16 s ds (p + 2)) p (later! v _) (omega arith) (o .skip)
       refl refl (rw x (y ∙ λ j. Act (Later v (sym (o .item) j)))))
   fills {p = p} (a-sequence {d = d} {a = a} l m x y) n f e q hn long =
       let u = fills x n (filling (p + 1) n (f .code)) refl refl (omega arith) long in
       let v = fills y (n + size (a .stmt)) _ (u .next) (u .place) (omega arith) (u .part .frame .long ∙ long) in
       started d aSequence f l m e q (omega arith) (sequence-fills s t ht u v)
   fills {p = p} (an-if {d = d} l m h x) n f e q hn long =
-      let o = located-ok (c .widths) s (p + 1) short h in
+      let o = located-ok c s ds (p + 1) short counted h in
       let a = o .after in
       let b = o .below in
-      let u = fills x (n + 1) (filling (skipAt 16 s (p + 1)) (after n) (f .code)) (o .skip) (after-in n (omega arith)) (omega arith) long in
+      let u = fills x (n + 1) (filling (skipAt 16 s ds (p + 1)) (after n) (f .code)) (o .skip) (after-in n (omega arith)) (omega arith) long in
       started d anIf f l m e q (omega arith) (if-fills s t ht (p + 1) (omega arith) (omega arith) long (o .item) u)
   fills {p = p} (an-if-else {d = d} {a = a} l m h x y) n f e q hn long =
-      let o = located-ok (c .widths) s (p + 1) short h in
+      let o = located-ok c s ds (p + 1) short counted h in
       let i = o .after in
       let j = o .below in
-      let u = fills x (n + 1) (filling (skipAt 16 s (p + 1)) (after n) (f .code)) (o .skip) (after-in n (omega arith)) (omega arith) long in
-      let g = fillAt s t d (filling (skipAt 16 s (p + 1)) (after n) (f .code)) in
+      let u = fills x (n + 1) (filling (skipAt 16 s ds (p + 1)) (after n) (f .code)) (o .skip) (after-in n (omega arith)) (omega arith) long in
+      let g = fillAt s ds t d (filling (skipAt 16 s ds (p + 1)) (after n) (f .code)) in
       let z = u .place in
       let second : after (g .place) ≡ n + 2 + size (a .stmt) = after-in (g .place) (omega arith) ∙ omega arith in
       let k = filling (g .next) (after (g .place)) (g .code) in
       let v = fills y (n + 2 + size (a .stmt)) k (u .next) second (omega arith) (u .part .frame .long ∙ long) in
       started d anIfElse f l m e q (omega arith) (if-else-fills s t ht (p + 1) (omega arith) (omega arith) long (o .item) u v)
   fills {p = p} (a-while {d = d} l m h x) n f e q hn long =
-      let o = located-ok (c .widths) s (p + 1) short h in
+      let o = located-ok c s ds (p + 1) short counted h in
       let a = o .after in
       let b = o .below in
-      let u = fills x (n + 1) (filling (skipAt 16 s (p + 1)) (after n) (f .code)) (o .skip) (after-in n (omega arith)) (omega arith) long in
+      let u = fills x (n + 1) (filling (skipAt 16 s ds (p + 1)) (after n) (f .code)) (o .skip) (after-in n (omega arith)) (omega arith) long in
       started d aWhile f l m e q (omega arith) (while-fills s t ht (p + 1) (omega arith) (omega arith) long (o .item) u)
   fills {p = p} (a-forever {d = d} l m x) n f e q hn long =
       let u = fills x n (filling (p + 1) n (f .code)) refl refl (omega arith) long in

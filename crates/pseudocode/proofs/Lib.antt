@@ -1,3 +1,4 @@
+pub mod Sheets
 pub mod Translation
 pub mod Skipping
 pub mod Fetching

@@ -69,12 +69,13 @@ after n = pick (ltb n 256) (n + 1) n
 unfoldable pub emit : ℕ → ℕ → ℕ → ℕ → ℕ → Filling → Filling
 emit thread kind at goal next f = filling next (after (f .place)) (store thread (f .place) kind at goal (f .code))
 
--- ---- the forms, in the shapes of `translate`. `inner` fills a body; f stands at the first operand.
+-- ---- the forms, in the shapes of `translate`. `inner` fills a body; f stands at the first operand. The functions' definitions
+-- stand at the places ds.
 
-module _ (s : List ℕ) (thread : ℕ) where
+module _ (s ds : List ℕ) (thread : ℕ) where
   -- An assignment's expression at `at`.
   unfoldable pub fillAssign : ℕ → ℕ → ℕ → Filling → Filling
-  fillAssign kind target at f = emit thread kind at target (skipAt 16 s at) f
+  fillAssign kind target at f = emit thread kind at target (skipAt 16 s ds at) f
 
   module _ (inner : Filling → Filling) where
     unfoldable pub fillSequence : Filling → Filling
@@ -82,7 +83,7 @@ module _ (s : List ℕ) (thread : ℕ) where
 
     -- A body after a condition leaves room for the `ifnot`, whose goal is known when the body is filled.
     unfoldable pub fillBody : Filling → Filling
-    fillBody f = inner (filling (skipAt 16 s (f .next)) (after (f .place)) (f .code))
+    fillBody f = inner (filling (skipAt 16 s ds (f .next)) (after (f .place)) (f .code))
 
     unfoldable pub fillIf : Filling → Filling
     fillIf f =

@@ -10,6 +10,7 @@ use Rattle.sheet.specs.Reading.{ok}
 use Rattle.sheet.specs.Expression.{located}
 use Rattle.sheet.specs.Statement.{Stmt, empty, size}
 use Rattle.sheet.specs.Module.{Sheet, readSheet}
+use Rattle.sheet.specs.Answers.{definitionsOf}
 use Rattle.pseudocode.specs.Translation.{go, threadCode}
 use Rattle.pseudocode.specs.Instruction.{instructionOf}
 use Rattle.pseudocode.specs.Compiling.{Compiled, compileAt}
@@ -25,4 +26,4 @@ pub record Compiles (s : List ℕ) (threads : List (Stmt ℕ)) (c : Compiled) : 
 -- Of every sheet that is accepted, whatever the lent table held before.
 abbrev pub CompileLaw : Type 0
 CompileLaw = (s code : List ℕ) (r : Sheet ℕ) → readSheet (located s) s ≡ ok r → length code ≡ 4096
-    → Compiles s (r .contents .threads) (compileAt s (length (r .contents .threads)) (r .body) code)
+    → Compiles s (r .contents .threads) (compileAt s (definitionsOf (r .definitions)) (length (r .contents .threads)) (r .body) code)

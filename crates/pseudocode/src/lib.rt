@@ -5,7 +5,7 @@ use sheet::byte_at;
 use values::Edge;
 ghost use mathlib.Core.Path.{_≡_};
 ghost use Prim.Native.Nat.{_+_};
-ghost use Rattle.pseudocode.specs.Skipping.{skipAt};
+ghost use Rattle.pseudocode.specs.Skipping.{argumentCount, skipArguments, skipAt};
 ghost use Rattle.pseudocode.specs.Filling.{firstWord, store, after, emit, filling, filled, fillAssign, fillSequence, fillIf, fillIfElse, fillWhile, fillForever, fillAt};
 ghost use Rattle.pseudocode.specs.Compiling.{threadCount, compileAt};
 ghost use Rattle.pseudocode.specs.Fetching.{termFrom, termsFrom, termsAt, termAt, decode, fetchAt};
@@ -61,9 +61,31 @@ fn wide(b: u8) -> usize
     b as usize
 }
 
+// How many arguments a call of a function has, by its number and the places of the definitions: at most 4, past the last none.
+pub fn argument_count(sheet: &[u8], definitions: &[usize; 8], n: u8) -> u8
+    ensures { λ r. ⌜ r ≡ argumentCount (now (sheet .entry)) (now (definitions .entry)) n ⌝ }
+{
+    if 8 <= n {
+        return 0;
+    }
+    let count = byte_at(sheet, definitions[n as usize]);
+    if count <= 4 { count } else { 4 }
+}
+
+// The place after so many arguments, the first at `at`.
+fn skip_arguments(sheet: &[u8], definitions: &[usize; 8], count: u8, at: usize, depth: u8) -> usize
+    ensures { λ r. ⌜ r ≡ skipArguments (skipAt depth (now (sheet .entry)) (now (definitions .entry))) count at ⌝ }
+{
+    if count == 0 {
+        return at;
+    }
+    let b = skip_expr(sheet, definitions, at, depth);
+    skip_arguments(sheet, definitions, count - 1, b, depth)
+}
+
 // The place after the expression at `at`.
-pub fn skip_expr(sheet: &[u8], at: usize, depth: u8) -> usize
-    ensures { λ r. ⌜ r ≡ skipAt depth (now (sheet .entry)) at ⌝ }
+pub fn skip_expr(sheet: &[u8], definitions: &[usize; 8], at: usize, depth: u8) -> usize
+    ensures { λ r. ⌜ r ≡ skipAt depth (now (sheet .entry)) (now (definitions .entry)) at ⌝ }
 {
     if depth == 0 {
         return at;
@@ -76,15 +98,19 @@ pub fn skip_expr(sheet: &[u8], at: usize, depth: u8) -> usize
         0x02 => at + 2,
         0x0C => at + 6,
         0x04 => at + 2,
-        0x11 => skip_expr(sheet, at + 2, depth - 1),
+        0x11 => skip_expr(sheet, definitions, at + 2, depth - 1),
         0x31 => {
-            let b = skip_expr(sheet, at + 2, depth - 1);
-            skip_expr(sheet, b, depth - 1)
+            let b = skip_expr(sheet, definitions, at + 2, depth - 1);
+            skip_expr(sheet, definitions, b, depth - 1)
         }
         0x71 => {
-            let a = skip_expr(sheet, at + 2, depth - 1);
-            let b = skip_expr(sheet, a, depth - 1);
-            skip_expr(sheet, b, depth - 1)
+            let a = skip_expr(sheet, definitions, at + 2, depth - 1);
+            let b = skip_expr(sheet, definitions, a, depth - 1);
+            skip_expr(sheet, definitions, b, depth - 1)
+        }
+        0x80 => {
+            let count = argument_count(sheet, definitions, byte_at(sheet, at + 1));
+            skip_arguments(sheet, definitions, count, at + 2, depth - 1)
         }
         _ => at,
     }
@@ -144,6 +170,7 @@ fn emit(
 // Fills an assignment, whose expression stands at `at`.
 fn fill_assign(
     sheet: &[u8],
+    definitions: &[usize; 8],
     at: usize,
     target: u8,
     kind: u8,
@@ -151,41 +178,43 @@ fn fill_assign(
     thread: usize,
     code: &mut [u16; 4096],
 ) -> Filled
-    ensures { λ r. ⌜ filled r (now (code .exit)) ≡ fillAssign (now (sheet .entry)) thread kind target at (filling at place (now (code .entry))) ⌝ }
+    ensures { λ r. ⌜ filled r (now (code .exit)) ≡ fillAssign (now (sheet .entry)) (now (definitions .entry)) thread kind target at (filling at place (now (code .entry))) ⌝ }
 {
-    let next = skip_expr(sheet, at, 16);
+    let next = skip_expr(sheet, definitions, at, 16);
     emit(code, thread, place, kind, at, wide(target), next)
 }
 
 // Fills two statements, one after the other.
 fn fill_sequence(
     sheet: &[u8],
+    definitions: &[usize; 8],
     at: usize,
     depth: u8,
     place: usize,
     thread: usize,
     code: &mut [u16; 4096],
 ) -> Filled
-    ensures { λ r. ⌜ filled r (now (code .exit)) ≡ fillSequence (now (sheet .entry)) thread (fillAt (now (sheet .entry)) thread depth) (filling at place (now (code .entry))) ⌝ }
+    ensures { λ r. ⌜ filled r (now (code .exit)) ≡ fillSequence (now (sheet .entry)) (now (definitions .entry)) thread (fillAt (now (sheet .entry)) (now (definitions .entry)) thread depth) (filling at place (now (code .entry))) ⌝ }
 {
-    let a = fill_stmt(sheet, at, depth, place, thread, code);
-    fill_stmt(sheet, a.next, depth, a.place, thread, code)
+    let a = fill_stmt(sheet, definitions, at, depth, place, thread, code);
+    fill_stmt(sheet, definitions, a.next, depth, a.place, thread, code)
 }
 
 // Fills an if, whose condition stands at `at`: `ifnot`, body.
 fn fill_if(
     sheet: &[u8],
+    definitions: &[usize; 8],
     at: usize,
     depth: u8,
     place: usize,
     thread: usize,
     code: &mut [u16; 4096],
 ) -> Filled
-    ensures { λ r. ⌜ filled r (now (code .exit)) ≡ fillIf (now (sheet .entry)) thread (fillAt (now (sheet .entry)) thread depth) (filling at place (now (code .entry))) ⌝ }
+    ensures { λ r. ⌜ filled r (now (code .exit)) ≡ fillIf (now (sheet .entry)) (now (definitions .entry)) thread (fillAt (now (sheet .entry)) (now (definitions .entry)) thread depth) (filling at place (now (code .entry))) ⌝ }
 {
-    let inside = skip_expr(sheet, at, 16);
+    let inside = skip_expr(sheet, definitions, at, 16);
     let first = after(place);
-    let a = fill_stmt(sheet, inside, depth, first, thread, code);
+    let a = fill_stmt(sheet, definitions, inside, depth, first, thread, code);
     store(code, thread, place, IFNOT, at, a.place);
     a
 }
@@ -193,19 +222,20 @@ fn fill_if(
 // Fills an if-else, whose condition stands at `at`: `ifnot`, first body, `go`, second body.
 fn fill_if_else(
     sheet: &[u8],
+    definitions: &[usize; 8],
     at: usize,
     depth: u8,
     place: usize,
     thread: usize,
     code: &mut [u16; 4096],
 ) -> Filled
-    ensures { λ r. ⌜ filled r (now (code .exit)) ≡ fillIfElse (now (sheet .entry)) thread (fillAt (now (sheet .entry)) thread depth) (filling at place (now (code .entry))) ⌝ }
+    ensures { λ r. ⌜ filled r (now (code .exit)) ≡ fillIfElse (now (sheet .entry)) (now (definitions .entry)) thread (fillAt (now (sheet .entry)) (now (definitions .entry)) thread depth) (filling at place (now (code .entry))) ⌝ }
 {
-    let inside = skip_expr(sheet, at, 16);
+    let inside = skip_expr(sheet, definitions, at, 16);
     let first = after(place);
-    let a = fill_stmt(sheet, inside, depth, first, thread, code);
+    let a = fill_stmt(sheet, definitions, inside, depth, first, thread, code);
     let second = after(a.place);
-    let b = fill_stmt(sheet, a.next, depth, second, thread, code);
+    let b = fill_stmt(sheet, definitions, a.next, depth, second, thread, code);
     store(code, thread, a.place, GO, 0, b.place);
     store(code, thread, place, IFNOT, at, second);
     b
@@ -214,17 +244,18 @@ fn fill_if_else(
 // Fills a while, whose condition stands at `at`: `ifnot`, body, `go` back.
 fn fill_while(
     sheet: &[u8],
+    definitions: &[usize; 8],
     at: usize,
     depth: u8,
     place: usize,
     thread: usize,
     code: &mut [u16; 4096],
 ) -> Filled
-    ensures { λ r. ⌜ filled r (now (code .exit)) ≡ fillWhile (now (sheet .entry)) thread (fillAt (now (sheet .entry)) thread depth) (filling at place (now (code .entry))) ⌝ }
+    ensures { λ r. ⌜ filled r (now (code .exit)) ≡ fillWhile (now (sheet .entry)) (now (definitions .entry)) thread (fillAt (now (sheet .entry)) (now (definitions .entry)) thread depth) (filling at place (now (code .entry))) ⌝ }
 {
-    let inside = skip_expr(sheet, at, 16);
+    let inside = skip_expr(sheet, definitions, at, 16);
     let first = after(place);
-    let a = fill_stmt(sheet, inside, depth, first, thread, code);
+    let a = fill_stmt(sheet, definitions, inside, depth, first, thread, code);
     let b = emit(code, thread, a.place, GO, 0, place, a.next);
     store(code, thread, place, IFNOT, at, b.place);
     b
@@ -233,28 +264,30 @@ fn fill_while(
 // Fills a forever: body, `go` back.
 fn fill_forever(
     sheet: &[u8],
+    definitions: &[usize; 8],
     at: usize,
     depth: u8,
     place: usize,
     thread: usize,
     code: &mut [u16; 4096],
 ) -> Filled
-    ensures { λ r. ⌜ filled r (now (code .exit)) ≡ fillForever (now (sheet .entry)) thread (fillAt (now (sheet .entry)) thread depth) (filling at place (now (code .entry))) ⌝ }
+    ensures { λ r. ⌜ filled r (now (code .exit)) ≡ fillForever (now (sheet .entry)) (now (definitions .entry)) thread (fillAt (now (sheet .entry)) (now (definitions .entry)) thread depth) (filling at place (now (code .entry))) ⌝ }
 {
-    let a = fill_stmt(sheet, at, depth, place, thread, code);
+    let a = fill_stmt(sheet, definitions, at, depth, place, thread, code);
     emit(code, thread, a.place, GO, 0, place, a.next)
 }
 
 // Fills the statement whose map stands at `at`, from a place of a thread.
 fn fill_stmt(
     sheet: &[u8],
+    definitions: &[usize; 8],
     at: usize,
     depth: u8,
     place: usize,
     thread: usize,
     code: &mut [u16; 4096],
 ) -> Filled
-    ensures { λ r. ⌜ filled r (now (code .exit)) ≡ fillAt (now (sheet .entry)) thread depth (filling at place (now (code .entry))) ⌝ }
+    ensures { λ r. ⌜ filled r (now (code .exit)) ≡ fillAt (now (sheet .entry)) (now (definitions .entry)) thread depth (filling at place (now (code .entry))) ⌝ }
 {
     if depth == 0 {
         return Filled { next: at, place };
@@ -272,13 +305,22 @@ fn fill_stmt(
             next: at + 1,
             place,
         },
-        0x03 => fill_assign(sheet, at + 2, field, SET, place, thread, code),
-        0x23 => fill_assign(sheet, at + 2, field, LATER, place, thread, code),
-        0x0C => fill_sequence(sheet, at + 1, depth - 1, place, thread, code),
-        0x06 => fill_if(sheet, at + 1, depth - 1, place, thread, code),
-        0x0E => fill_if_else(sheet, at + 1, depth - 1, place, thread, code),
-        0x46 => fill_while(sheet, at + 1, depth - 1, place, thread, code),
-        0x44 => fill_forever(sheet, at + 1, depth - 1, place, thread, code),
+        0x03 => fill_assign(sheet, definitions, at + 2, field, SET, place, thread, code),
+        0x23 => fill_assign(
+            sheet,
+            definitions,
+            at + 2,
+            field,
+            LATER,
+            place,
+            thread,
+            code,
+        ),
+        0x0C => fill_sequence(sheet, definitions, at + 1, depth - 1, place, thread, code),
+        0x06 => fill_if(sheet, definitions, at + 1, depth - 1, place, thread, code),
+        0x0E => fill_if_else(sheet, definitions, at + 1, depth - 1, place, thread, code),
+        0x46 => fill_while(sheet, definitions, at + 1, depth - 1, place, thread, code),
+        0x44 => fill_forever(sheet, definitions, at + 1, depth - 1, place, thread, code),
         0x10 => emit(
             code,
             thread,
@@ -300,16 +342,22 @@ fn thread_count(threads: u8) -> usize
 }
 
 // Fills the code of each thread, the first one's statement at `body`, and gives each thread's size, 0 past the last.
-pub fn compile(sheet: &[u8], threads: u8, body: usize, code: &mut [u16; 4096]) -> [usize; 8]
-    ensures { λ r. ⌜ r ≡ compileAt (now (sheet .entry)) threads body (now (code .entry)) .sizes ⌝ }
-    ensures { λ _. ⌜ now (code .exit) ≡ compileAt (now (sheet .entry)) threads body (now (code .entry)) .code ⌝ }
+pub fn compile(
+    sheet: &[u8],
+    definitions: &[usize; 8],
+    threads: u8,
+    body: usize,
+    code: &mut [u16; 4096],
+) -> [usize; 8]
+    ensures { λ r. ⌜ r ≡ compileAt (now (sheet .entry)) (now (definitions .entry)) threads body (now (code .entry)) .sizes ⌝ }
+    ensures { λ _. ⌜ now (code .exit) ≡ compileAt (now (sheet .entry)) (now (definitions .entry)) threads body (now (code .entry)) .code ⌝ }
 {
     let mut sizes = [0usize; 8];
     let mut next = body;
     let count = thread_count(threads);
     let mut t: usize = 0;
     while t < count {
-        let f = fill_forever(sheet, next, 64, 0, t, code);
+        let f = fill_forever(sheet, definitions, next, 64, 0, t, code);
         sizes[t] = f.place;
         next = f.next;
         t += 1;

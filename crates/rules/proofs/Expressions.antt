@@ -10,13 +10,16 @@ use lib.Dec.{leb, eqb}
 use borrow.Author.Tests.{leb-true}
 use Rattle.sheet.specs.declared.EdgeTerm.{EdgeTerm}
 use Rattle.sheet.specs.Reading.{ok}
-use Rattle.sheet.specs.Expression.{Expr, located, exprAt}
-use Rattle.sheet.specs.Statement.{Stmt, empty, size, mapStmt, Scope, Body, readStmt}
-use Rattle.sheet.specs.Module.{Module, mapModule, Listed, readHead, readWires, readThreads, Sheet, readSheet, read}
+use Rattle.sheet.specs.Expression.{Expr, Scope, located, exprAt}
+use Rattle.sheet.specs.Statement.{Stmt, empty, size, mapStmt, Body, readStmt}
+use Rattle.sheet.specs.Functions.{readFunctions}
+use Rattle.sheet.specs.Module.{Module, mapModule, Listed, readHead, withFunctions, readWires, readThreads, Sheet, wholeSheet, readSheet, read}
+use Rattle.sheet.specs.Answers.{definitionsOf}
 use Rattle.sheet.proofs.Reading.{bind-ok, check-ok, ok-injective}
 use Rattle.sheet.proofs.Sections.{threads-count}
 use Rattle.sheet.proofs.Statements.{ReadsStmt, an-empty, an-assign, a-later, a-sequence, an-if, an-if-else, a-while, a-forever, a-wait, derive-stmt}
 use Rattle.sheet.proofs.Trees.{trees}
+use Rattle.sheet.proofs.Closed.{whole}
 use Rattle.pseudocode.specs.declared.EdgeTerms.{EdgeTerms}
 use Rattle.pseudocode.specs.declared.Action.the-variants.{Set, Later, Go, IfNot}
 use Rattle.pseudocode.specs.declared.Instruction.{Instruction}
@@ -26,7 +29,8 @@ use Rattle.pseudocode.specs.Instruction.{instructionOf}
 use Rattle.pseudocode.specs.Compiling.{Compiled, compileAt}
 use Rattle.pseudocode.specs.Fetching.{fetchAt}
 use Rattle.pseudocode.proofs.Translation.{threadCode-size, threadCode-map}
-use Rattle.pseudocode.proofs.Compiling.{compile-law}
+use Rattle.pseudocode.proofs.Skipping.{Counted}
+use Rattle.pseudocode.proofs.Compiling.{compile-law, sheet-counted}
 use Rattle.events.specs.Cycle.{codeOf}
 use Rattle.tables.proofs.Marking.{ReadAt}
 use Rattle.tables.proofs.Placing.{located-read}
@@ -34,12 +38,12 @@ use Rattle.tables.proofs.Holding.{module-same}
 
 -- ---- an instruction of a module's code, and the one that was fetched for it: its expression was read at that place
 
-pub data Expressed (ws s : List ℕ) : Instr Expr → Instruction → Type 0 where
-  of-wait : {ts : List EdgeTerm} {t : EdgeTerms} → Expressed ws s (wait! ts) (Wait t)
-  of-set : {t p : ℕ} {e : Expr} → ReadAt ws s e p → Expressed ws s (set! t e) (Act (Set t p))
-  of-later : {t p : ℕ} {e : Expr} → ReadAt ws s e p → Expressed ws s (later! t e) (Act (Later t p))
-  of-go : {g h : ℕ} → Expressed ws s (go g) (Act (Go h))
-  of-ifnot : {g h p : ℕ} {e : Expr} → ReadAt ws s e p → Expressed ws s (ifnot e g) (Act (IfNot h p))
+pub data Expressed (c : Scope) (s : List ℕ) : Instr Expr → Instruction → Type 0 where
+  of-wait : {ts : List EdgeTerm} {t : EdgeTerms} → Expressed c s (wait! ts) (Wait t)
+  of-set : {t p : ℕ} {e : Expr} → ReadAt c s e p → Expressed c s (set! t e) (Act (Set t p))
+  of-later : {t p : ℕ} {e : Expr} → ReadAt c s e p → Expressed c s (later! t e) (Act (Later t p))
+  of-go : {g h : ℕ} → Expressed c s (go g) (Act (Go h))
+  of-ifnot : {g h p : ℕ} {e : Expr} → ReadAt c s e p → Expressed c s (ifnot e g) (Act (IfNot h p))
 
 -- ---- a property of each instruction of a list
 
@@ -61,11 +65,11 @@ module _ {P : Instr ℕ → Type 0} where
 
 module _ (c : Scope) (s : List ℕ) where
   abbrev treeAt : ℕ → Expr
-  treeAt = exprAt s (c .widths)
+  treeAt = exprAt s c
 
   -- The instruction by the places of its expression, and the same by trees.
   abbrev ByTree : Instr ℕ → Type 0
-  ByTree i = Expressed (c .widths) s (mapInstr treeAt i) (instructionOf i)
+  ByTree i = Expressed c s (mapInstr treeAt i) (instructionOf i)
 
   go-each : (g : ℕ) → Each ByTree (go g ∷ [])
   unfolding mapInstr instructionOf
@@ -78,15 +82,15 @@ module _ (c : Scope) (s : List ℕ) where
   stmt-each : {d p : ℕ} {b : Body ℕ} → ReadsStmt (located s) c s d p b → (n : ℕ) → Each ByTree (translate (b .stmt) n)
   unfolding translate mapInstr instructionOf
   stmt-each (an-empty l m) n = none
-  stmt-each (an-assign l m t r e w) n = more (of-set (located-read s (c .widths) _ e)) none
-  stmt-each (a-later l m t r e w) n = more (of-later (located-read s (c .widths) _ e)) none
+  stmt-each (an-assign l m t r e w) n = more (of-set (located-read s c _ e)) none
+  stmt-each (a-later l m t r e w) n = more (of-later (located-read s c _ e)) none
   stmt-each (a-sequence {a = a} l m x y) n = each-append (stmt-each x n) (stmt-each y (n + size (a .stmt)))
-  stmt-each (an-if {a = a} l m e x) n = more (of-ifnot (located-read s (c .widths) _ e)) (stmt-each x (n + 1))
+  stmt-each (an-if {a = a} l m e x) n = more (of-ifnot (located-read s c _ e)) (stmt-each x (n + 1))
   stmt-each (an-if-else {a = a} {b = b} l m e x y) n =
-      more (of-ifnot (located-read s (c .widths) _ e))
+      more (of-ifnot (located-read s c _ e))
       (each-append (stmt-each x (n + 1))
       (go-each-then (n + 2 + size (a .stmt) + size (b .stmt)) (stmt-each y (n + 2 + size (a .stmt)))))
-  stmt-each (a-while l m e x) n = more (of-ifnot (located-read s (c .widths) _ e)) (each-append (stmt-each x (n + 1)) (go-each n))
+  stmt-each (a-while l m e x) n = more (of-ifnot (located-read s c _ e)) (each-append (stmt-each x (n + 1)) (go-each n))
   stmt-each (a-forever l m x) n = each-append (stmt-each x n) (go-each n)
   stmt-each (a-wait m k ts w) n = more of-wait none
 
@@ -123,34 +127,36 @@ pub record Threads (s : List ℕ) (r : Sheet ℕ) : Type 0 where
   pub from-body : readThreads (located s) (r .contents .scope) s (length (r .contents .threads)) (r .body) ≡ ok list
 
 pub threads-of : (s : List ℕ) (r : Sheet ℕ) → readSheet (located s) s ≡ ok r → Threads s r
-unfolding readSheet
+unfolding wholeSheet
 threads-of s r h =
-    let k = check-ok (leb (length s) 8192) 1 8192 _ h in
+    let k = check-ok (leb (length s) 8192) 1 8192 _ (whole (located s) s h) in
     let hd = bind-ok (readHead s) _ (k .1) in
-    let c = hd .0 .scope in
-    let es = bind-ok (readWires (located s) c s (hd .0 .wires) (c .inputs + c .registers) (hd .0 .next)) _ (hd .2) in
+    let n = hd .0 .scope .declared in
+    let fs = bind-ok (readFunctions n n [] s (hd .0 .next)) _ (hd .2) in
+    let c = withFunctions (hd .0 .scope) (fs .0 .functions) in
+    let es = bind-ok (readWires (located s) c s (hd .0 .wires) (c .inputs + c .registers) (fs .0 .next)) _ (fs .2) in
     let ts = bind-ok (readThreads (located s) c s (hd .0 .threads) (es .0 .next)) _ (es .2) in
     let z = check-ok (eqb (ts .0 .next) (length s)) 10 (ts .0 .next) _ (ts .2) in
-    let n = threads-count (located s) c s (hd .0 .threads) (es .0 .next) (ts .1) in
+    let count = threads-count (located s) c s (hd .0 .threads) (es .0 .next) (ts .1) in
     rw (← ok-injective (z .1))
     (record {
       short = leb-true (length s) 8192 (k .0);
       list = ts .0;
       items = refl;
-      from-body = rw (← n) (ts .1);
+      from-body = rw (← count) (ts .1);
     })
 
 -- ---- the expressions of an accepted sheet's instructions
 
 module _ (s code : List ℕ) (r : Sheet ℕ) (h : readSheet (located s) s ≡ ok r) (long : length code ≡ 4096) where
   abbrev at : ℕ → Expr
-  at = exprAt s (r .contents .scope .widths)
+  at = exprAt s (r .contents .scope)
 
   abbrev stmts : List (Stmt ℕ)
   stmts = r .contents .threads
 
   abbrev table : Compiled
-  table = compileAt s (length (r .contents .threads)) (r .body) code
+  table = compileAt s (definitionsOf (r .definitions)) (length (r .contents .threads)) (r .body) code
 
   stmt-at : (i : ℕ) → getD (map (mapStmt at) stmts) i empty ≡ mapStmt at (getD stmts i empty)
   unfolding mapStmt
@@ -171,29 +177,38 @@ module _ (s code : List ℕ) (r : Sheet ℕ) (h : readSheet (located s) s ≡ ok
       rw (← t .items) (threads-each (r .contents .scope) s (length stmts) (r .body) (t .from-body) i k)
 
   expressed-tree : (i p : ℕ) → i < length stmts → p < size (getD stmts i empty) + 1
-      → Expressed (r .contents .scope .widths) s (getD (threadCode (getD (map (mapStmt at) stmts) i empty)) p (go 0)) (fetchAt s (table .code) i p)
+      → Expressed (r .contents .scope) s (getD (threadCode (getD (map (mapStmt at) stmts) i empty)) p (go 0)) (fetchAt s (table .code) i p)
   unfolding mapInstr instructionOf
   expressed-tree i p l k =
       rw (instr-at i p, compile-law s code r h long .fetched i p l k)
       (each-at (each-thread i l) of-go p)
 
--- An instruction of the module's code, and what is fetched for it.
-abbrev pub Expressions : List ℕ → Module Expr → List ℕ → Type 0
-Expressions s m code =
-    (i p : ℕ) → i < length (m .threads) → p < length (codeOf m i) → Expressed (m .scope .widths) s (getD (codeOf m i) p (go 0)) (fetchAt s code i p)
+-- An instruction of the module's code, and what is fetched for it; the definitions of the functions stand at the places ds.
+pub record Expressions (s ds : List ℕ) (m : Module Expr) (code : List ℕ) : Type 0 where
+  pub counted : Counted s ds (m .scope .functions)
+  pub at : (i p : ℕ) → i < length (m .threads) → p < length (codeOf m i)
+      → Expressed (m .scope) s (getD (codeOf m i) p (go 0)) (fetchAt s code i p)
 
-tree-expressed : (s code : List ℕ) (r : Sheet ℕ) → readSheet (located s) s ≡ ok r → length code ≡ 4096
-    → Expressions s (trees s r .contents) (compileAt s (length (r .contents .threads)) (r .body) code .code)
-unfolding trees mapModule codeOf
-tree-expressed s code r h long i p l k =
-    let f = exprAt s (r .contents .scope .widths) in
-    let a = getD (r .contents .threads) i empty in
-    let n = length-map (r .contents .threads) (mapStmt f) in
-    let c = ap length (code-at s code r h long i) ∙ length-map (threadCode a) (mapInstr f) ∙ threadCode-size a in
-    expressed-tree s code r h long i p (omega arith) (omega arith)
+module _ (s code : List ℕ) (r : Sheet ℕ) (h : readSheet (located s) s ≡ ok r) (long : length code ≡ 4096) where
+  abbrev places : List ℕ
+  places = definitionsOf (r .definitions)
+
+  tree-expressed : Expressions s places (trees s r .contents) (compileAt s places (length (r .contents .threads)) (r .body) code .code)
+  unfolding trees mapModule codeOf
+  tree-expressed =
+      record {
+        counted = sheet-counted (located s) s h;
+        at = λ i p l k.
+            let f = exprAt s (r .contents .scope) in
+            let a = getD (r .contents .threads) i empty in
+            let n = length-map (r .contents .threads) (mapStmt f) in
+            let c = ap length (code-at s code r h long i) ∙ length-map (threadCode a) (mapInstr f) ∙ threadCode-size a in
+            expressed-tree s code r h long i p (omega arith) (omega arith);
+      }
 
 pub expressed : (s code : List ℕ) (r : Sheet ℕ) (m : Module Expr) → readSheet (located s) s ≡ ok r → read s ≡ ok m → length code ≡ 4096
-    → Expressions s m (compileAt s (length (r .contents .threads)) (r .body) code .code)
+    → let ds = definitionsOf (r .definitions) in Expressions s ds m (compileAt s ds (length (r .contents .threads)) (r .body) code .code)
 expressed s code r m h e long =
-    subst (λ (n : Module Expr). Expressions s n (compileAt s (length (r .contents .threads)) (r .body) code .code)) (module-same s r m h e)
+    let ds = definitionsOf (r .definitions) in
+    subst (λ (n : Module Expr). Expressions s ds n (compileAt s ds (length (r .contents .threads)) (r .body) code .code)) (module-same s r m h e)
     (tree-expressed s code r h long)

@@ -10,11 +10,12 @@ use native.Mathlib.Omega.{arith}
 use borrow.Author.Tests.{eqb-true, eqb-false}
 use lib.Dec.{eqb}
 use lib.ListN.{length, getD, replicate}
-use Rattle.sheet.specs.Expression.{Expr}
+use Rattle.sheet.specs.Expression.{Expr, Scope}
 use Rattle.sheet.specs.Module.{Module}
 use Rattle.pseudocode.specs.declared.Instruction.{Instruction}
 use Rattle.pseudocode.specs.Translation.{Instr, go}
 use Rattle.pseudocode.specs.Fetching.{fetchAt}
+use Rattle.pseudocode.proofs.Skipping.{Counted}
 use Rattle.masks.specs.Masks.{bits}
 use Rattle.masks.proofs.Masks.{any-none, any-bits}
 use Rattle.soundness.specs.Soundness.{Sound}
@@ -30,24 +31,24 @@ use Rattle.rules.proofs.Expressions.{Expressed, of-wait, of-set, of-lat
 
 -- ---- one turn of the loops
 
-module _ (s code : List ℕ) where
-  pub thread-none : (i : ℕ) (rs : List ℕ) → rs ≡ markThread s code i 0 rs
+module _ (s ds code : List ℕ) where
+  pub thread-none : (i : ℕ) (rs : List ℕ) → rs ≡ markThread s ds code i 0 rs
   unfolding markThread
   thread-none i rs = refl
 
-  pub thread-turn : (i p : ℕ) (rs : List ℕ) {vs us : List ℕ} {x : Instruction} → vs ≡ markThread s code i p rs
-      → x ≡ fetchAt s code i p → us ≡ markInstr s i x vs → us ≡ markThread s code i (p + 1) rs
+  pub thread-turn : (i p : ℕ) (rs : List ℕ) {vs us : List ℕ} {x : Instruction} → vs ≡ markThread s ds code i p rs
+      → x ≡ fetchAt s code i p → us ≡ markInstr s ds i x vs → us ≡ markThread s ds code i (p + 1) rs
   unfolding markThread
-  thread-turn i p rs e x h = rw (add-one p) (h ∙ λ j. markInstr s i (x j) (e j))
+  thread-turn i p rs e x h = rw (add-one p) (h ∙ λ j. markInstr s ds i (x j) (e j))
 
-  pub reading-none : (sizes rs : List ℕ) → rs ≡ readingBelow s code sizes 0 rs
+  pub reading-none : (sizes rs : List ℕ) → rs ≡ readingBelow s ds code sizes 0 rs
   unfolding readingBelow
   reading-none sizes rs = refl
 
-  pub reading-turn : (sizes : List ℕ) (i : ℕ) (rs : List ℕ) {vs us : List ℕ} {n : ℕ} → vs ≡ readingBelow s code sizes i rs
-      → n ≡ atMost 256 (getD sizes i 0) → us ≡ markThread s code i n vs → us ≡ readingBelow s code sizes (i + 1) rs
+  pub reading-turn : (sizes : List ℕ) (i : ℕ) (rs : List ℕ) {vs us : List ℕ} {n : ℕ} → vs ≡ readingBelow s ds code sizes i rs
+      → n ≡ atMost 256 (getD sizes i 0) → us ≡ markThread s ds code i n vs → us ≡ readingBelow s ds code sizes (i + 1) rs
   unfolding readingBelow
-  reading-turn sizes i rs e n h = rw (add-one i) (h ∙ λ j. markThread s code i (n j) (e j))
+  reading-turn sizes i rs e n h = rw (add-one i) (h ∙ λ j. markThread s ds code i (n j) (e j))
 
 -- ---- marks of one thread after the other
 
@@ -62,25 +63,25 @@ marks-then {k} {rs} {f = f} {g = g} a b =
       others = λ v j n. b .others v j n ∙ a .others v j n;
     }
 
-module _ (ws s : List ℕ) (few : length ws ≤ 80) (k : ℕ) (low : k < 32) where
-  pub instr-marks : {x : Instr Expr} {y : Instruction} → Expressed ws s x y → (rs : List ℕ) → length rs ≡ 80
-      → Marks k rs (markInstr s k y rs) (λ v. readsAt v x)
+module _ (c : Scope) (s ds : List ℕ) (few : length (c .widths) ≤ 80) (counted : Counted s ds (c .functions)) (k : ℕ) (low : k < 32) where
+  pub instr-marks : {x : Instr Expr} {y : Instruction} → Expressed c s x y → (rs : List ℕ) → length rs ≡ 80
+      → Marks k rs (markInstr s ds k y rs) (λ v. readsAt v x)
   unfolding markInstr readsAt
   instr-marks of-wait rs long = marks-none k rs long
-  instr-marks (of-set q) rs long = rw (← q .2) (walk ws s few k low (q .1) rs long .marks)
-  instr-marks (of-later q) rs long = rw (← q .2) (walk ws s few k low (q .1) rs long .marks)
+  instr-marks (of-set q) rs long = rw (← q .2) (walk c s ds counted few k low (q .1) rs long .marks)
+  instr-marks (of-later q) rs long = rw (← q .2) (walk c s ds counted few k low (q .1) rs long .marks)
   instr-marks of-go rs long = marks-none k rs long
-  instr-marks (of-ifnot q) rs long = rw (← q .2) (walk ws s few k low (q .1) rs long .marks)
+  instr-marks (of-ifnot q) rs long = rw (← q .2) (walk c s ds counted few k low (q .1) rs long .marks)
 
-  -- The places below n of thread k, whose code is c.
-  thread-marks : (code : List ℕ) (c : List (Instr Expr)) (size : ℕ)
-      → ((p : ℕ) → p < size → Expressed ws s (getD c p (go 0)) (fetchAt s code k p)) → (n : ℕ) → n ≤ size
-      → (rs : List ℕ) → length rs ≡ 80 → Marks k rs (markThread s code k n rs) (λ v. anyBelow n (λ p. readsAt v (getD c p (go 0))))
+  -- The places below n of thread k, whose code is js.
+  thread-marks : (code : List ℕ) (js : List (Instr Expr)) (size : ℕ)
+      → ((p : ℕ) → p < size → Expressed c s (getD js p (go 0)) (fetchAt s code k p)) → (n : ℕ) → n ≤ size
+      → (rs : List ℕ) → length rs ≡ 80 → Marks k rs (markThread s ds code k n rs) (λ v. anyBelow n (λ p. readsAt v (getD js p (go 0))))
   unfolding markThread anyBelow
-  thread-marks code c size at zero h rs long = marks-none k rs long
-  thread-marks code c size at (suc n) h rs long =
-      let a = thread-marks code c size at n (omega arith) rs long in
-      marks-then a (instr-marks (at n h) (markThread s code k n rs) (a .long))
+  thread-marks code js size at zero h rs long = marks-none k rs long
+  thread-marks code js size at (suc n) h rs long =
+      let a = thread-marks code js size at n (omega arith) rs long in
+      marks-then a (instr-marks (at n h) (markThread s ds code k n rs) (a .long))
 
 -- ---- an accepted sheet's tables
 
@@ -120,17 +121,17 @@ reading-more m n {rs} {ss} b x =
         ∙ ap (λ (i : ℕ). threadReads m i v) (sym q)
     by v j l k false e = let q = eqb-false j n e in x .others v j q ∙ b .own v j l (omega arith)
 
-module _ {s : List ℕ} {m : Module Expr} {starts sizes code readers : List ℕ} {watched : List Bool}
-    (z : Sound m) (h : Holding s m starts sizes code readers watched) (e : Expressions s m code) where
+module _ {s ds : List ℕ} {m : Module Expr} {starts sizes code readers : List ℕ} {watched : List Bool}
+    (z : Sound m) (h : Holding s m starts sizes code readers watched) (e : Expressions s ds m code) where
   pub few-widths : length (m .scope .widths) ≤ 80
   few-widths = omega (arith, z .variables, z .inputs-most, z .registers-most, z .wires-most)
 
   thread-reading : (i : ℕ) → i < length (m .threads) → (rs : List ℕ) → length rs ≡ 80
-      → Marks i rs (markThread s code i (atMost 256 (getD sizes i 0)) rs) (λ v. threadReads m i v)
+      → Marks i rs (markThread s ds code i (atMost 256 (getD sizes i 0)) rs) (λ v. threadReads m i v)
   unfolding threadReads
   thread-reading i l rs long =
       let c = codeOf m i in
-      let x = thread-marks (m .scope .widths) s few-widths i (omega (arith, z .threads-most)) code c (length c) (λ p k. e i p l k)
+      let x = thread-marks (m .scope) s ds few-widths (e .counted) i (omega (arith, z .threads-most)) code c (length c) (λ p k. e .at i p l k)
       (length c) (le-refl (length c)) rs long in
       rw (size-of z h i l)
       (record {
@@ -139,9 +140,9 @@ module _ {s : List ℕ} {m : Module Expr} {starts sizes code readers : List ℕ}
         others = x .others;
       })
 
-  pub reading-law : (n : ℕ) → n ≤ length (m .threads) → Reading m n (readingBelow s code sizes n (replicate 80 0))
+  pub reading-law : (n : ℕ) → n ≤ length (m .threads) → Reading m n (readingBelow s ds code sizes n (replicate 80 0))
   unfolding readingBelow
   reading-law zero k = reading-blank m
   reading-law (suc n) k =
       let b = reading-law n (omega arith) in
-      reading-more m n b (thread-reading n k (readingBelow s code sizes n (replicate 80 0)) (b .long))
+      reading-more m n b (thread-reading n k (readingBelow s ds code sizes n (replicate 80 0)) (b .long))

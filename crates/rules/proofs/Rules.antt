@@ -15,12 +15,14 @@ use Rattle.sheet.specs.Reading.{ok}
 use Rattle.sheet.specs.Expression.{Expr, located, exprAt}
 use Rattle.sheet.specs.Statement.{Stmt, mapStmt}
 use Rattle.sheet.specs.Module.{Module, mapModule, Sheet, readSheet, read}
-use Rattle.sheet.specs.Answers.{startsOf, layoutOf}
+use Rattle.sheet.specs.Answers.{definitionsOf, startsOf, layoutOf}
 use Rattle.sheet.proofs.Trees.{trees}
 use Rattle.pseudocode.specs.declared.Instruction.{Instruction}
 use Rattle.pseudocode.specs.Translation.{Instr}
 use Rattle.pseudocode.specs.Instruction.{termsOf}
 use Rattle.pseudocode.specs.Compiling.{compileAt}
+use Rattle.pseudocode.proofs.Skipping.{Counted}
+use Rattle.pseudocode.proofs.Compiling.{sheet-counted}
 use Rattle.masks.specs.Masks.{bits, anyMark}
 use Rattle.soundness.specs.Soundness.{Sound}
 use Rattle.soundness.proofs.Soundness.{sound}
@@ -51,7 +53,7 @@ use Rattle.rules.proofs.Walking.{runsAt, awayAt, starts-read, away-read
 pub rule-path : (s : List ℕ) (l : Layout) (code sizes readers : List ℕ) {r : ℕ} {ps ls reading : List ℕ}
     → ps ≡ plainBelow s code sizes (l .inputs) (atMost 8 (l .threads)) (replicate 8 0)
     → ls ≡ laterBelow s code sizes (l .inputs) (atMost 8 (l .threads)) (replicate 8 0)
-    → reading ≡ readingBelow s code sizes (atMost 8 (l .threads)) (replicate 80 0)
+    → reading ≡ readingBelow s (l .definitions) code sizes (atMost 8 (l .threads)) (replicate 80 0)
     → r ≡ lowestRule (tablesOf s l code sizes readers ps ls reading) → r ≡ ruleAt s l code sizes readers
 unfolding ruleAt
 rule-path s l code sizes readers p q t e = e ∙ λ i. lowestRule (tablesOf s l code sizes readers (p i) (q i) (t i))
@@ -98,8 +100,8 @@ module _ {s ws : List ℕ} where
 
 -- ---- the rules, each on an accepted sheet's tables
 
-module _ {s : List ℕ} {m : Module Expr} {starts sizes code readers : List ℕ} {watched : List Bool}
-    (z : Sound m) (h : Holding s m starts sizes code readers watched) (e : Expressions s m code) where
+module _ {s ds : List ℕ} {m : Module Expr} {starts sizes code readers : List ℕ} {watched : List Bool}
+    (z : Sound m) (h : Holding s m starts sizes code readers watched) (e : Expressions s ds m code) where
   abbrev inputs : ℕ
   inputs = m .scope .inputs
 
@@ -119,7 +121,7 @@ module _ {s : List ℕ} {m : Module Expr} {starts sizes code readers : List ℕ}
   ls = laterBelow s code sizes (m .scope .inputs) (length (m .threads)) (replicate 8 0)
 
   abbrev reading : List ℕ
-  reading = readingBelow s code sizes (length (m .threads)) (replicate 80 0)
+  reading = readingBelow s ds code sizes (length (m .threads)) (replicate 80 0)
 
   pub low : (i : ℕ) → i < threads → i < 8
   low i l = omega (arith, z .threads-most)
@@ -272,11 +274,11 @@ module _ {s : List ℕ} {m : Module Expr} {starts sizes code readers : List ℕ}
 
   -- Of a layout with the module's counts, and a place from which the threads wait as the module's do.
   lowest-law : (l : Layout) → l .inputs ≡ inputs → l .registers ≡ registers → l .wires ≡ wires → l .threads ≡ threads
-      → startsRunningFrom s threads (l .body) ≡ startsRunning m → runsAwayFrom s threads (l .body) ≡ runsAway m
+      → l .definitions ≡ ds → startsRunningFrom s ds threads (l .body) ≡ startsRunning m → runsAwayFrom s ds threads (l .body) ≡ runsAway m
       → ruleAt s l code sizes readers ≡ rule m
   unfolding ruleAt lowestRule higherRule rule
-  lowest-law l i r w t starts away =
-      rw (i, r, w, t, atMost-same 8 threads (z .threads-most))
+  lowest-law l i r w t d starts away =
+      rw (i, r, w, t, d, atMost-same 8 threads (z .threads-most))
       (λ j.
       pick (two-law j) 12
       (pick (both-law j) 13
@@ -293,11 +295,17 @@ module _ {s : List ℕ} {m : Module Expr} {starts sizes code readers : List ℕ}
 
 module _ (s : List ℕ) (x : Sheet ℕ) (m : Module Expr) (h : readSheet (located s) s ≡ ok x) (e : read s ≡ ok m) where
   abbrev at : ℕ → Expr
-  at = exprAt s (x .contents .scope .widths)
+  at = exprAt s (x .contents .scope)
+
+  abbrev ds : List ℕ
+  ds = definitionsOf (x .definitions)
 
   pub scope-same : x .contents .scope ≡ m .scope
   unfolding trees mapModule
   scope-same = ap (λ (n : Module Expr). n .scope) (module-same s x m h e)
+
+  pub counted : Counted s ds (x .contents .scope .functions)
+  counted = sheet-counted (located s) s h
 
   pub wires-same : length (x .contents .wires) ≡ length (m .wires)
   unfolding trees mapModule
@@ -313,34 +321,34 @@ module _ (s : List ℕ) (x : Sheet ℕ) (m : Module Expr) (h : readSheet (locate
   stmts-same = ap (λ (n : Module Expr). n .threads) (module-same s x m h e)
 
   -- 16
-  pub starts-law : startsRunningFrom s (length (m .threads)) (x .body) ≡ startsRunning m
+  pub starts-law : startsRunningFrom s ds (length (m .threads)) (x .body) ≡ startsRunning m
   unfolding startsRunning someThread bodyOf
   starts-law =
       let t = threads-of s x h in
-      let a = starts-read (x .contents .scope) s (t .short) at (length (x .contents .threads)) (x .body) (t .from-body) in
-      ap (λ (n : ℕ). startsRunningFrom s n (x .body)) (sym threads-same)
+      let a = starts-read (x .contents .scope) s ds (t .short) counted at (length (x .contents .threads)) (x .body) (t .from-body) in
+      ap (λ (n : ℕ). startsRunningFrom s ds n (x .body)) (sym threads-same)
       ∙ a
       ∙ ap (λ (ts : List (Stmt ℕ)). anyBelow (length ts) (runsAt (map (mapStmt at) ts))) (t .items)
       ∙ λ j. anyBelow (threads-same j) (runsAt (stmts-same j))
 
   -- 17
-  pub away-law : runsAwayFrom s (length (m .threads)) (x .body) ≡ runsAway m
+  pub away-law : runsAwayFrom s ds (length (m .threads)) (x .body) ≡ runsAway m
   unfolding runsAway someThread bodyOf loopsWait
   away-law =
       let t = threads-of s x h in
-      let a = away-read (x .contents .scope) s (t .short) at (length (x .contents .threads)) (x .body) (t .from-body) in
-      ap (λ (n : ℕ). runsAwayFrom s n (x .body)) (sym threads-same)
+      let a = away-read (x .contents .scope) s ds (t .short) counted at (length (x .contents .threads)) (x .body) (t .from-body) in
+      ap (λ (n : ℕ). runsAwayFrom s ds n (x .body)) (sym threads-same)
       ∙ a
       ∙ ap (λ (ts : List (Stmt ℕ)). anyBelow (length ts) (awayAt (map (mapStmt at) ts))) (t .items)
       ∙ λ j. anyBelow (threads-same j) (awayAt (stmts-same j))
 
   -- For an accepted sheet, and the tables that are filled from it, the lowest rule that is broken is the module's.
   pub rule-law : (code : List ℕ) → length code ≡ 4096
-      → let c = compileAt s (length (x .contents .threads)) (x .body) code in
+      → let c = compileAt s ds (length (x .contents .threads)) (x .body) code in
       ruleAt s (layoutOf x) (c .code) (c .sizes)
-      (readersBelow s (startsOf (x .contents .wires)) (atMost 32 (length (x .contents .wires))) (replicate 80 0))
+      (readersBelow s ds (startsOf (x .contents .wires)) (atMost 32 (length (x .contents .wires))) (replicate 80 0))
       ≡ rule m
   unfolding layoutOf
   rule-law code long =
       lowest-law (sound s e) (holding-filled s x m h e code long) (expressed s code x m h e long) (layoutOf x)
-      (ap (λ c. c .inputs) scope-same) (ap (λ c. c .registers) scope-same) wires-same threads-same starts-law away-law
+      (ap (λ c. c .inputs) scope-same) (ap (λ c. c .registers) scope-same) wires-same threads-same refl starts-law away-law

@@ -134,8 +134,8 @@ manyWaitsAt s code sizes threads = ltb 32 (waitsOf s code sizes threads)
 unfoldable pub higherRule : List ℕ → Layout → List ℕ → List ℕ → List ℕ → List ℕ → ℕ
 higherRule s l code sizes readers reading =
     pick (otherWaitBelow s code sizes (l .threads)) 15
-    (pick (startsRunningFrom s (l .threads) (l .body)) 16
-    (pick (runsAwayFrom s (l .threads) (l .body)) 17
+    (pick (startsRunningFrom s (l .definitions) (l .threads) (l .body)) 16
+    (pick (runsAwayFrom s (l .definitions) (l .threads) (l .body)) 17
     (pick (clockReadAt reading readers) 18
     (pick (readsUpwardAt readers (l .inputs) (l .registers) (l .wires)) 19
     (pick (manyWaitsAt s code sizes (l .threads)) 20
@@ -171,4 +171,4 @@ ruleAt s l code sizes readers =
     (tablesOf s l code sizes readers
     (plainBelow s code sizes (l .inputs) (atMost 8 (l .threads)) (replicate 8 0))
     (laterBelow s code sizes (l .inputs) (atMost 8 (l .threads)) (replicate 8 0))
-    (readingBelow s code sizes (atMost 8 (l .threads)) (replicate 80 0)))
+    (readingBelow s (l .definitions) code sizes (atMost 8 (l .threads)) (replicate 80 0)))

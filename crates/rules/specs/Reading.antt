@@ -9,20 +9,22 @@ use Rattle.pseudocode.specs.declared.Instruction.the-variants.{Wait, Act}
 use Rattle.pseudocode.specs.Fetching.{fetchAt}
 use Rattle.tables.specs.Readers.{atMost, markAt}
 
+-- The functions' definitions stand at the places ds.
+
 -- Thread i marked at the variables of the expression that an instruction has.
-unfoldable pub markInstr : List ℕ → ℕ → Instruction → List ℕ → List ℕ
-markInstr s i (Wait t) rs = rs
-markInstr s i (Act (Set t at)) rs = markAt 16 s i at rs .readers
-markInstr s i (Act (Later t at)) rs = markAt 16 s i at rs .readers
-markInstr s i (Act (Go g)) rs = rs
-markInstr s i (Act (IfNot g at)) rs = markAt 16 s i at rs .readers
+unfoldable pub markInstr : List ℕ → List ℕ → ℕ → Instruction → List ℕ → List ℕ
+markInstr s ds i (Wait t) rs = rs
+markInstr s ds i (Act (Set t at)) rs = markAt 16 s ds i at rs .readers
+markInstr s ds i (Act (Later t at)) rs = markAt 16 s ds i at rs .readers
+markInstr s ds i (Act (Go g)) rs = rs
+markInstr s ds i (Act (IfNot g at)) rs = markAt 16 s ds i at rs .readers
 
 -- The places below n of thread i.
-unfoldable pub markThread : List ℕ → List ℕ → ℕ → ℕ → List ℕ → List ℕ
-markThread s code i zero rs = rs
-markThread s code i (suc n) rs = markInstr s i (fetchAt s code i n) (markThread s code i n rs)
+unfoldable pub markThread : List ℕ → List ℕ → List ℕ → ℕ → ℕ → List ℕ → List ℕ
+markThread s ds code i zero rs = rs
+markThread s ds code i (suc n) rs = markInstr s ds i (fetchAt s code i n) (markThread s ds code i n rs)
 
 -- The threads below n, of these sizes. A thread has at most 256 instructions.
-unfoldable pub readingBelow : List ℕ → List ℕ → List ℕ → ℕ → List ℕ → List ℕ
-readingBelow s code sizes zero rs = rs
-readingBelow s code sizes (suc n) rs = markThread s code n (atMost 256 (getD sizes n 0)) (readingBelow s code sizes n rs)
+unfoldable pub readingBelow : List ℕ → List ℕ → List ℕ → List ℕ → ℕ → List ℕ → List ℕ
+readingBelow s ds code sizes zero rs = rs
+readingBelow s ds code sizes (suc n) rs = markThread s ds code n (atMost 256 (getD sizes n 0)) (readingBelow s ds code sizes n rs)

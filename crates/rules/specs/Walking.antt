@@ -39,31 +39,32 @@ inForever a = record { next = a .next; starts = a .starts; surely = true; loops 
 -- ---- walkAt: the statement at p, with so many levels left
 
 -- The statement of a form whose map stands at p. `inner` walks over a statement in it. What is no map is no statement.
-unfoldable pub walkForm : (ℕ → Waiting) → List ℕ → ℕ → Res Form → Waiting
-walkForm inner s p (ok anEmpty) = running (p + 1)
-walkForm inner s p (ok anAssign) = running (skipAt 16 s (p + 2))
-walkForm inner s p (ok aLater) = running (skipAt 16 s (p + 2))
-walkForm inner s p (ok aSequence) = let a = inner (p + 1) in inSequence a (inner (a .next))
-walkForm inner s p (ok anIf) = inIf (inner (skipAt 16 s (p + 1)))
-walkForm inner s p (ok anIfElse) = let a = inner (skipAt 16 s (p + 1)) in inIfElse a (inner (a .next))
-walkForm inner s p (ok aWhile) = inWhile (inner (skipAt 16 s (p + 1)))
-walkForm inner s p (ok aForever) = inForever (inner (p + 1))
-walkForm inner s p (ok aWait) = waits (p + 2 + 2 * getD s (p + 1) 0)
-walkForm inner s p (no n q) = running p
+-- The functions' definitions stand at the places ds.
+unfoldable pub walkForm : (ℕ → Waiting) → List ℕ → List ℕ → ℕ → Res Form → Waiting
+walkForm inner s ds p (ok anEmpty) = running (p + 1)
+walkForm inner s ds p (ok anAssign) = running (skipAt 16 s ds (p + 2))
+walkForm inner s ds p (ok aLater) = running (skipAt 16 s ds (p + 2))
+walkForm inner s ds p (ok aSequence) = let a = inner (p + 1) in inSequence a (inner (a .next))
+walkForm inner s ds p (ok anIf) = inIf (inner (skipAt 16 s ds (p + 1)))
+walkForm inner s ds p (ok anIfElse) = let a = inner (skipAt 16 s ds (p + 1)) in inIfElse a (inner (a .next))
+walkForm inner s ds p (ok aWhile) = inWhile (inner (skipAt 16 s ds (p + 1)))
+walkForm inner s ds p (ok aForever) = inForever (inner (p + 1))
+walkForm inner s ds p (ok aWait) = waits (p + 2 + 2 * getD s (p + 1) 0)
+walkForm inner s ds p (no n q) = running p
 
 -- Past 8,192 bytes there is no statement.
-unfoldable pub walkAt : ℕ → List ℕ → ℕ → Waiting
-walkAt zero s p = running p
-walkAt (suc d) s p = pick (ltb p 8192) (walkForm (walkAt d s) s p (formOf (getD s p 0) p)) (running p)
+unfoldable pub walkAt : ℕ → List ℕ → List ℕ → ℕ → Waiting
+walkAt zero s ds p = running p
+walkAt (suc d) s ds p = pick (ltb p 8192) (walkForm (walkAt d s ds) s ds p (formOf (getD s p 0) p)) (running p)
 
 -- ---- n threads, one after the other, the first at p. "Depth at most 64".
 
 -- 16: "a thread that doesn't start with a wait"
-unfoldable pub startsRunningFrom : List ℕ → ℕ → ℕ → Bool
-startsRunningFrom s zero p = false
-startsRunningFrom s (suc n) p = let w = walkAt 64 s p in not (w .starts) || startsRunningFrom s n (w .next)
+unfoldable pub startsRunningFrom : List ℕ → List ℕ → ℕ → ℕ → Bool
+startsRunningFrom s ds zero p = false
+startsRunningFrom s ds (suc n) p = let w = walkAt 64 s ds p in not (w .starts) || startsRunningFrom s ds n (w .next)
 
 -- 17: "a loop or thread body that doesn't surely wait"
-unfoldable pub runsAwayFrom : List ℕ → ℕ → ℕ → Bool
-runsAwayFrom s zero p = false
-runsAwayFrom s (suc n) p = let w = walkAt 64 s p in not (w .surely && w .loops) || runsAwayFrom s n (w .next)
+unfoldable pub runsAwayFrom : List ℕ → List ℕ → ℕ → ℕ → Bool
+runsAwayFrom s ds zero p = false
+runsAwayFrom s ds (suc n) p = let w = walkAt 64 s ds p in not (w .surely && w .loops) || runsAwayFrom s ds n (w .next)

@@ -131,34 +131,48 @@ pub fn writers(
 }
 
 // Marks a thread at the variables that an instruction reads.
-pub fn mark_instr(sheet: &[u8], i: Instruction, thread: usize, reading: &mut [u32; 80])
-    ensures { λ _. ⌜ now (reading .exit) ≡ markInstr (now (sheet .entry)) thread i (now (reading .entry)) ⌝ }
+pub fn mark_instr(
+    sheet: &[u8],
+    definitions: &[usize; 8],
+    i: Instruction,
+    thread: usize,
+    reading: &mut [u32; 80],
+)
+    ensures { λ _. ⌜ now (reading .exit) ≡ markInstr (now (sheet .entry)) (now (definitions .entry)) thread i (now (reading .entry)) ⌝ }
 {
     let Instruction::Act(a) = i else {
         return;
     };
     match a {
         Action::Set { target: _, at } => {
-            tables::mark_expr(sheet, at, 16, thread, reading);
+            tables::mark_expr(sheet, definitions, at, 16, thread, reading);
         }
         Action::Later { target: _, at } => {
-            tables::mark_expr(sheet, at, 16, thread, reading);
+            tables::mark_expr(sheet, definitions, at, 16, thread, reading);
         }
         Action::IfNot { goal: _, at } => {
-            tables::mark_expr(sheet, at, 16, thread, reading);
+            tables::mark_expr(sheet, definitions, at, 16, thread, reading);
         }
         Action::Go(_) => {}
     }
 }
 
 // Marks a thread at the variables that its first instructions read.
-fn mark_thread(sheet: &[u8], code: &[u16; 4096], thread: usize, n: usize, reading: &mut [u32; 80])
-    ensures { λ _. ⌜ now (reading .exit) ≡ markThread (now (sheet .entry)) (now (code .entry)) thread n (now (reading .entry)) ⌝ }
+fn mark_thread(
+    sheet: &[u8],
+    definitions: &[usize; 8],
+    code: &[u16; 4096],
+    thread: usize,
+    n: usize,
+    reading: &mut [u32; 80],
+)
+    ensures { λ _. ⌜ now (reading .exit) ≡ markThread (now (sheet .entry)) (now (definitions .entry)) (now (code .entry)) thread n (now (reading .entry)) ⌝ }
 {
     let mut p: usize = 0;
     while p < n {
         mark_instr(
             sheet,
+            definitions,
             pseudocode::fetch(sheet, code, thread, p),
             thread,
             reading,
@@ -170,18 +184,19 @@ fn mark_thread(sheet: &[u8], code: &[u16; 4096], thread: usize, n: usize, readin
 // For each variable the threads that read it: bit i is thread i.
 pub fn thread_readers(
     sheet: &[u8],
+    definitions: &[usize; 8],
     code: &[u16; 4096],
     sizes: &[usize; 8],
     threads: u8,
     reading: &mut [u32; 80],
 )
-    ensures { λ _. ⌜ now (reading .exit) ≡ readingBelow (now (sheet .entry)) (now (code .entry)) (now (sizes .entry)) (atMost 8 threads) (now (reading .entry)) ⌝ }
+    ensures { λ _. ⌜ now (reading .exit) ≡ readingBelow (now (sheet .entry)) (now (definitions .entry)) (now (code .entry)) (now (sizes .entry)) (atMost 8 threads) (now (reading .entry)) ⌝ }
 {
     let count = at_most(8, wide(threads));
     let mut i: usize = 0;
     while i < count {
         let n = at_most(256, sizes[i]);
-        mark_thread(sheet, code, i, n, reading);
+        mark_thread(sheet, definitions, code, i, n, reading);
         i += 1;
     }
 }
@@ -551,8 +566,8 @@ fn in_forever(a: Waiting) -> Waiting
 }
 
 // How the statement at a place waits, with so many levels left.
-pub fn walk(sheet: &[u8], at: usize, depth: u8) -> Waiting
-    ensures { λ r. ⌜ r ≡ walkAt depth (now (sheet .entry)) at ⌝ }
+pub fn walk(sheet: &[u8], definitions: &[usize; 8], at: usize, depth: u8) -> Waiting
+    ensures { λ r. ⌜ r ≡ walkAt depth (now (sheet .entry)) (now (definitions .entry)) at ⌝ }
 {
     if depth == 0 {
         return running(at);
@@ -563,39 +578,39 @@ pub fn walk(sheet: &[u8], at: usize, depth: u8) -> Waiting
     let map = byte_at(sheet, at);
     match map {
         0x00 => running(at + 1),
-        0x03 => running(pseudocode::skip_expr(sheet, at + 2, 16)),
-        0x23 => running(pseudocode::skip_expr(sheet, at + 2, 16)),
+        0x03 => running(pseudocode::skip_expr(sheet, definitions, at + 2, 16)),
+        0x23 => running(pseudocode::skip_expr(sheet, definitions, at + 2, 16)),
         0x0C => {
-            let a = walk(sheet, at + 1, depth - 1);
-            in_sequence(a, walk(sheet, a.next, depth - 1))
+            let a = walk(sheet, definitions, at + 1, depth - 1);
+            in_sequence(a, walk(sheet, definitions, a.next, depth - 1))
         }
         0x06 => {
-            let e = pseudocode::skip_expr(sheet, at + 1, 16);
-            in_if(walk(sheet, e, depth - 1))
+            let e = pseudocode::skip_expr(sheet, definitions, at + 1, 16);
+            in_if(walk(sheet, definitions, e, depth - 1))
         }
         0x0E => {
-            let e = pseudocode::skip_expr(sheet, at + 1, 16);
-            let a = walk(sheet, e, depth - 1);
-            in_if_else(a, walk(sheet, a.next, depth - 1))
+            let e = pseudocode::skip_expr(sheet, definitions, at + 1, 16);
+            let a = walk(sheet, definitions, e, depth - 1);
+            in_if_else(a, walk(sheet, definitions, a.next, depth - 1))
         }
         0x46 => {
-            let e = pseudocode::skip_expr(sheet, at + 1, 16);
-            in_while(walk(sheet, e, depth - 1))
+            let e = pseudocode::skip_expr(sheet, definitions, at + 1, 16);
+            in_while(walk(sheet, definitions, e, depth - 1))
         }
-        0x44 => in_forever(walk(sheet, at + 1, depth - 1)),
+        0x44 => in_forever(walk(sheet, definitions, at + 1, depth - 1)),
         0x10 => waits(at + 2 + 2 * wide(byte_at(sheet, at + 1))),
         _ => running(at),
     }
 }
 
 // Number 16: a thread doesn't start with a wait. So many threads stand from a place on.
-pub fn starts_running(sheet: &[u8], threads: u8, body: usize) -> bool
-    ensures { λ b. ⌜ b ≡ startsRunningFrom (now (sheet .entry)) threads body ⌝ }
+pub fn starts_running(sheet: &[u8], definitions: &[usize; 8], threads: u8, body: usize) -> bool
+    ensures { λ b. ⌜ b ≡ startsRunningFrom (now (sheet .entry)) (now (definitions .entry)) threads body ⌝ }
 {
     let mut left = threads;
     let mut next = body;
     while 0 < left {
-        let w = walk(sheet, next, 64);
+        let w = walk(sheet, definitions, next, 64);
         if !w.starts {
             return true;
         }
@@ -606,13 +621,13 @@ pub fn starts_running(sheet: &[u8], threads: u8, body: usize) -> bool
 }
 
 // Number 17: the body of a loop or of a thread doesn't surely wait. So many threads stand from a place on.
-pub fn runs_away(sheet: &[u8], threads: u8, body: usize) -> bool
-    ensures { λ b. ⌜ b ≡ runsAwayFrom (now (sheet .entry)) threads body ⌝ }
+pub fn runs_away(sheet: &[u8], definitions: &[usize; 8], threads: u8, body: usize) -> bool
+    ensures { λ b. ⌜ b ≡ runsAwayFrom (now (sheet .entry)) (now (definitions .entry)) threads body ⌝ }
 {
     let mut left = threads;
     let mut next = body;
     while 0 < left {
-        let w = walk(sheet, next, 64);
+        let w = walk(sheet, definitions, next, 64);
         if !both(w.surely, w.loops) {
             return true;
         }
@@ -728,10 +743,10 @@ fn higher_rule(
     if other_wait(sheet, code, sizes, layout.threads as usize) {
         return 15;
     }
-    if starts_running(sheet, layout.threads, layout.body) {
+    if starts_running(sheet, &layout.definitions, layout.threads, layout.body) {
         return 16;
     }
-    if runs_away(sheet, layout.threads, layout.body) {
+    if runs_away(sheet, &layout.definitions, layout.threads, layout.body) {
         return 17;
     }
     if clock_read(reading, readers) {
@@ -803,7 +818,14 @@ pub fn rule(
         &mut plain,
         &mut later,
     );
-    thread_readers(sheet, code, sizes, layout.threads, &mut reading);
+    thread_readers(
+        sheet,
+        &layout.definitions,
+        code,
+        sizes,
+        layout.threads,
+        &mut reading,
+    );
     lowest_rule(
         sheet,
         layout,

@@ -8,7 +8,7 @@ use lib.ListN.{getD, set, take, drop}
 use Rattle.values.specs.Values.{known, ones, allUnknown}
 use Rattle.values.specs.Planes.{valueAt, numberOf, marksOf}
 use Rattle.sheet.specs.Reading.{word, wordOf}
-use Rattle.sheet.specs.Statement.{Scope}
+use Rattle.sheet.specs.Expression.{Scope}
 use Rattle.state.specs.declared.State.{State}
 use Rattle.state.specs.State.{withPlanes, withSlots, withPlaces, withMarks, countersOf, countOf, allowanceOf, withCounters}
 use Rattle.state.specs.State.{valueOf, withValue, withPending, withPlace, withDue}
@@ -60,7 +60,7 @@ older =
     }
 
 scope : Scope
-scope = record { inputs = 1; registers = 2; widths = 1 ∷ 8 ∷ 4 ∷ 3 ∷ [] }
+scope = record { inputs = 1; registers = 2; widths = 1 ∷ 8 ∷ 4 ∷ 3 ∷ []; declared = 0; functions = [] }
 
 -- Forms 1, 2 and 3, of time 258 and user 0's count 3.
 older-saved :

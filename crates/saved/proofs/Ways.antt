@@ -3,7 +3,7 @@
 use mathlib.Core.Path.{_≡_, refl, sym, ap, _∙_}
 use mathlib.Core.Bool.{true, false}
 use mathlib.Core.List.{List, []}
-use Prim.Native.Nat.{ℕ, zero, suc, _+_, _*_, _<_}
+use Prim.Native.Nat.{ℕ, zero, suc, _+_, _*_, _≤_, _<_}
 use native.Mathlib.Omega.{arith}
 use lib.ListN.{length, getD}
 use Rattle.values.specs.Planes.{numberOf, marksOf}
@@ -11,8 +11,9 @@ use Rattle.sheet.specs.declared.Layout.{Layout}
 use Rattle.sheet.specs.declared.SheetRead.{SheetRead}
 use Rattle.sheet.specs.Reading.{Res, ok, no, wordOf}
 use Rattle.sheet.specs.Expression.{located}
-use Rattle.sheet.specs.Module.{mapModule, Sheet, readSheet, read}
-use Rattle.sheet.specs.Answers.{layoutOf, sheetAnswer}
+use Rattle.sheet.specs.Module.{mapModule, widthsAt, Sheet, readSheet, read}
+use Rattle.sheet.specs.Answers.{layoutOf, blank, sheetAnswer}
+use Rattle.sheet.proofs.Stages.{widths-bound}
 use Rattle.sheet.proofs.Trees.{mapRes, trees, read-located}
 use Rattle.sheet.proofs.Numbers.{numbered-no, located-numbered, sheet-numbered}
 use Rattle.state.specs.declared.Counters.{Counters}
@@ -50,6 +51,16 @@ module _ (f g h k : ℕ → ℕ) (b : List ℕ) (x : (v : ℕ) → v < 80 → f 
         in-same (alone (longOf b 633) (longOf b 641) allowances),
         in-same (alone (wordOf b 633) (wordOf b 637) allowances),
       )
+
+-- ---- the widths stand near the sheet's beginning
+
+pub widths-near : (s : List ℕ) (r : SheetRead) → r ≡ sheetAnswer (readSheet (located s) s) → r .layout .widths ≤ 5
+unfolding sheetAnswer layoutOf blank
+widths-near s r e = rw e (by (readSheet (located s) s))
+  where
+    by : (x : Res (Sheet ℕ)) → sheetAnswer x .layout .widths ≤ 5
+    by (ok q) = widths-bound (q .contents .scope .declared) refl
+    by (no n p) = omega arith
 
 -- ---- the ways
 
@@ -89,8 +100,8 @@ module _ (s : List ℕ) (r : SheetRead) (e : r ≡ sheetAnswer (readSheet (locat
 
   module _ (ws rs : List ℕ) where
     pub over-older : r .number ≡ 0 → isSaved b ≡ false
-        → ws ≡ listOf 80 (widthIn s 4 (r .layout .inputs + r .layout .registers + r .layout .wires))
-        → rs ≡ listOf 32 (widthIn s (4 + r .layout .inputs) (r .layout .registers))
+        → ws ≡ listOf 80 (widthIn s (r .layout .widths) (r .layout .inputs + r .layout .registers + r .layout .wires))
+        → rs ≡ listOf 32 (widthIn s (r .layout .widths + r .layout .inputs) (r .layout .registers))
         → olderOver (λ v. getD ws v 0) (λ k. getD rs k 0) b allowances ≡ broughtOver s b allowances
     unfolding broughtOver overOf sheetAnswer layoutOf trees mapModule
     over-older h t u v =
@@ -100,14 +111,14 @@ module _ (s : List ℕ) (r : SheetRead) (e : r ≡ sheetAnswer (readSheet (locat
         let c = q .0 .contents .scope in
         let n = c .inputs + c .registers + length (q .0 .contents .wires) in
         let hd = sheet-headed s (q .0) (q .1) in
-        let u′ : ws ≡ listOf 80 (widthIn s 4 n) =
-        u ∙ ap (λ (y : Layout). listOf 80 (widthIn s 4 (y .inputs + y .registers + y .wires))) a in
-        let v′ : rs ≡ listOf 32 (widthIn s (4 + c .inputs) (c .registers)) =
-        v ∙ ap (λ (y : Layout). listOf 32 (widthIn s (4 + y .inputs) (y .registers))) a in
+        let u′ : ws ≡ listOf 80 (widthIn s (widthsAt (c .declared)) n) =
+        u ∙ ap (λ (y : Layout). listOf 80 (widthIn s (y .widths) (y .inputs + y .registers + y .wires))) a in
+        let v′ : rs ≡ listOf 32 (widthIn s (widthsAt (c .declared) + c .inputs) (c .registers)) =
+        v ∙ ap (λ (y : Layout). listOf 32 (widthIn s (y .widths + y .inputs) (y .registers))) a in
         let x : (k : ℕ) → k < 80 → getD ws k 0 ≡ variableWidth c k =
-        λ k l. ap (λ (z : List ℕ). getD z k 0) u′ ∙ getD-listOf (widthIn s 4 n) 80 k 0 l ∙ variable-width s c n hd k in
+        λ k l. ap (λ (z : List ℕ). getD z k 0) u′ ∙ getD-listOf (widthIn s (widthsAt (c .declared)) n) 80 k 0 l ∙ variable-width s c n hd k in
         let y : (k : ℕ) → k < 32 → getD rs k 0 ≡ registerWidth c k =
-        λ k l. ap (λ (z : List ℕ). getD z k 0) v′ ∙ getD-listOf (widthIn s (4 + c .inputs) (c .registers)) 32 k 0 l
+        λ k l. ap (λ (z : List ℕ). getD z k 0) v′ ∙ getD-listOf (widthIn s (widthsAt (c .declared) + c .inputs) (c .registers)) 32 k 0 l
         ∙ register-width s c n hd k in
         over-same (λ j. getD ws j 0) (variableWidth c) (λ j. getD rs j 0) (registerWidth c) b x y allowances
         ∙ sym (rw (read-as (q .0) (q .1), t))

@@ -9,8 +9,7 @@ use Rattle.values.specs.declared.Value.{Value}
 use Rattle.values.specs.Values.{pick, known, allUnknown}
 use Rattle.values.specs.Planes.{numberOf, marksOf}
 use Rattle.sheet.specs.Reading.{Res, ok, no, wordOf}
-use Rattle.sheet.specs.Expression.{Expr}
-use Rattle.sheet.specs.Statement.{Scope}
+use Rattle.sheet.specs.Expression.{Expr, Scope}
 use Rattle.sheet.specs.Module.{Module, read}
 use Rattle.state.specs.declared.Counters.{Counters}
 use Rattle.state.specs.declared.State.{State}

@@ -205,13 +205,14 @@ fn width_in(sheet: &[u8], first: usize, n: usize, k: usize) -> u8
     32
 }
 
-fn variable_widths(sheet: &[u8], n: usize) -> [u8; 80]
-    ensures { λ r. ⌜ r ≡ listOf 80 (widthIn (now (sheet .entry)) 4 n) ⌝ }
+fn variable_widths(sheet: &[u8], first: usize, n: usize) -> [u8; 80]
+    requires { ⌜ first ≤ 300 ⌝ }
+    ensures { λ r. ⌜ r ≡ listOf 80 (widthIn (now (sheet .entry)) first n) ⌝ }
 {
     let mut a = [0u8; 80];
     let mut v = 0;
     while v < 80 {
-        a[v] = width_in(sheet, 4, n, v);
+        a[v] = width_in(sheet, first, n, v);
         v += 1;
     }
     a
@@ -247,7 +248,8 @@ pub fn bring_over(sheet: &[u8], bytes: &[u8], allowances: [u32; 4]) -> Brought
     let inputs = layout.inputs as usize;
     let registers = layout.registers as usize;
     let wires = layout.wires as usize;
-    let widths = variable_widths(sheet, inputs + registers + wires);
-    let slots = register_widths(sheet, 4 + inputs, registers);
+    let first = layout.widths;
+    let widths = variable_widths(sheet, first, inputs + registers + wires);
+    let slots = register_widths(sheet, first + inputs, registers);
     bring_older(&widths, &slots, bytes, allowances)
 }

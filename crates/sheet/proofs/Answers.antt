@@ -5,13 +5,14 @@ use mathlib.Core.Bool.{Bool}
 use mathlib.Core.List.{List}
 use native.Mathlib.Omega.{arith}
 use Rattle.sheet.specs.Reading.{Res, ok, no}
-use Rattle.sheet.specs.Expression.{Parsed}
+use Rattle.sheet.specs.Expression.{Parsed, Passed, sameWidths}
 use Rattle.sheet.specs.Statement.{Stmt, Body, size, narrowAll}
 use Rattle.sheet.specs.Answers.{exprAnswer, stmtAnswer}
-use Rattle.sheet.specs.Parts.{byteAnswer, termsAnswer}
+use Rattle.sheet.specs.Parts.{byteAnswer, argumentsAnswer, termsAnswer}
 use Rattle.sheet.specs.declared.EdgeTerm.{EdgeTerm}
 use Rattle.sheet.specs.declared.ByteRead as ByteRead
 use Rattle.sheet.specs.declared.ExprRead as ExprRead
+use Rattle.sheet.specs.declared.ArgumentsRead as ArgumentsRead
 use Rattle.sheet.specs.declared.TermsRead as TermsRead
 use Rattle.sheet.specs.declared.StmtRead as StmtRead
 
@@ -26,6 +27,38 @@ pub byte-refused : {x : Res ℕ} {r : ByteRead.ByteRead} {n p : ℕ} → r ≡ b
 unfolding byteAnswer
 byte-refused {x = ok a} p q = cc
 byte-refused {x = no n a} p q = cc
+
+pub answer-byte : {x : Res ℕ} {b : ℕ} → x ≡ ok b → ByteRead.the-variants.Byte b ≡ byteAnswer x
+unfolding byteAnswer
+answer-byte h = rw h
+
+pub answer-byte-refused : {x : Res ℕ} {n p : ℕ} → x ≡ no n p → ByteRead.the-variants.Refused n p ≡ byteAnswer x
+unfolding byteAnswer
+answer-byte-refused h = rw h
+
+-- ---- argumentsAnswer
+
+module _ (ps : List ℕ) where
+  pub arguments-read : {x : Res Passed} {r : ArgumentsRead.ArgumentsRead} {n : ℕ} {t : Bool} → r ≡ argumentsAnswer ps x → r ≡ ArgumentsRead.the-variants.Read n t
+      → (es : Passed) × (x ≡ ok es) × (es .next ≡ n) × (t ≡ sameWidths ps (es .widths))
+  unfolding argumentsAnswer
+  arguments-read {x = ok es} {n = n} {t = t} p q = let h : t ≡ sameWidths ps (es .widths) = cc in let e : es .next ≡ n = cc in (es, refl, e, h)
+  arguments-read {x = no n a} p q = let z : _≡_ {A = ℕ} 0 1 = cc in absurd (omega arith)
+
+  pub arguments-refused : {x : Res Passed} {r : ArgumentsRead.ArgumentsRead} {n p : ℕ} → r ≡ argumentsAnswer ps x → r ≡ ArgumentsRead.the-variants.Refused n p
+      → x ≡ no n p
+  unfolding argumentsAnswer
+  arguments-refused {x = ok a} p q = cc
+  arguments-refused {x = no n a} p q = cc
+
+  pub answer-arguments : {x : Res Passed} {es : Passed} {n : ℕ} {t : Bool} → x ≡ ok es → es .next ≡ n → t ≡ sameWidths ps (es .widths)
+      → ArgumentsRead.the-variants.Read n t ≡ argumentsAnswer ps x
+  unfolding argumentsAnswer
+  answer-arguments h e g = rw (h, ← e, g)
+
+  pub answer-arguments-refused : {x : Res Passed} {n p : ℕ} → x ≡ no n p → ArgumentsRead.the-variants.Refused n p ≡ argumentsAnswer ps x
+  unfolding argumentsAnswer
+  answer-arguments-refused h = rw h
 
 -- ---- exprAnswer
 

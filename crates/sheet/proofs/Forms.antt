@@ -13,8 +13,8 @@ use Rattle.values.specs.declared.Edge.{Edge}
 use Rattle.values.specs.Edges.{edgeOf}
 use Rattle.sheet.specs.declared.EdgeTerm.{EdgeTerm}
 use Rattle.sheet.specs.Reading.{Res, ok, no, _>>=_, _>>_, check, byteAt, within}
-use Rattle.sheet.specs.Expression.{Parsed, variableAt, located}
-use Rattle.sheet.specs.Statement.{empty, assign, later, sequence, ifThen, ifElse, while, forever, wait, size, Scope, isRegister, Body, readTerms, narrow, narrowAll, Form, anEmpty, anAssign, aLater, aSequence, anIf, anIfElse, aWhile, aForever, aWait, formOf, assignment, form, readStmt}
+use Rattle.sheet.specs.Expression.{Parsed, Scope, variableAt, located}
+use Rattle.sheet.specs.Statement.{empty, assign, later, sequence, ifThen, ifElse, while, forever, wait, size, isRegister, Body, readTerms, narrow, narrowAll, Form, anEmpty, anAssign, aLater, aSequence, anIf, anIfElse, aWhile, aForever, aWait, formOf, assignment, form, readStmt}
 use Rattle.sheet.specs.Answers.{stmtAnswer}
 use Rattle.sheet.proofs.Reading.{no≢ok, ok-injective, bind-ok, check-ok, byte-ok, byte-at, byte-end, within-ok}
 use Rattle.sheet.proofs.Expression.{variable-ok}
@@ -107,7 +107,7 @@ wide-more ws t ts e = rw e
 
 -- ---- readStmt, by its first byte
 
-module _ {E : Type 0} (expr : List ℕ → ℕ → Res (Parsed E)) (c : Scope) (s : List ℕ) where
+module _ {E : Type 0} (expr : Scope → ℕ → Res (Parsed E)) (c : Scope) (s : List ℕ) where
   pub stmt-end : (d p : ℕ) → length s ≤ p → readStmt expr c s d p ≡ no 2 (length s)
   unfolding readStmt
   stmt-end zero p h = simp (byte-end s p h)
@@ -130,7 +130,7 @@ module _ {E : Type 0} (expr : List ℕ → ℕ → Res (Parsed E)) (c : Scope) (
 
 -- ---- form, by its form
 
-module _ {E : Type 0} (expr : List ℕ → ℕ → Res (Parsed E)) (c : Scope) (s : List ℕ) (inner : ℕ → Res (Body E)) (p : ℕ) where
+module _ {E : Type 0} (expr : Scope → ℕ → Res (Parsed E)) (c : Scope) (s : List ℕ) (inner : ℕ → Res (Body E)) (p : ℕ) where
   pub empty-made : form expr c s inner p anEmpty ≡ ok (record { stmt = empty; next = p + 1 })
   unfolding form
   empty-made = refl
@@ -143,17 +143,17 @@ module _ {E : Type 0} (expr : List ℕ → ℕ → Res (Parsed E)) (c : Scope) (
   unfolding form assignment
   assign-other h r = simp (byte-at s (p + 1) h, r)
 
-  pub assign-expr : {n q : ℕ} → p + 1 < length s → isRegister c (getD s (p + 1) 0) ≡ true → expr (c .widths) (p + 2) ≡ no n q
+  pub assign-expr : {n q : ℕ} → p + 1 < length s → isRegister c (getD s (p + 1) 0) ≡ true → expr c (p + 2) ≡ no n q
       → form expr c s inner p anAssign ≡ no n q
   unfolding form assignment
   assign-expr h r e = simp (byte-at s (p + 1) h, r, e)
 
-  pub assign-apart : {e : Parsed E} → p + 1 < length s → isRegister c (getD s (p + 1) 0) ≡ true → expr (c .widths) (p + 2) ≡ ok e
+  pub assign-apart : {e : Parsed E} → p + 1 < length s → isRegister c (getD s (p + 1) 0) ≡ true → expr c (p + 2) ≡ ok e
       → (e .width ≡ getD (c .widths) (getD s (p + 1) 0) 0 → ⊥) → form expr c s inner p anAssign ≡ no 8 p
   unfolding form assignment
   assign-apart h r e w = simp (byte-at s (p + 1) h, r, e, ne-eqb _ _ w)
 
-  pub assign-made : {e : Parsed E} → p + 1 < length s → isRegister c (getD s (p + 1) 0) ≡ true → expr (c .widths) (p + 2) ≡ ok e
+  pub assign-made : {e : Parsed E} → p + 1 < length s → isRegister c (getD s (p + 1) 0) ≡ true → expr c (p + 2) ≡ ok e
       → e .width ≡ getD (c .widths) (getD s (p + 1) 0) 0
       → form expr c s inner p anAssign ≡ ok (record { stmt = assign (getD s (p + 1) 0) (e .item); next = e .next })
   unfolding form assignment
@@ -172,46 +172,46 @@ module _ {E : Type 0} (expr : List ℕ → ℕ → Res (Parsed E)) (c : Scope) (
   unfolding form
   sequence-made a b = simp (a, b)
 
-  pub if-test : {n q : ℕ} → expr (c .widths) (p + 1) ≡ no n q → form expr c s inner p anIf ≡ no n q
+  pub if-test : {n q : ℕ} → expr c (p + 1) ≡ no n q → form expr c s inner p anIf ≡ no n q
   unfolding form
   if-test e = simp e
 
-  pub if-body : {n q : ℕ} {e : Parsed E} → expr (c .widths) (p + 1) ≡ ok e → inner (e .next) ≡ no n q → form expr c s inner p anIf ≡ no n q
+  pub if-body : {n q : ℕ} {e : Parsed E} → expr c (p + 1) ≡ ok e → inner (e .next) ≡ no n q → form expr c s inner p anIf ≡ no n q
   unfolding form
   if-body e a = simp (e, a)
 
-  pub if-made : {e : Parsed E} {a : Body E} → expr (c .widths) (p + 1) ≡ ok e → inner (e .next) ≡ ok a
+  pub if-made : {e : Parsed E} {a : Body E} → expr c (p + 1) ≡ ok e → inner (e .next) ≡ ok a
       → form expr c s inner p anIf ≡ ok (record { stmt = ifThen (e .item) (a .stmt); next = a .next })
   unfolding form
   if-made e a = simp (e, a)
 
-  pub else-test : {n q : ℕ} → expr (c .widths) (p + 1) ≡ no n q → form expr c s inner p anIfElse ≡ no n q
+  pub else-test : {n q : ℕ} → expr c (p + 1) ≡ no n q → form expr c s inner p anIfElse ≡ no n q
   unfolding form
   else-test e = simp e
 
-  pub else-first : {n q : ℕ} {e : Parsed E} → expr (c .widths) (p + 1) ≡ ok e → inner (e .next) ≡ no n q → form expr c s inner p anIfElse ≡ no n q
+  pub else-first : {n q : ℕ} {e : Parsed E} → expr c (p + 1) ≡ ok e → inner (e .next) ≡ no n q → form expr c s inner p anIfElse ≡ no n q
   unfolding form
   else-first e a = simp (e, a)
 
-  pub else-second : {n q : ℕ} {e : Parsed E} {a : Body E} → expr (c .widths) (p + 1) ≡ ok e → inner (e .next) ≡ ok a → inner (a .next) ≡ no n q
+  pub else-second : {n q : ℕ} {e : Parsed E} {a : Body E} → expr c (p + 1) ≡ ok e → inner (e .next) ≡ ok a → inner (a .next) ≡ no n q
       → form expr c s inner p anIfElse ≡ no n q
   unfolding form
   else-second e a b = simp (e, a, b)
 
-  pub else-made : {e : Parsed E} {a b : Body E} → expr (c .widths) (p + 1) ≡ ok e → inner (e .next) ≡ ok a → inner (a .next) ≡ ok b
+  pub else-made : {e : Parsed E} {a b : Body E} → expr c (p + 1) ≡ ok e → inner (e .next) ≡ ok a → inner (a .next) ≡ ok b
       → form expr c s inner p anIfElse ≡ ok (record { stmt = ifElse (e .item) (a .stmt) (b .stmt); next = b .next })
   unfolding form
   else-made e a b = simp (e, a, b)
 
-  pub while-test : {n q : ℕ} → expr (c .widths) (p + 1) ≡ no n q → form expr c s inner p aWhile ≡ no n q
+  pub while-test : {n q : ℕ} → expr c (p + 1) ≡ no n q → form expr c s inner p aWhile ≡ no n q
   unfolding form
   while-test e = simp e
 
-  pub while-body : {n q : ℕ} {e : Parsed E} → expr (c .widths) (p + 1) ≡ ok e → inner (e .next) ≡ no n q → form expr c s inner p aWhile ≡ no n q
+  pub while-body : {n q : ℕ} {e : Parsed E} → expr c (p + 1) ≡ ok e → inner (e .next) ≡ no n q → form expr c s inner p aWhile ≡ no n q
   unfolding form
   while-body e a = simp (e, a)
 
-  pub while-made : {e : Parsed E} {a : Body E} → expr (c .widths) (p + 1) ≡ ok e → inner (e .next) ≡ ok a
+  pub while-made : {e : Parsed E} {a : Body E} → expr c (p + 1) ≡ ok e → inner (e .next) ≡ ok a
       → form expr c s inner p aWhile ≡ ok (record { stmt = while (e .item) (a .stmt); next = a .next })
   unfolding form
   while-made e a = simp (e, a)
@@ -255,16 +255,16 @@ check-answer : {E : Type 0} (t : Bool) (n p : ℕ) (r q : Res (Body E)) → stmt
 check-answer true n p r q h = h
 check-answer false n p r q h = refl
 
-later-answer : {E : Type 0} (expr : List ℕ → ℕ → Res (Parsed E)) (c : Scope) (s : List ℕ) (inner : ℕ → Res (Body E)) (p : ℕ)
+later-answer : {E : Type 0} (expr : Scope → ℕ → Res (Parsed E)) (c : Scope) (s : List ℕ) (inner : ℕ → Res (Body E)) (p : ℕ)
     → stmtAnswer (form expr c s inner p aLater) ≡ stmtAnswer (form expr c s inner p anAssign)
 unfolding form assignment stmtAnswer size
 later-answer expr c s inner p =
     bind-answer (byteAt s (p + 1)) _ _
     (λ t. check-answer (isRegister c t) 9 (p + 1) _ _
-    (bind-answer (expr (c .widths) (p + 2)) _ _
+    (bind-answer (expr c (p + 2)) _ _
     (λ e. check-answer (eqb (e .width) (getD (c .widths) t 0)) 8 p _ _ refl)))
 
-pub stmt-assign : {E : Type 0} (expr : List ℕ → ℕ → Res (Parsed E)) (c : Scope) (s : List ℕ) (d p : ℕ) (inner : ℕ → Res (Body E)) → p < length s
+pub stmt-assign : {E : Type 0} (expr : Scope → ℕ → Res (Parsed E)) (c : Scope) (s : List ℕ) (d p : ℕ) (inner : ℕ → Res (Body E)) → p < length s
     → (d ≡ 0 → ⊥) → (getD s p 0 ≡ 0x03) ⊎ (getD s p 0 ≡ 0x23)
     → stmtAnswer (readStmt expr c s d p) ≡ stmtAnswer (form expr c s inner p anAssign)
 unfolding form formMap
@@ -278,8 +278,8 @@ pub record Ended {E : Type 0} (s : List ℕ) (p : ℕ) (b : Body E) : Type 0 whe
   pub inside : b .next ≤ length s
   pub few : size (b .stmt) + p < b .next
 
-module _ {E : Type 0} (expr : List ℕ → ℕ → Res (Parsed E)) (c : Scope) (s : List ℕ)
-    (bound : (p : ℕ) (e : Parsed E) → expr (c .widths) p ≡ ok e → (p < e .next) × (e .next ≤ length s)) where
+module _ {E : Type 0} (expr : Scope → ℕ → Res (Parsed E)) (c : Scope) (s : List ℕ)
+    (bound : (p : ℕ) (e : Parsed E) → expr c p ≡ ok e → (p < e .next) × (e .next ≤ length s)) where
   form-ended : (inner : ℕ → Res (Body E)) → ((p : ℕ) (b : Body E) → inner p ≡ ok b → Ended s p b) → (p : ℕ) (f : Form) {b : Body E} → p < length s
       → form expr c s inner p f ≡ ok b → Ended s p b
   unfolding form assignment size
@@ -287,14 +287,14 @@ module _ {E : Type 0} (expr : List ℕ → ℕ → Res (Parsed E)) (c : Scope) (
   form-ended inner ih p anAssign l h =
       let t = bind-ok (byteAt s (p + 1)) _ h in
       let r = check-ok (isRegister c (t .0)) 9 (p + 1) _ (t .2) in
-      let e = bind-ok (expr (c .widths) (p + 2)) _ (r .1) in
+      let e = bind-ok (expr c (p + 2)) _ (r .1) in
       let w = check-ok (eqb (e .0 .width) (getD (c .widths) (t .0) 0)) 8 p _ (e .2) in
       let x = bound (p + 2) (e .0) (e .1) in
       rw (← ok-injective (w .1)) (record { inside = omega arith; few = omega arith })
   form-ended inner ih p aLater l h =
       let t = bind-ok (byteAt s (p + 1)) _ h in
       let r = check-ok (isRegister c (t .0)) 9 (p + 1) _ (t .2) in
-      let e = bind-ok (expr (c .widths) (p + 2)) _ (r .1) in
+      let e = bind-ok (expr c (p + 2)) _ (r .1) in
       let w = check-ok (eqb (e .0 .width) (getD (c .widths) (t .0) 0)) 8 p _ (e .2) in
       let x = bound (p + 2) (e .0) (e .1) in
       rw (← ok-injective (w .1)) (record { inside = omega arith; few = omega arith })
@@ -305,13 +305,13 @@ module _ {E : Type 0} (expr : List ℕ → ℕ → Res (Parsed E)) (c : Scope) (
       let y = ih (a .0 .next) (b .0) (b .1) in
       rw (← ok-injective (b .2)) (record { inside = omega arith; few = omega arith })
   form-ended inner ih p anIf l h =
-      let e = bind-ok (expr (c .widths) (p + 1)) _ h in
+      let e = bind-ok (expr c (p + 1)) _ h in
       let a = bind-ok (inner (e .0 .next)) _ (e .2) in
       let z = bound (p + 1) (e .0) (e .1) in
       let x = ih (e .0 .next) (a .0) (a .1) in
       rw (← ok-injective (a .2)) (record { inside = omega arith; few = omega arith })
   form-ended inner ih p anIfElse l h =
-      let e = bind-ok (expr (c .widths) (p + 1)) _ h in
+      let e = bind-ok (expr c (p + 1)) _ h in
       let a = bind-ok (inner (e .0 .next)) _ (e .2) in
       let b = bind-ok (inner (a .0 .next)) _ (a .2) in
       let z = bound (p + 1) (e .0) (e .1) in
@@ -319,7 +319,7 @@ module _ {E : Type 0} (expr : List ℕ → ℕ → Res (Parsed E)) (c : Scope) (
       let y = ih (a .0 .next) (b .0) (b .1) in
       rw (← ok-injective (b .2)) (record { inside = omega arith; few = omega arith })
   form-ended inner ih p aWhile l h =
-      let e = bind-ok (expr (c .widths) (p + 1)) _ h in
+      let e = bind-ok (expr c (p + 1)) _ h in
       let a = bind-ok (inner (e .0 .next)) _ (e .2) in
       let z = bound (p + 1) (e .0) (e .1) in
       let x = ih (e .0 .next) (a .0) (a .1) in
@@ -345,4 +345,4 @@ module _ {E : Type 0} (expr : List ℕ → ℕ → Res (Parsed E)) (c : Scope) (
       form-ended (readStmt expr c s d) (λ q b e. stmt-ended d q e) p (f .0) (byte-ok s p (m .1) .0) (f .2)
 
 pub read-ended : (s : List ℕ) (c : Scope) (d p : ℕ) {b : Body ℕ} → readStmt (located s) c s d p ≡ ok b → Ended s p b
-read-ended s c = stmt-ended (located s) c s (λ p e h. let k = located-kept s (c .widths) p h in (k .later, k .inside))
+read-ended s c = stmt-ended (located s) c s (λ p e h. let k = located-kept s c p h in (k .later, k .inside))

@@ -7,7 +7,12 @@ pub mod Answers
 pub mod Nodes
 pub mod Forms
 pub mod Sections
+pub mod Closed
+pub mod Outlines
+pub mod Bodies
+pub mod Passing
 pub mod Samples
+pub mod Calls
 pub mod Order
 pub mod Walks
 pub mod Stages

@@ -8,7 +8,8 @@ use Rattle.values.specs.Edges.{edgeOf}
 use Rattle.sheet.specs.Reading.{no, byteAt, within, word, wordOf, wordAt}
 use Rattle.sheet.specs.Expression.{kindOf, variableAt, node, readExpr, tree}
 use Rattle.sheet.specs.Statement.{size, isRegister, readTerms, narrow, narrowAll, formOf, assignment, form, readStmt}
-use Rattle.sheet.specs.Module.{readWidths, readHead, readWires, readThreads, readSheet, read}
+use Rattle.sheet.specs.Functions.{readWidths, readFunctions}
+use Rattle.sheet.specs.Module.{inputsOf, firstAt, functionCount, widthsAt, readHead, readWires, readThreads, wholeSheet, readSheet, read}
 use Rattle.sheet.proofs.Samples.{one, nots, forevers, long}
 
 -- Two threads in place of one.
@@ -25,7 +26,7 @@ end-depth-map :
     × (read (one (0x06 ∷ nots 16 (0xFF ∷ []))) ≡ no 7 39)
     × (read (one (forevers 64 [])) ≡ no 2 70)
     × (read (one (forevers 64 (0xFF ∷ []))) ≡ no 7 70)
-unfolding one nots forevers read readSheet readHead readWidths readWires readThreads readStmt form assignment formOf isRegister readTerms narrow narrowAll edgeOf size tree readExpr node kindOf variableAt unaryWidth binaryWidth wordAt wordOf word within byteAt
+unfolding one nots forevers read readSheet wholeSheet readHead firstAt inputsOf functionCount widthsAt readFunctions readWidths readWires readThreads readStmt form assignment formOf isRegister readTerms narrow narrowAll edgeOf size tree readExpr node kindOf variableAt unaryWidth binaryWidth wordAt wordOf word within byteAt
 end-depth-map = (refl, refl, refl, refl)
 
 -- the counts from left to right, then the clock's width, then the next, which is missing
@@ -34,7 +35,7 @@ counts-and-widths :
     × (read (0x01 ∷ 0x01 ∷ 0x00 ∷ 0x09 ∷ 0x02 ∷ []) ≡ no 3 3)
     × (read (0x01 ∷ 0x01 ∷ 0x00 ∷ 0x01 ∷ 0x02 ∷ []) ≡ no 4 4)
     × (read (0x01 ∷ 0x01 ∷ 0x00 ∷ 0x01 ∷ 0x01 ∷ []) ≡ no 2 5)
-unfolding read readSheet readHead readWidths readWires readThreads readStmt form assignment formOf isRegister readTerms narrow narrowAll edgeOf size tree readExpr node kindOf variableAt unaryWidth binaryWidth wordAt wordOf word within byteAt
+unfolding read readSheet wholeSheet readHead firstAt inputsOf functionCount widthsAt readFunctions readWidths readWires readThreads readStmt form assignment formOf isRegister readTerms narrow narrowAll edgeOf size tree readExpr node kindOf variableAt unaryWidth binaryWidth wordAt wordOf word within byteAt
 counts-and-widths = (refl, refl, refl, refl)
 
 -- "each field as read": the operator before its operands, for each map
@@ -42,7 +43,7 @@ operator-first :
     (read (one (0x06 ∷ 0x11 ∷ 0x03 ∷ 0xFF ∷ [])) ≡ no 6 8)
     × (read (one (0x06 ∷ 0x31 ∷ 0x0A ∷ 0xFF ∷ [])) ≡ no 6 8)
     × (read (one (0x06 ∷ 0x71 ∷ 0x09 ∷ 0xFF ∷ [])) ≡ no 6 8)
-unfolding one read readSheet readHead readWidths readWires readThreads readStmt form assignment formOf isRegister readTerms narrow narrowAll edgeOf size tree readExpr node kindOf variableAt unaryWidth binaryWidth wordAt wordOf word within byteAt
+unfolding one read readSheet wholeSheet readHead firstAt inputsOf functionCount widthsAt readFunctions readWidths readWires readThreads readStmt form assignment formOf isRegister readTerms narrow narrowAll edgeOf size tree readExpr node kindOf variableAt unaryWidth binaryWidth wordAt wordOf word within byteAt
 operator-first = (refl, refl, refl)
 
 -- "then widths": after the last operand's map; those of the left operand before the right one's map
@@ -51,7 +52,7 @@ operands-then-widths :
     × (read (one (0x06 ∷ 0x31 ∷ 0x03 ∷ 0x31 ∷ 0x03 ∷ 0x02 ∷ 0x00 ∷ 0x02 ∷ 0x01 ∷ 0xFF ∷ [])) ≡ no 8 9)
     × (read (one (0x06 ∷ 0x71 ∷ 0x0A ∷ 0x02 ∷ 0x00 ∷ 0x02 ∷ 0x00 ∷ 0xFF ∷ [])) ≡ no 5 13)
     × (read (one (0x06 ∷ 0x71 ∷ 0x0A ∷ 0x02 ∷ 0x00 ∷ 0x02 ∷ 0x00 ∷ 0x02 ∷ 0x01 ∷ [])) ≡ no 8 7)
-unfolding one read readSheet readHead readWidths readWires readThreads readStmt form assignment formOf isRegister readTerms narrow narrowAll edgeOf size tree readExpr node kindOf variableAt unaryWidth binaryWidth wordAt wordOf word within byteAt
+unfolding one read readSheet wholeSheet readHead firstAt inputsOf functionCount widthsAt readFunctions readWidths readWires readThreads readStmt form assignment formOf isRegister readTerms narrow narrowAll edgeOf size tree readExpr node kindOf variableAt unaryWidth binaryWidth wordAt wordOf word within byteAt
 operands-then-widths = (refl, refl, refl, refl)
 
 -- a constant: its width, then four bytes, then whether the value is below 2^width
@@ -59,7 +60,7 @@ constant-fields :
     (read (one (0x06 ∷ 0x0C ∷ 0x00 ∷ [])) ≡ no 6 8)
     × (read (one (0x06 ∷ 0x0C ∷ 0x01 ∷ 0xFF ∷ 0x00 ∷ 0x00 ∷ [])) ≡ no 2 12)
     × (read (one (0x06 ∷ 0x0C ∷ 0x01 ∷ 0xFF ∷ 0x00 ∷ 0x00 ∷ 0x00 ∷ [])) ≡ no 6 9)
-unfolding one read readSheet readHead readWidths readWires readThreads readStmt form assignment formOf isRegister readTerms narrow narrowAll edgeOf size tree readExpr node kindOf variableAt unaryWidth binaryWidth wordAt wordOf word within byteAt
+unfolding one read readSheet wholeSheet readHead firstAt inputsOf functionCount widthsAt readFunctions readWidths readWires readThreads readStmt form assignment formOf isRegister readTerms narrow narrowAll edgeOf size tree readExpr node kindOf variableAt unaryWidth binaryWidth wordAt wordOf word within byteAt
 constant-fields = (refl, refl, refl)
 
 -- a wait: its count, then its pairs, edge before variable, then widths
@@ -69,7 +70,7 @@ wait-fields :
     × (read (one (0x10 ∷ 0x02 ∷ 0x01 ∷ 0x01 ∷ 0x03 ∷ 0x00 ∷ [])) ≡ no 6 10)
     × (read (one (0x10 ∷ 0x02 ∷ 0x01 ∷ 0x01 ∷ [])) ≡ no 2 10)
     × (read (one (0x10 ∷ 0x02 ∷ 0x01 ∷ 0x01 ∷ 0x00 ∷ 0x00 ∷ [])) ≡ no 8 6)
-unfolding one read readSheet readHead readWidths readWires readThreads readStmt form assignment formOf isRegister readTerms narrow narrowAll edgeOf size tree readExpr node kindOf variableAt unaryWidth binaryWidth wordAt wordOf word within byteAt
+unfolding one read readSheet wholeSheet readHead firstAt inputsOf functionCount widthsAt readFunctions readWidths readWires readThreads readStmt form assignment formOf isRegister readTerms narrow narrowAll edgeOf size tree readExpr node kindOf variableAt unaryWidth binaryWidth wordAt wordOf word within byteAt
 wait-fields = (refl, refl, refl, refl, refl)
 
 -- an assignment: its target, then its expression, then widths
@@ -79,7 +80,7 @@ target-first :
     × (read (one (0x03 ∷ 0x02 ∷ 0xFF ∷ [])) ≡ no 9 7)
     × (read (one (0x03 ∷ 0x01 ∷ 0x02 ∷ 0x02 ∷ [])) ≡ no 6 9)
     × (read (one (0x03 ∷ 0x01 ∷ 0x02 ∷ 0x00 ∷ [])) ≡ no 8 6)
-unfolding one read readSheet readHead readWidths readWires readThreads readStmt form assignment formOf isRegister readTerms narrow narrowAll edgeOf size tree readExpr node kindOf variableAt unaryWidth binaryWidth wordAt wordOf word within byteAt
+unfolding one read readSheet wholeSheet readHead firstAt inputsOf functionCount widthsAt readFunctions readWidths readWires readThreads readStmt form assignment formOf isRegister readTerms narrow narrowAll edgeOf size tree readExpr node kindOf variableAt unaryWidth binaryWidth wordAt wordOf word within byteAt
 target-first = (refl, refl, refl, refl, refl)
 
 -- "Met first from left to right": a condition before its body, the first part before the second,
@@ -89,12 +90,12 @@ left-to-right :
     × (read (one (0x0C ∷ 0xFF ∷ 0x03 ∷ 0x02 ∷ [])) ≡ no 5 7)
     × (read (wired (0x02 ∷ 0x01 ∷ 0xFF ∷ [])) ≡ no 8 8)
     × (read (wired (0x02 ∷ 0x00 ∷ 0x02 ∷ 0x01 ∷ 0xFF ∷ [])) ≡ no 8 10)
-unfolding one wired read readSheet readHead readWidths readWires readThreads readStmt form assignment formOf isRegister readTerms narrow narrowAll edgeOf size tree readExpr node kindOf variableAt unaryWidth binaryWidth wordAt wordOf word within byteAt
+unfolding one wired read readSheet wholeSheet readHead firstAt inputsOf functionCount widthsAt readFunctions readWidths readWires readThreads readStmt form assignment formOf isRegister readTerms narrow narrowAll edgeOf size tree readExpr node kindOf variableAt unaryWidth binaryWidth wordAt wordOf word within byteAt
 left-to-right = (refl, refl, refl, refl)
 
 -- "11 thread over 256, at its end": before the next thread, and before "10 bytes after the end"
 size-at-its-end :
     (read (two (long 52 ++ (0xFF ∷ []))) ≡ no 11 6)
     × (read (one (long 52 ++ (0x00 ∷ []))) ≡ no 11 6)
-unfolding forevers one long two read readSheet readHead readWidths readWires readThreads readStmt form assignment formOf isRegister readTerms narrow narrowAll edgeOf size tree readExpr node kindOf variableAt unaryWidth binaryWidth wordAt wordOf word within byteAt
+unfolding forevers one long two read readSheet wholeSheet readHead firstAt inputsOf functionCount widthsAt readFunctions readWidths readWires readThreads readStmt form assignment formOf isRegister readTerms narrow narrowAll edgeOf size tree readExpr node kindOf variableAt unaryWidth binaryWidth wordAt wordOf word within byteAt
 size-at-its-end = (refl, refl)

@@ -7,10 +7,11 @@ use Rattle.values.specs.declared.Edge.the-variants.{Posedge}
 use Rattle.values.specs.Operators.{unaryWidth, binaryWidth}
 use Rattle.values.specs.Edges.{edgeOf}
 use Rattle.sheet.specs.Reading.{Res, ok, no, byteAt, within, word, wordOf, wordAt}
-use Rattle.sheet.specs.Expression.{Expr, variable, constant, unary, binary, kindOf, variableAt, node, readExpr, tree, located}
+use Rattle.sheet.specs.Expression.{Expr, variable, constant, unary, binary, noFunction, kindOf, variableAt, functionAt, argumentsAt, sameWidths, node, readExpr, tree, located}
 use Rattle.sheet.specs.Statement.{Stmt, empty, later, sequence, ifThen, forever, wait, size, isRegister, readTerms, narrow, narrowAll, formOf, assignment, form, readStmt}
-use Rattle.sheet.specs.Module.{Module, readWidths, readHead, readWires, readThreads, readSheet, read}
-use Rattle.sheet.specs.Answers.{startsOf, layoutOf, sheetAnswer}
+use Rattle.sheet.specs.Functions.{bodyForm, readBody, bodyScope, functionOf, readFunction, readFunctions, readWidths}
+use Rattle.sheet.specs.Module.{Module, inputsOf, firstAt, functionCount, widthsAt, readHead, readWires, readThreads, wholeSheet, readSheet, read}
+use Rattle.sheet.specs.Answers.{startsOf, definitionsOf, layoutOf, sheetAnswer}
 
 -- ---- the flip-flop
 
@@ -21,20 +22,31 @@ flipFlop = 0x02 ∷ 0x01 ∷ 0x00 ∷ 0x01 ∷ 0x01 ∷ 0x08 ∷ 0x08 ∷ 0x0C �
 flip-flop : read flipFlop
     ≡ ok
     (record {
-      scope = record { inputs = 2; registers = 1; widths = 1 ∷ 8 ∷ 8 ∷ [] };
+      scope = record { inputs = 2; registers = 1; widths = 1 ∷ 8 ∷ 8 ∷ []; declared = 0; functions = [] };
       wires = [];
       threads = sequence (wait (record { edge = Posedge; variable = 0 } ∷ [])) (later 2 (variable 1)) ∷ [];
     })
-unfolding flipFlop read readSheet readHead readWidths readWires readThreads readStmt form assignment formOf isRegister readTerms narrow narrowAll edgeOf size tree readExpr node kindOf variableAt within byteAt
+unfolding flipFlop read readSheet wholeSheet readHead firstAt inputsOf functionCount widthsAt readFunctions readWidths readWires readThreads readStmt form assignment formOf isRegister readTerms narrow narrowAll edgeOf size tree readExpr node kindOf variableAt within byteAt
 flip-flop = refl
 
 flip-flop-answer : sheetAnswer (readSheet (located flipFlop) flipFlop)
     ≡ record {
       number = 0;
       place = 0;
-      layout = record { inputs = 2; registers = 1; wires = 0; threads = 1; starts = replicate 32 0; body = 7 };
+      layout =
+          record {
+            inputs = 2;
+            registers = 1;
+            wires = 0;
+            threads = 1;
+            functions = 0;
+            widths = 4;
+            definitions = replicate 8 0;
+            starts = replicate 32 0;
+            body = 7;
+          };
     }
-unfolding flipFlop sheetAnswer layoutOf startsOf readSheet readHead readWidths readWires readThreads readStmt form assignment formOf isRegister readTerms narrow narrowAll edgeOf size located tree readExpr node kindOf variableAt within byteAt
+unfolding flipFlop sheetAnswer layoutOf startsOf definitionsOf readSheet wholeSheet readHead firstAt inputsOf functionCount widthsAt readFunctions readWidths readWires readThreads readStmt form assignment formOf isRegister readTerms narrow narrowAll edgeOf size located tree readExpr node kindOf variableAt within byteAt
 flip-flop-answer = refl
 
 -- ---- a wire: v3 = v1 + 5
@@ -45,11 +57,11 @@ wireSheet w m = 0x02 ∷ 0x01 ∷ 0x01 ∷ 0x01 ∷ 0x01 ∷ 0x08 ∷ 0x08 ∷ w
 a-wire : read (wireSheet 8 0x0C)
     ≡ ok
     (record {
-      scope = record { inputs = 2; registers = 1; widths = 1 ∷ 8 ∷ 8 ∷ 8 ∷ [] };
+      scope = record { inputs = 2; registers = 1; widths = 1 ∷ 8 ∷ 8 ∷ 8 ∷ []; declared = 0; functions = [] };
       wires = binary 6 8 (variable 1) (constant 8 5) ∷ [];
       threads = empty ∷ [];
     })
-unfolding wireSheet read readSheet readHead readWidths readWires readThreads readStmt form formOf size tree readExpr node kindOf variableAt binaryWidth wordAt wordOf word within byteAt
+unfolding wireSheet read readSheet wholeSheet readHead firstAt inputsOf functionCount widthsAt readFunctions readWidths readWires readThreads readStmt form formOf size tree readExpr node kindOf variableAt binaryWidth wordAt wordOf word within byteAt
 a-wire = refl
 
 -- ---- the numbers, with their places
@@ -85,7 +97,7 @@ numbers :
     × (read (one (0x10 ∷ 0x01 ∷ 0x01 ∷ 0x01 ∷ [])) ≡ no 8 6)
     × (read (one (0x23 ∷ 0x00 ∷ 0xFF ∷ [])) ≡ no 9 7)
     × (read (flipFlop ++ (0x00 ∷ [])) ≡ no 10 16)
-unfolding flipFlop wireSheet one nots forevers read readSheet readHead readWidths readWires readThreads readStmt form assignment formOf isRegister readTerms narrow narrowAll edgeOf size tree readExpr node kindOf variableAt unaryWidth binaryWidth wordAt wordOf word within byteAt
+unfolding flipFlop wireSheet one nots forevers read readSheet wholeSheet readHead firstAt inputsOf functionCount widthsAt readFunctions readWidths readWires readThreads readStmt form assignment formOf isRegister readTerms narrow narrowAll edgeOf size tree readExpr node kindOf variableAt unaryWidth binaryWidth wordAt wordOf word within byteAt
 numbers = (refl, refl, refl, refl, refl, refl, refl, refl, refl, refl, refl, refl, refl, refl, refl, refl, refl)
 
 -- ---- the limits: what is read at most
@@ -99,13 +111,13 @@ forever-64 zero = empty
 forever-64 (suc n) = forever (forever-64 n)
 
 only : Stmt Expr → Module Expr
-only t = record { scope = record { inputs = 1; registers = 1; widths = 1 ∷ 8 ∷ [] }; wires = []; threads = t ∷ [] }
+only t = record { scope = record { inputs = 1; registers = 1; widths = 1 ∷ 8 ∷ []; declared = 0; functions = [] }; wires = []; threads = t ∷ [] }
 
 -- "Depth at most 16", and "at most 64; the outermost is 1".
 deepest :
     (read (one (0x06 ∷ nots 15 (0x02 ∷ 0x01 ∷ 0x00 ∷ []))) ≡ ok (only (ifThen (not-16 15) empty)))
     × (read (one (forevers 63 (0x00 ∷ []))) ≡ ok (only (forever-64 63)))
-unfolding one nots forevers not-16 forever-64 only read readSheet readHead readWidths readWires readThreads readStmt form formOf size tree readExpr node kindOf variableAt unaryWidth within byteAt
+unfolding one nots forevers not-16 forever-64 only read readSheet wholeSheet readHead firstAt inputsOf functionCount widthsAt readFunctions readWidths readWires readThreads readStmt form formOf size tree readExpr node kindOf variableAt unaryWidth within byteAt
 deepest = (refl, refl)
 
 -- "Depth 64 read", and 8 wait pairs.
@@ -124,5 +136,5 @@ isRead (ok a) = 1
 isRead (no n p) = 0
 
 longest : (isRead (read (one (long 51))) ≡ 1) × (read (one (long 52)) ≡ no 11 6) × (isRead (read eightPairs) ≡ 1)
-unfolding isRead one long forevers eightPairs read readSheet readHead readWidths readWires readThreads readStmt form formOf size readTerms narrow narrowAll edgeOf variableAt within byteAt
+unfolding isRead one long forevers eightPairs read readSheet wholeSheet readHead firstAt inputsOf functionCount widthsAt readFunctions readWidths readWires readThreads readStmt form formOf size readTerms narrow narrowAll edgeOf variableAt within byteAt
 longest = (refl, refl, refl)

@@ -12,8 +12,8 @@ use Rattle.values.specs.Values.{pick}
 use Rattle.values.specs.Edges.{edgeOf}
 use Rattle.sheet.specs.declared.EdgeTerm.{EdgeTerm}
 use Rattle.sheet.specs.Reading.{Res, ok, _>>=_, _>>_, byteAt, within}
-use Rattle.sheet.specs.Expression.{Parsed, variableAt}
-use Rattle.sheet.specs.Statement.{Stmt, empty, assign, later, sequence, ifThen, ifElse, while, forever, wait, Scope, isRegister, Body, readTerms, narrowAll, Form, anEmpty, anAssign, aLater, aSequence, anIf, anIfElse, aWhile, aForever, aWait, formOf, assignment, form, readStmt}
+use Rattle.sheet.specs.Expression.{Parsed, Scope, variableAt}
+use Rattle.sheet.specs.Statement.{Stmt, empty, assign, later, sequence, ifThen, ifElse, while, forever, wait, isRegister, Body, readTerms, narrowAll, Form, anEmpty, anAssign, aLater, aSequence, anIf, anIfElse, aWhile, aForever, aWait, formOf, assignment, form, readStmt}
 use Rattle.sheet.proofs.Reading.{no≢ok, ok-injective, bind-ok, check-ok, byte-ok, byte-at, Within, within-ok, within-at}
 use Rattle.sheet.proofs.Expression.{variable-ok, variable-at}
 
@@ -50,26 +50,26 @@ terms-below b (a-term e h x l ts) = let r = terms-below (omega arith) ts in omeg
 
 -- ---- which bytes are a statement
 
-pub data ReadsStmt {E : Type 0} (expr : List ℕ → ℕ → Res (Parsed E)) (c : Scope) (s : List ℕ) : ℕ → ℕ → Body E → Type 0 where
+pub data ReadsStmt {E : Type 0} (expr : Scope → ℕ → Res (Parsed E)) (c : Scope) (s : List ℕ) : ℕ → ℕ → Body E → Type 0 where
   an-empty : {d p : ℕ} → p < length s → getD s p 0 ≡ 0x00
       → ReadsStmt expr c s (suc d) p (record { stmt = empty; next = p + 1 })
   an-assign : {d p t : ℕ} {e : Parsed E} → p + 1 < length s → getD s p 0 ≡ 0x03 → getD s (p + 1) 0 ≡ t → isRegister c t ≡ true
-      → expr (c .widths) (p + 2) ≡ ok e → e .width ≡ getD (c .widths) t 0
+      → expr c (p + 2) ≡ ok e → e .width ≡ getD (c .widths) t 0
       → ReadsStmt expr c s (suc d) p (record { stmt = assign t (e .item); next = e .next })
   a-later : {d p t : ℕ} {e : Parsed E} → p + 1 < length s → getD s p 0 ≡ 0x23 → getD s (p + 1) 0 ≡ t → isRegister c t ≡ true
-      → expr (c .widths) (p + 2) ≡ ok e → e .width ≡ getD (c .widths) t 0
+      → expr c (p + 2) ≡ ok e → e .width ≡ getD (c .widths) t 0
       → ReadsStmt expr c s (suc d) p (record { stmt = later t (e .item); next = e .next })
   a-sequence : {d p : ℕ} {a b : Body E} → p < length s → getD s p 0 ≡ 0x0C
       → ReadsStmt expr c s d (p + 1) a → ReadsStmt expr c s d (a .next) b
       → ReadsStmt expr c s (suc d) p (record { stmt = sequence (a .stmt) (b .stmt); next = b .next })
   an-if : {d p : ℕ} {e : Parsed E} {a : Body E} → p < length s → getD s p 0 ≡ 0x06
-      → expr (c .widths) (p + 1) ≡ ok e → ReadsStmt expr c s d (e .next) a
+      → expr c (p + 1) ≡ ok e → ReadsStmt expr c s d (e .next) a
       → ReadsStmt expr c s (suc d) p (record { stmt = ifThen (e .item) (a .stmt); next = a .next })
   an-if-else : {d p : ℕ} {e : Parsed E} {a b : Body E} → p < length s → getD s p 0 ≡ 0x0E
-      → expr (c .widths) (p + 1) ≡ ok e → ReadsStmt expr c s d (e .next) a → ReadsStmt expr c s d (a .next) b
+      → expr c (p + 1) ≡ ok e → ReadsStmt expr c s d (e .next) a → ReadsStmt expr c s d (a .next) b
       → ReadsStmt expr c s (suc d) p (record { stmt = ifElse (e .item) (a .stmt) (b .stmt); next = b .next })
   a-while : {d p : ℕ} {e : Parsed E} {a : Body E} → p < length s → getD s p 0 ≡ 0x46
-      → expr (c .widths) (p + 1) ≡ ok e → ReadsStmt expr c s d (e .next) a
+      → expr c (p + 1) ≡ ok e → ReadsStmt expr c s d (e .next) a
       → ReadsStmt expr c s (suc d) p (record { stmt = while (e .item) (a .stmt); next = a .next })
   a-forever : {d p : ℕ} {a : Body E} → p < length s → getD s p 0 ≡ 0x44 → ReadsStmt expr c s d (p + 1) a
       → ReadsStmt expr c s (suc d) p (record { stmt = forever (a .stmt); next = a .next })
@@ -125,13 +125,13 @@ map-form m p aWait e = rw e refl
 
 -- ---- the reader accepts what is a statement, and nothing else
 
-module _ {E : Type 0} (expr : List ℕ → ℕ → Res (Parsed E)) (c : Scope) (s : List ℕ) where
+module _ {E : Type 0} (expr : Scope → ℕ → Res (Parsed E)) (c : Scope) (s : List ℕ) where
   -- What an assignment that was read says.
   pub record Assigned (p t : ℕ) (e : Parsed E) : Type 0 where
     pub below : p + 1 < length s
     pub byte : getD s (p + 1) 0 ≡ t
     pub register : isRegister c t ≡ true
-    pub read : expr (c .widths) (p + 2) ≡ ok e
+    pub read : expr c (p + 2) ≡ ok e
     pub fits : e .width ≡ getD (c .widths) t 0
 
   pub assignment-ok : (make : ℕ → E → Stmt E) (p : ℕ) {b : Body E} → assignment expr c s make p ≡ ok b
@@ -141,7 +141,7 @@ module _ {E : Type 0} (expr : List ℕ → ℕ → Res (Parsed E)) (c : Scope) (
       let t = bind-ok (byteAt s (p + 1)) _ h in
       let x = byte-ok s (p + 1) (t .1) in
       let r = check-ok (isRegister c (t .0)) 9 (p + 1) _ (t .2) in
-      let e = bind-ok (expr (c .widths) (p + 2)) _ (r .1) in
+      let e = bind-ok (expr c (p + 2)) _ (r .1) in
       let w = check-ok (eqb (e .0 .width) (getD (c .widths) (t .0) 0)) 8 p _ (e .2) in
       (t .0, e .0, record { below = x .0; byte = x .1; register = r .0; read = e .1; fits = eqb-true _ _ (w .0) }, ok-injective (w .1))
 
@@ -166,16 +166,16 @@ module _ {E : Type 0} (expr : List ℕ → ℕ → Res (Parsed E)) (c : Scope) (
       let b = bind-ok (readStmt expr c s d (a .0 .next)) _ (a .2) in
       rw (← ok-injective (b .2)) (a-sequence l m (inner (p + 1) (a .0) (a .1)) (inner (a .0 .next) (b .0) (b .1)))
   derive-form d p inner anIf l m h =
-      let e = bind-ok (expr (c .widths) (p + 1)) _ h in
+      let e = bind-ok (expr c (p + 1)) _ h in
       let a = bind-ok (readStmt expr c s d (e .0 .next)) _ (e .2) in
       rw (← ok-injective (a .2)) (an-if l m (e .1) (inner (e .0 .next) (a .0) (a .1)))
   derive-form d p inner anIfElse l m h =
-      let e = bind-ok (expr (c .widths) (p + 1)) _ h in
+      let e = bind-ok (expr c (p + 1)) _ h in
       let a = bind-ok (readStmt expr c s d (e .0 .next)) _ (e .2) in
       let b = bind-ok (readStmt expr c s d (a .0 .next)) _ (a .2) in
       rw (← ok-injective (b .2)) (an-if-else l m (e .1) (inner (e .0 .next) (a .0) (a .1)) (inner (a .0 .next) (b .0) (b .1)))
   derive-form d p inner aWhile l m h =
-      let e = bind-ok (expr (c .widths) (p + 1)) _ h in
+      let e = bind-ok (expr c (p + 1)) _ h in
       let a = bind-ok (readStmt expr c s d (e .0 .next)) _ (e .2) in
       rw (← ok-injective (a .2)) (a-while l m (e .1) (inner (e .0 .next) (a .0) (a .1)))
   derive-form d p inner aForever l m h =

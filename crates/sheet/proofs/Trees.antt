@@ -2,14 +2,15 @@
 -- the same refusals, and the same module once the tree at each place is put for the place.
 use mathlib.Core.Path.{_≡_, refl, ap}
 use Prim.Native.Nat.{ℕ, zero, suc, _+_, _-_}
-use mathlib.Core.List.{List, map}
+use mathlib.Core.List.{List, [], map}
 use mathlib.Core.Bool.{Bool, true, false}
 use lib.ListN.{length, getD}
-use lib.Dec.{leb, eqb}
+use lib.Dec.{ltb, leb, eqb}
 use Rattle.sheet.specs.Reading.{Res, ok, no, _>>=_, _>>_, check, byteAt, within}
-use Rattle.sheet.specs.Expression.{Expr, Parsed, tree, located, treeOf, exprAt}
-use Rattle.sheet.specs.Statement.{Stmt, empty, assign, later, sequence, ifThen, ifElse, while, forever, wait, size, mapStmt, Scope, isRegister, Body, readTerms, narrowAll, Form, anEmpty, anAssign, aLater, aSequence, anIf, anIfElse, aWhile, aForever, aWait, formOf, assignment, form, readStmt}
-use Rattle.sheet.specs.Module.{mapModule, Listed, readHead, readWires, readThreads, Sheet, readSheet, read}
+use Rattle.sheet.specs.Expression.{Expr, Scope, Parsed, tree, located, treeOf, exprAt}
+use Rattle.sheet.specs.Statement.{Stmt, empty, assign, later, sequence, ifThen, ifElse, while, forever, wait, size, mapStmt, isRegister, Body, readTerms, narrowAll, Form, anEmpty, anAssign, aLater, aSequence, anIf, anIfElse, aWhile, aForever, aWait, formOf, assignment, form, readStmt}
+use Rattle.sheet.specs.Functions.{Defined, readFunctions}
+use Rattle.sheet.specs.Module.{mapModule, Listed, Head, readHead, withFunctions, readWires, readThreads, Sheet, wholeSheet, readSheet, read}
 
 -- ---- a function under a reading
 
@@ -39,16 +40,16 @@ check-map g false n p r q h = refl
 abbrev parsed : {D E : Type 0} → (D → E) → Parsed D → Parsed E
 parsed f e = record { item = f (e .item); width = e .width; next = e .next }
 
-pub expr-at : (s ws : List ℕ) (p : ℕ) {e : Parsed Expr} → tree s ws p ≡ ok e → exprAt s ws p ≡ e .item
+pub expr-at : (s : List ℕ) (c : Scope) (p : ℕ) {e : Parsed Expr} → tree s c p ≡ ok e → exprAt s c p ≡ e .item
 unfolding exprAt treeOf
-expr-at s ws p h = ap treeOf h
+expr-at s c p h = ap treeOf h
 
-pub tree-located : (s ws : List ℕ) (p : ℕ) → tree s ws p ≡ mapRes (parsed (exprAt s ws)) (located s ws p)
+pub tree-located : (s : List ℕ) (c : Scope) (p : ℕ) → tree s c p ≡ mapRes (parsed (exprAt s c)) (located s c p)
 unfolding located mapRes
-tree-located s ws p = by (tree s ws p) refl
+tree-located s c p = by (tree s c p) refl
   where
-    by : (x : Res (Parsed Expr)) → tree s ws p ≡ x → tree s ws p ≡ mapRes (parsed (exprAt s ws)) (located s ws p)
-    by (ok e) h = rw (h, expr-at s ws p h) refl
+    by : (x : Res (Parsed Expr)) → tree s c p ≡ x → tree s c p ≡ mapRes (parsed (exprAt s c)) (located s c p)
+    by (ok e) h = rw (h, expr-at s c p h) refl
     by (no n q) h = rw h refl
 
 -- ---- statements
@@ -70,7 +71,7 @@ size-map f (wait ts) = refl
 
 module _ (c : Scope) (s : List ℕ) where
   abbrev at-place : ℕ → Expr
-  at-place = exprAt s (c .widths)
+  at-place = exprAt s c
 
   assignment-located : (make : ℕ → Expr → Stmt Expr) (keep : ℕ → ℕ → Stmt ℕ) → ((t e : ℕ) → make t (at-place e) ≡ mapStmt at-place (keep t e))
       → (p : ℕ) → assignment (tree s) c s make p ≡ mapRes (body at-place) (assignment (located s) c s keep p)
@@ -78,7 +79,7 @@ module _ (c : Scope) (s : List ℕ) where
   assignment-located make keep h p =
       bind-same (body at-place) (byteAt s (p + 1)) _ _
       (λ t. check-map (body at-place) (isRegister c t) 9 (p + 1) _ _
-      (bind-map (parsed at-place) (body at-place) (located s (c .widths) (p + 2)) _ _ (tree-located s (c .widths) (p + 2))
+      (bind-map (parsed at-place) (body at-place) (located s c (p + 2)) _ _ (tree-located s c (p + 2))
       (λ e. check-map (body at-place) (eqb (e .width) (getD (c .widths) t 0)) 8 p _ _
       (ap (λ (a : Stmt Expr). ok (record { stmt = a; next = e .next })) (h t (e .item))))))
 
@@ -92,14 +93,14 @@ module _ (c : Scope) (s : List ℕ) where
         bind-map (body at-place) (body at-place) (readStmt (located s) c s d (p + 1)) _ _ (inner (p + 1))
         (λ a. bind-map (body at-place) (body at-place) (readStmt (located s) c s d (a .next)) _ _ (inner (a .next)) (λ b. refl))
     form-located p anIf =
-        bind-map (parsed at-place) (body at-place) (located s (c .widths) (p + 1)) _ _ (tree-located s (c .widths) (p + 1))
+        bind-map (parsed at-place) (body at-place) (located s c (p + 1)) _ _ (tree-located s c (p + 1))
         (λ e. bind-map (body at-place) (body at-place) (readStmt (located s) c s d (e .next)) _ _ (inner (e .next)) (λ a. refl))
     form-located p anIfElse =
-        bind-map (parsed at-place) (body at-place) (located s (c .widths) (p + 1)) _ _ (tree-located s (c .widths) (p + 1))
+        bind-map (parsed at-place) (body at-place) (located s c (p + 1)) _ _ (tree-located s c (p + 1))
         (λ e. bind-map (body at-place) (body at-place) (readStmt (located s) c s d (e .next)) _ _ (inner (e .next))
         (λ a. bind-map (body at-place) (body at-place) (readStmt (located s) c s d (a .next)) _ _ (inner (a .next)) (λ b. refl)))
     form-located p aWhile =
-        bind-map (parsed at-place) (body at-place) (located s (c .widths) (p + 1)) _ _ (tree-located s (c .widths) (p + 1))
+        bind-map (parsed at-place) (body at-place) (located s c (p + 1)) _ _ (tree-located s c (p + 1))
         (λ e. bind-map (body at-place) (body at-place) (readStmt (located s) c s d (e .next)) _ _ (inner (e .next)) (λ a. refl))
     form-located p aForever =
         bind-map (body at-place) (body at-place) (readStmt (located s) c s d (p + 1)) _ _ (inner (p + 1)) (λ a. refl)
@@ -124,7 +125,7 @@ module _ (c : Scope) (s : List ℕ) where
   unfolding readWires mapRes
   wires-located zero v p = refl
   wires-located (suc n) v p =
-      bind-map (parsed at-place) (listed at-place) (located s (c .widths) p) _ _ (tree-located s (c .widths) p)
+      bind-map (parsed at-place) (listed at-place) (located s c p) _ _ (tree-located s c p)
       (λ e. check-map (listed at-place) (eqb (e .width) (getD (c .widths) v 0)) 8 p _ _
       (bind-map (listed at-place) (listed at-place) (readWires (located s) c s n (v + 1) (e .next)) _ _ (wires-located n (v + 1) (e .next)) (λ es. refl)))
 
@@ -141,18 +142,27 @@ module _ (c : Scope) (s : List ℕ) where
 
 -- The module of a sheet whose expressions are kept as places, with their trees.
 unfoldable pub trees : List ℕ → Sheet ℕ → Sheet Expr
-trees s r = record { contents = mapModule (exprAt s (r .contents .scope .widths)) (r .contents); body = r .body }
+trees s r = record { contents = mapModule (exprAt s (r .contents .scope)) (r .contents); definitions = r .definitions; body = r .body }
 
-pub sheet-located : (s : List ℕ) → readSheet (tree s) s ≡ mapRes (trees s) (readSheet (located s) s)
-unfolding readSheet mapRes trees mapModule
-sheet-located s =
+abbrev scope : Head → Defined → Scope
+scope h fs = withFunctions (h .scope) (fs .functions)
+
+pub whole-located : (s : List ℕ) → wholeSheet (tree s) s ≡ mapRes (trees s) (wholeSheet (located s) s)
+unfolding wholeSheet mapRes trees mapModule
+whole-located s =
     check-map (trees s) (leb (length s) 8192) 1 8192 _ _
     (bind-same (trees s) (readHead s) _ _
-    (λ h. bind-map (listed (h .scope) s (at-place (h .scope) s)) (trees s) (readWires (located s) (h .scope) s (h .wires) (h .scope .inputs + h .scope .registers) (h .next)) _ _
-    (wires-located (h .scope) s (h .wires) (h .scope .inputs + h .scope .registers) (h .next))
-    (λ es. bind-map (listed (h .scope) s (mapStmt (at-place (h .scope) s))) (trees s) (readThreads (located s) (h .scope) s (h .threads) (es .next)) _ _
-    (threads-located (h .scope) s (h .threads) (es .next))
-    (λ ts. check-map (trees s) (eqb (ts .next) (length s)) 10 (ts .next) _ _ refl))))
+    (λ h. bind-same (trees s) (readFunctions (h .scope .declared) (h .scope .declared) [] s (h .next)) _ _
+    (λ fs. bind-map (listed (scope h fs) s (at-place (scope h fs) s)) (trees s) (readWires (located s) (scope h fs) s (h .wires) (h .scope .inputs + h .scope .registers) (fs .next)) _ _
+    (wires-located (scope h fs) s (h .wires) (h .scope .inputs + h .scope .registers) (fs .next))
+    (λ es. bind-map (listed (scope h fs) s (mapStmt (at-place (scope h fs) s))) (trees s) (readThreads (located s) (scope h fs) s (h .threads) (es .next)) _ _
+    (threads-located (scope h fs) s (h .threads) (es .next))
+    (λ ts. check-map (trees s) (eqb (ts .next) (length s)) 10 (ts .next) _ _ refl)))))
+
+pub sheet-located : (s : List ℕ) → readSheet (tree s) s ≡ mapRes (trees s) (readSheet (located s) s)
+unfolding readSheet
+sheet-located s =
+    check-map (trees s) (leb (length s) 8192) 1 8192 _ _ (check-map (trees s) (ltb (getD s 0 0) 128) 3 0 _ _ (whole-located s))
 
 -- What `read` gives, by the places that the code keeps.
 pub read-located : (s : List ℕ) → read s ≡ mapRes (λ r. trees s r .contents) (readSheet (located s) s)

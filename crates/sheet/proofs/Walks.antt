@@ -44,10 +44,13 @@ use denote.Triple.Clauses.{Ended, Clauses, AtExit, ensured, lasts, closing}
 use Rattle.sheet.specs.declared.Reader.{Reader}
 use Rattle.sheet.specs.declared.HeadRead.{HeadRead}
 use Rattle.sheet.specs.declared.WiresRead.{WiresRead}
+use Rattle.sheet.specs.declared.FunctionsRead.{FunctionsRead}
 use Rattle.sheet.proofs.HeadRead as Head
 use Rattle.sheet.proofs.HeadRead.Laws as Head′
 use Rattle.sheet.proofs.WiresRead as Wires
 use Rattle.sheet.proofs.WiresRead.Laws as Wires′
+use Rattle.sheet.proofs.FunctionsRead as Defs
+use Rattle.sheet.proofs.FunctionsRead.Laws as Defs′
 use Rattle.sheet.proofs.Reader as T
 use Rattle.sheet.proofs.Reader.Laws as T′
 
@@ -72,6 +75,10 @@ headVal h = EL.val Head.the-type Head′.the-laws h
 
 abbrev pub wiresVal : WiresRead → Val
 wiresVal w = LL.val Wires.the-type Wires′.the-laws w
+
+-- the machine value of a row of functions
+abbrev pub functionsVal : FunctionsRead → Val
+functionsVal f = LL.val Defs.the-type Defs′.the-laws f
 
 -- what is had for nothing, beside what there is
 pub beside : {M : Type 1} (𝓤 : URA M) (P Q : SProp 𝓤) → ent 𝓤 (emp 𝓤) Q → ent 𝓤 P (sep 𝓤 P Q)

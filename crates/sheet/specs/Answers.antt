@@ -6,7 +6,7 @@ use lib.Seq.{sets}
 use Rattle.sheet.specs.Reading.{Res, ok, no}
 use Rattle.sheet.specs.Expression.{Parsed}
 use Rattle.sheet.specs.Statement.{Body, size}
-use Rattle.sheet.specs.Module.{Sheet}
+use Rattle.sheet.specs.Module.{widthsAt, Sheet}
 use Rattle.sheet.specs.declared.ExprRead as ExprRead
 use Rattle.sheet.specs.declared.StmtRead as StmtRead
 use Rattle.sheet.specs.declared.Layout.{Layout}
@@ -26,6 +26,10 @@ stmtAnswer (no n p) = StmtRead.the-variants.Refused n p
 unfoldable pub startsOf : List ℕ → List ℕ
 startsOf wires = sets (replicate 32 0) 0 wires
 
+-- The places of the functions' definitions, 0 past the last.
+unfoldable pub definitionsOf : List ℕ → List ℕ
+definitionsOf places = sets (replicate 8 0) 0 places
+
 unfoldable pub layoutOf : Sheet ℕ → Layout
 layoutOf r =
     record {
@@ -33,12 +37,26 @@ layoutOf r =
       registers = r .contents .scope .registers;
       wires = length (r .contents .wires);
       threads = length (r .contents .threads);
+      functions = r .contents .scope .declared;
+      widths = widthsAt (r .contents .scope .declared);
+      definitions = definitionsOf (r .definitions);
       starts = startsOf (r .contents .wires);
       body = r .body;
     }
 
 unfoldable pub blank : Layout
-blank = record { inputs = 0; registers = 0; wires = 0; threads = 0; starts = replicate 32 0; body = 0 }
+blank =
+    record {
+      inputs = 0;
+      registers = 0;
+      wires = 0;
+      threads = 0;
+      functions = 0;
+      widths = 0;
+      definitions = replicate 8 0;
+      starts = replicate 32 0;
+      body = 0;
+    }
 
 unfoldable pub sheetAnswer : Res (Sheet ℕ) → SheetRead
 sheetAnswer (ok r) = record { number = 0; place = 0; layout = layoutOf r }

@@ -11,7 +11,7 @@ use Rattle.values.specs.declared.Edge.{Edge}
 use Rattle.values.specs.declared.Edge.the-variants.{Change, Posedge, Negedge}
 use Rattle.sheet.specs.declared.EdgeTerm.{EdgeTerm}
 use Rattle.sheet.specs.Reading.{Res, ok, no, _>>=_, _>>_, check, byteAt, within}
-use Rattle.sheet.specs.Expression.{Parsed, variableAt}
+use Rattle.sheet.specs.Expression.{Parsed, Scope, variableAt}
 
 -- ---- trees
 
@@ -50,12 +50,6 @@ mapStmt f (ifElse e a b) = ifElse (f e) (mapStmt f a) (mapStmt f b)
 mapStmt f (while e a) = while (f e) (mapStmt f a)
 mapStmt f (forever a) = forever (mapStmt f a)
 mapStmt f (wait ts) = wait ts
-
--- The variables: the inputs, then the registers, then the wires, with their widths.
-pub record Scope : Type 0 where
-  pub inputs : ℕ
-  pub registers : ℕ
-  pub widths : List ℕ
 
 -- Number 9 is "target byte names no register".
 unfoldable pub isRegister : Scope → ℕ → Bool
@@ -109,13 +103,13 @@ formOf m p =
     (pick (eqb m 0x10) (ok aWait)
     (no 5 p)))))))))
 
-module _ {E : Type 0} (expr : List ℕ → ℕ → Res (Parsed E)) (c : Scope) (s : List ℕ) where
+module _ {E : Type 0} (expr : Scope → ℕ → Res (Parsed E)) (c : Scope) (s : List ℕ) where
   -- "A target or wire has its expression's width"; number 9 is judged before the expression is read.
   unfoldable pub assignment : (ℕ → E → Stmt E) → ℕ → Res (Body E)
   assignment make p = do
     t ← byteAt s (p + 1)
     check (isRegister c t) 9 (p + 1)
-    e ← expr (c .widths) (p + 2)
+    e ← expr c (p + 2)
     check (eqb (e .width) (getD (c .widths) t 0)) 8 p
     ok (record { stmt = make t (e .item); next = e .next })
 
@@ -129,16 +123,16 @@ module _ {E : Type 0} (expr : List ℕ → ℕ → Res (Parsed E)) (c : Scope) (
     b ← inner (a .next)
     ok (record { stmt = sequence (a .stmt) (b .stmt); next = b .next })
   form inner p anIf = do
-    e ← expr (c .widths) (p + 1)
+    e ← expr c (p + 1)
     a ← inner (e .next)
     ok (record { stmt = ifThen (e .item) (a .stmt); next = a .next })
   form inner p anIfElse = do
-    e ← expr (c .widths) (p + 1)
+    e ← expr c (p + 1)
     a ← inner (e .next)
     b ← inner (a .next)
     ok (record { stmt = ifElse (e .item) (a .stmt) (b .stmt); next = b .next })
   form inner p aWhile = do
-    e ← expr (c .widths) (p + 1)
+    e ← expr c (p + 1)
     a ← inner (e .next)
     ok (record { stmt = while (e .item) (a .stmt); next = a .next })
   form inner p aForever = do

@@ -1,5 +1,6 @@
-// What follows the head of a sheet: the wires' expressions, the threads' statements, and nothing more.
+// What follows the head and the functions of a sheet: the wires' expressions, the threads' statements, and nothing more.
 use super::ExprRead;
+use super::FunctionsRead;
 use super::HeadRead;
 use super::Layout;
 use super::PlaceRead;
@@ -8,6 +9,7 @@ use super::StmtRead;
 use super::WiresRead;
 use super::bytes::byte_at;
 use super::expr::located;
+use super::head::widths_at;
 use super::stmt::read_stmt;
 ghost use mathlib.Core.Path.{_≡_};
 ghost use Prim.Native.Nat.{_+_, _≤_};
@@ -15,20 +17,22 @@ ghost use Rattle.sheet.specs.Reading.{no};
 ghost use Rattle.sheet.specs.Expression.{located};
 ghost use Rattle.sheet.specs.Module.{readWires, readThreads};
 ghost use Rattle.sheet.specs.Answers.{sheetAnswer};
-ghost use Rattle.sheet.specs.Parts.{scopeOf, placeAnswer, wiresAnswer};
-ghost use Rattle.sheet.specs.Reader.{headRead, wiresFrom, wiresRead, threadsFrom, rowEnd, finishedOf};
+ghost use Rattle.sheet.specs.Parts.{scopeOf, outlines, placeAnswer, functionsAnswer, wiresAnswer};
+ghost use Rattle.sheet.specs.Reader.{headRead, functionsRead, wiresFrom, wiresRead, threadsFrom, rowEnd, finishedOf};
 
 // The wires' expressions: each has its wire's width.
 fn read_wires(
     sheet: &[u8],
     widths: &[u8],
+    definitions: &[usize; 8],
+    declared: u8,
     inputs: u8,
     registers: u8,
     count: u8,
     at: usize,
 ) -> WiresRead
     requires { ⌜ count ≤ 32 ⌝ }
-    ensures { λ r. ⌜ r ≡ wiresAnswer (readWires (located (now (sheet .entry))) (scopeOf inputs registers (now (widths .entry))) (now (sheet .entry)) count (inputs + registers) at) ⌝ }
+    ensures { λ r. ⌜ r ≡ wiresAnswer (readWires (located (now (sheet .entry))) (scopeOf inputs registers (now (widths .entry)) declared (outlines (now (sheet .entry)) (now (definitions .entry)) declared)) (now (sheet .entry)) count (inputs + registers) at) ⌝ }
 {
     let blank = [0usize; 32];
     let mut starts = [0usize; 32];
@@ -36,7 +40,7 @@ fn read_wires(
     let mut k: u8 = 0;
     let mut place = at;
     while k < count {
-        let e = located(sheet, widths, place);
+        let e = located(sheet, widths, definitions, declared, declared, place);
         match e {
             ExprRead::Refused { number, place } => {
                 return WiresRead {
@@ -68,17 +72,28 @@ fn read_wires(
 fn read_threads(
     sheet: &[u8],
     widths: &[u8],
+    definitions: &[usize; 8],
+    declared: u8,
     inputs: u8,
     registers: u8,
     count: u8,
     at: usize,
 ) -> PlaceRead
-    ensures { λ r. ⌜ r ≡ placeAnswer (readThreads (located (now (sheet .entry))) (scopeOf inputs registers (now (widths .entry))) (now (sheet .entry)) count at) ⌝ }
+    ensures { λ r. ⌜ r ≡ placeAnswer (readThreads (located (now (sheet .entry))) (scopeOf inputs registers (now (widths .entry)) declared (outlines (now (sheet .entry)) (now (definitions .entry)) declared)) (now (sheet .entry)) count at) ⌝ }
 {
     let mut k: u8 = 0;
     let mut place = at;
     while k < count {
-        let b = read_stmt(sheet, widths, inputs, registers, place, 64);
+        let b = read_stmt(
+            sheet,
+            widths,
+            definitions,
+            declared,
+            inputs,
+            registers,
+            place,
+            64,
+        );
         match b {
             StmtRead::Refused { number, place } => {
                 return PlaceRead::Refused { number, place };
@@ -96,15 +111,19 @@ fn read_threads(
 }
 
 // The answer of a refused sheet.
-fn refused(number: u8, place: usize) -> SheetRead
+pub(crate) fn refused(number: u8, place: usize) -> SheetRead
     ensures { λ r. ⌜ r ≡ sheetAnswer (no number place) ⌝ }
 {
     let starts = [0usize; 32];
+    let definitions = [0usize; 8];
     let layout = Layout {
         inputs: 0,
         registers: 0,
         wires: 0,
         threads: 0,
+        functions: 0,
+        widths: 0,
+        definitions,
         starts,
         body: 0,
     };
@@ -115,11 +134,18 @@ fn refused(number: u8, place: usize) -> SheetRead
     }
 }
 
-// The wires' expressions from a place on, behind the head of this sheet.
-pub(crate) fn wires_after(sheet: &[u8], at: usize, head: HeadRead) -> WiresRead
-    requires { ⌜ head ≡ headRead (now sheet) ⌝ }
+// The wires' expressions from a place on, behind the head and the functions of this sheet.
+pub(crate) fn wires_after(sheet: &[u8], at: usize, head: HeadRead, all: FunctionsRead) -> WiresRead
+    requires { ⌜ (head ≡ headRead (now sheet)) × (all ≡ functionsAnswer (functionsRead (now sheet))) ⌝ }
     ensures { λ r. ⌜ r ≡ wiresAnswer (wiresFrom (now (sheet .entry)) at) ⌝ }
 {
+    let read = all.read;
+    if let PlaceRead::Refused { number, place } = read {
+        return WiresRead {
+            read: PlaceRead::Refused { number, place },
+            starts: [0usize; 32],
+        };
+    }
     match head {
         HeadRead::Refused { number, place } => WiresRead {
             read: PlaceRead::Refused { number, place },
@@ -130,10 +156,22 @@ pub(crate) fn wires_after(sheet: &[u8], at: usize, head: HeadRead) -> WiresRead
             registers,
             wires,
             threads: _,
+            functions,
         } => {
-            let first = 4 + (inputs as usize) + (registers as usize) + (wires as usize);
-            let widths = &sheet[4..first];
-            read_wires(sheet, widths, inputs, registers, wires, at)
+            let start = widths_at(functions);
+            let first = start + (inputs as usize) + (registers as usize) + (wires as usize);
+            let widths = &sheet[start..first];
+            let definitions = all.definitions;
+            read_wires(
+                sheet,
+                widths,
+                &definitions,
+                functions,
+                inputs,
+                registers,
+                wires,
+                at,
+            )
         }
     }
 }
@@ -152,9 +190,15 @@ pub(crate) fn row_end(row: WiresRead) -> usize
     }
 }
 
-// The threads' statements from a place on, behind the head and the wires of this sheet.
-pub(crate) fn threads_after(sheet: &[u8], at: usize, head: HeadRead, row: WiresRead) -> PlaceRead
-    requires { ⌜ (head ≡ headRead (now sheet)) × (row ≡ wiresAnswer (wiresRead (now sheet))) ⌝ }
+// The threads' statements from a place on, behind the head, the functions and the wires of this sheet.
+pub(crate) fn threads_after(
+    sheet: &[u8],
+    at: usize,
+    head: HeadRead,
+    all: FunctionsRead,
+    row: WiresRead,
+) -> PlaceRead
+    requires { ⌜ (head ≡ headRead (now sheet)) × (all ≡ functionsAnswer (functionsRead (now sheet))) × (row ≡ wiresAnswer (wiresRead (now sheet))) ⌝ }
     ensures { λ r. ⌜ r ≡ placeAnswer (threadsFrom (now (sheet .entry)) at) ⌝ }
 {
     let read = row.read;
@@ -168,10 +212,22 @@ pub(crate) fn threads_after(sheet: &[u8], at: usize, head: HeadRead, row: WiresR
             registers,
             wires,
             threads,
+            functions,
         } => {
-            let first = 4 + (inputs as usize) + (registers as usize) + (wires as usize);
-            let widths = &sheet[4..first];
-            read_threads(sheet, widths, inputs, registers, threads, at)
+            let start = widths_at(functions);
+            let first = start + (inputs as usize) + (registers as usize) + (wires as usize);
+            let widths = &sheet[start..first];
+            let definitions = all.definitions;
+            read_threads(
+                sheet,
+                widths,
+                &definitions,
+                functions,
+                inputs,
+                registers,
+                threads,
+                at,
+            )
         }
     }
 }
@@ -179,12 +235,13 @@ pub(crate) fn threads_after(sheet: &[u8], at: usize, head: HeadRead, row: WiresR
 // The answer, once everything was read: the threads end where the sheet does.
 pub(crate) fn finished(
     head: HeadRead,
+    all: FunctionsRead,
     row: WiresRead,
     body: usize,
     threads: PlaceRead,
     size: usize,
 ) -> SheetRead
-    ensures { λ r. ⌜ r ≡ finishedOf head row body threads size ⌝ }
+    ensures { λ r. ⌜ r ≡ finishedOf head all row body threads size ⌝ }
 {
     let end = match threads {
         PlaceRead::At(end) => end,
@@ -202,13 +259,18 @@ pub(crate) fn finished(
             registers,
             wires,
             threads,
+            functions,
         } => {
+            let definitions = all.definitions;
             let starts = row.starts;
             let layout = Layout {
                 inputs,
                 registers,
                 wires,
                 threads,
+                functions,
+                widths: widths_at(functions),
+                definitions,
                 starts,
                 body,
             };

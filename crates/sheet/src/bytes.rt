@@ -6,7 +6,7 @@ ghost use Prim.Native.Nat.{_-_};
 ghost use lib.ListN.{length, getD};
 ghost use Rattle.sheet.specs.Reading.{within, word, wordOf, wordAt};
 ghost use Rattle.sheet.specs.Expression.{variableAt};
-ghost use Rattle.sheet.specs.Parts.{byteAnswer};
+ghost use Rattle.sheet.specs.Parts.{byteAnswer, FunctionNamed};
 ghost use Rattle.sheet.specs.Reader.{wordAnswer};
 
 // The byte at a place, 0 past the end.
@@ -99,4 +99,31 @@ pub(crate) fn read_name(sheet: &[u8], widths: &[u8], at: usize) -> ByteRead
         };
     }
     ByteRead::Byte(v)
+}
+
+// A byte that names one of the functions that may be called here.
+pub(crate) fn read_function(sheet: &[u8], declared: u8, callable: u8, at: usize) -> ByteRead
+    ensures { λ r. ⌜ FunctionNamed r declared callable (now (sheet .entry)) at ⌝ }
+{
+    let end = sheet.len();
+    if end <= at {
+        return ByteRead::Refused {
+            number: 2,
+            place: end,
+        };
+    }
+    let n = sheet[at];
+    if declared <= n {
+        return ByteRead::Refused {
+            number: 6,
+            place: at,
+        };
+    }
+    if callable <= n {
+        return ByteRead::Refused {
+            number: 44,
+            place: at,
+        };
+    }
+    ByteRead::Byte(n)
 }

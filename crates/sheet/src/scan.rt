@@ -1,6 +1,7 @@
 // The Reader's functions. Each takes the struct apart and calls the function on slice and number that does the work;
 // their proofs are walks of the code.
 use super::ByteRead;
+use super::FunctionsRead;
 use super::HeadRead;
 use super::PlaceRead;
 use super::Reader;
@@ -11,14 +12,15 @@ use super::body::wires_after;
 use super::bytes::left_of;
 use super::bytes::read_within;
 use super::bytes::read_word;
+use super::functions::functions_after;
 use super::head::read_counts;
 use super::head::widths_after;
 ghost use mathlib.Core.Path.{_≡_};
 ghost use Prim.Native.Nat.{_-_};
 ghost use lib.ListN.{length};
 ghost use Rattle.sheet.specs.Reading.{within, wordAt};
-ghost use Rattle.sheet.specs.Parts.{byteAnswer, placeAnswer, wiresAnswer};
-ghost use Rattle.sheet.specs.Reader.{readerAt, headRead, countsFrom, widthsFrom, wiresFrom, wiresRead, threadsFrom, wordAnswer};
+ghost use Rattle.sheet.specs.Parts.{byteAnswer, placeAnswer, functionsAnswer, wiresAnswer};
+ghost use Rattle.sheet.specs.Reader.{readerAt, headRead, countsFrom, widthsFrom, functionsFrom, functionsRead, wiresFrom, wiresRead, threadsFrom, wordAnswer};
 
 // A Reader over a sheet: the next place is the first.
 pub(crate) fn over<'a>(sheet: &'a [u8]) -> Reader<'a>
@@ -62,7 +64,7 @@ pub(crate) fn word<'a>(r: Reader<'a>) -> WordRead
     read_word(r.sheet, r.at)
 }
 
-// The four counts and the clock's width; the sheet's length is judged first.
+// The counts and the clock's width; the sheet's length is judged first.
 pub(crate) fn counts<'a>(r: Reader<'a>) -> HeadRead
     ensures { λ c. ⌜ c ≡ countsFrom (now (r .entry .sheet)) (r .entry .at) ⌝ }
 {
@@ -76,18 +78,31 @@ pub(crate) fn widths<'a>(r: Reader<'a>, counts: HeadRead) -> HeadRead
     widths_after(r.sheet, r.at, counts)
 }
 
-// The wires' expressions, behind the head of this sheet.
-pub(crate) fn wires<'a>(r: Reader<'a>, head: HeadRead) -> WiresRead
+// The functions, behind the head of this sheet.
+pub(crate) fn functions<'a>(r: Reader<'a>, head: HeadRead) -> FunctionsRead
     requires { ⌜ head ≡ headRead (now (r .sheet)) ⌝ }
-    ensures { λ w. ⌜ w ≡ wiresAnswer (wiresFrom (now (r .entry .sheet)) (r .entry .at)) ⌝ }
+    ensures { λ f. ⌜ f ≡ functionsAnswer (functionsFrom (now (r .entry .sheet)) (r .entry .at)) ⌝ }
 {
-    wires_after(r.sheet, r.at, head)
+    functions_after(r.sheet, r.at, head)
 }
 
-// The threads' statements, behind the head and the wires of this sheet.
-pub(crate) fn threads<'a>(r: Reader<'a>, head: HeadRead, row: WiresRead) -> PlaceRead
-    requires { ⌜ (head ≡ headRead (now (r .sheet))) × (row ≡ wiresAnswer (wiresRead (now (r .sheet)))) ⌝ }
+// The wires' expressions, behind the head and the functions of this sheet.
+pub(crate) fn wires<'a>(r: Reader<'a>, head: HeadRead, all: FunctionsRead) -> WiresRead
+    requires { ⌜ (head ≡ headRead (now (r .sheet))) × (all ≡ functionsAnswer (functionsRead (now (r .sheet)))) ⌝ }
+    ensures { λ w. ⌜ w ≡ wiresAnswer (wiresFrom (now (r .entry .sheet)) (r .entry .at)) ⌝ }
+{
+    wires_after(r.sheet, r.at, head, all)
+}
+
+// The threads' statements, behind the head, the functions and the wires of this sheet.
+pub(crate) fn threads<'a>(
+    r: Reader<'a>,
+    head: HeadRead,
+    all: FunctionsRead,
+    row: WiresRead,
+) -> PlaceRead
+    requires { ⌜ (head ≡ headRead (now (r .sheet))) × (all ≡ functionsAnswer (functionsRead (now (r .sheet)))) × (row ≡ wiresAnswer (wiresRead (now (r .sheet)))) ⌝ }
     ensures { λ p. ⌜ p ≡ placeAnswer (threadsFrom (now (r .entry .sheet)) (r .entry .at)) ⌝ }
 {
-    threads_after(r.sheet, r.at, head, row)
+    threads_after(r.sheet, r.at, head, all, row)
 }

@@ -16,11 +16,11 @@ ghost use lib.ListN.{length};
 ghost use Rattle.sheet.specs.Expression.{located};
 ghost use Rattle.sheet.specs.Statement.{isRegister, narrow, readTerms, readStmt, anAssign, aSequence, anIf, anIfElse, aWhile, aForever, aWait};
 ghost use Rattle.sheet.specs.Answers.{stmtAnswer};
-ghost use Rattle.sheet.specs.Parts.{scopeOf, termsAnswer, formAnswer};
+ghost use Rattle.sheet.specs.Parts.{scopeOf, outlines, termsAnswer, formAnswer};
 
 // Does the number name a register?
 pub(crate) fn is_register(inputs: u8, registers: u8, v: u8) -> bool
-    ensures { λ r. ⌜ r ≡ isRegister (scopeOf inputs registers []) v ⌝ }
+    ensures { λ r. ⌜ r ≡ isRegister (scopeOf inputs registers [] 0 []) v ⌝ }
 {
     if v < inputs {
         return false;
@@ -29,9 +29,17 @@ pub(crate) fn is_register(inputs: u8, registers: u8, v: u8) -> bool
 }
 
 // An assignment, plain or later: a register, and an expression of its width.
-fn read_assignment(sheet: &[u8], widths: &[u8], inputs: u8, registers: u8, at: usize) -> StmtRead
+fn read_assignment(
+    sheet: &[u8],
+    widths: &[u8],
+    definitions: &[usize; 8],
+    declared: u8,
+    inputs: u8,
+    registers: u8,
+    at: usize,
+) -> StmtRead
     requires { ⌜ at < length (now sheet) ⌝ }
-    ensures { λ r. ⌜ r ≡ formAnswer 0 (scopeOf inputs registers (now (widths .entry))) (now (sheet .entry)) at anAssign ⌝ }
+    ensures { λ r. ⌜ r ≡ formAnswer 0 (scopeOf inputs registers (now (widths .entry)) declared (outlines (now (sheet .entry)) (now (definitions .entry)) declared)) (now (sheet .entry)) at anAssign ⌝ }
 {
     let end = sheet.len();
     let first = at + 1;
@@ -48,7 +56,7 @@ fn read_assignment(sheet: &[u8], widths: &[u8], inputs: u8, registers: u8, at: u
             place: first,
         };
     }
-    match located(sheet, widths, at + 2) {
+    match located(sheet, widths, definitions, declared, declared, at + 2) {
         ExprRead::Refused { number, place } => StmtRead::Refused { number, place },
         ExprRead::Read { next, width } => {
             if width != byte_at(widths, target as usize) {
@@ -114,7 +122,7 @@ fn read_terms(sheet: &[u8], widths: &[u8], at: usize, count: u8) -> TermsRead
 // A wait: a count and so many pairs.
 fn read_wait(sheet: &[u8], widths: &[u8], inputs: u8, registers: u8, at: usize) -> StmtRead
     requires { ⌜ at < length (now sheet) ⌝ }
-    ensures { λ r. ⌜ r ≡ formAnswer 0 (scopeOf inputs registers (now (widths .entry))) (now (sheet .entry)) at aWait ⌝ }
+    ensures { λ r. ⌜ r ≡ formAnswer 0 (scopeOf inputs registers (now (widths .entry)) 0 []) (now (sheet .entry)) at aWait ⌝ }
 {
     let read = read_within(sheet, at + 1, 1, 8, 6);
     let count = match read {
@@ -145,15 +153,26 @@ fn read_wait(sheet: &[u8], widths: &[u8], inputs: u8, registers: u8, at: usize) 
 fn read_sequence(
     sheet: &[u8],
     widths: &[u8],
+    definitions: &[usize; 8],
+    declared: u8,
     inputs: u8,
     registers: u8,
     at: usize,
     depth: u8,
 ) -> StmtRead
     requires { ⌜ at < length (now sheet) ⌝ }
-    ensures { λ r. ⌜ r ≡ formAnswer depth (scopeOf inputs registers (now (widths .entry))) (now (sheet .entry)) at aSequence ⌝ }
+    ensures { λ r. ⌜ r ≡ formAnswer depth (scopeOf inputs registers (now (widths .entry)) declared (outlines (now (sheet .entry)) (now (definitions .entry)) declared)) (now (sheet .entry)) at aSequence ⌝ }
 {
-    let a = read_stmt(sheet, widths, inputs, registers, at + 1, depth);
+    let a = read_stmt(
+        sheet,
+        widths,
+        definitions,
+        declared,
+        inputs,
+        registers,
+        at + 1,
+        depth,
+    );
     let StmtRead::Read {
         next: second,
         size: one,
@@ -161,7 +180,16 @@ fn read_sequence(
     else {
         return a;
     };
-    let b = read_stmt(sheet, widths, inputs, registers, second, depth);
+    let b = read_stmt(
+        sheet,
+        widths,
+        definitions,
+        declared,
+        inputs,
+        registers,
+        second,
+        depth,
+    );
     let StmtRead::Read { next, size: other } = b else {
         return b;
     };
@@ -172,18 +200,36 @@ fn read_sequence(
 }
 
 // A condition and a statement: if.
-fn read_if(sheet: &[u8], widths: &[u8], inputs: u8, registers: u8, at: usize, depth: u8) -> StmtRead
+fn read_if(
+    sheet: &[u8],
+    widths: &[u8],
+    definitions: &[usize; 8],
+    declared: u8,
+    inputs: u8,
+    registers: u8,
+    at: usize,
+    depth: u8,
+) -> StmtRead
     requires { ⌜ at < length (now sheet) ⌝ }
-    ensures { λ r. ⌜ r ≡ formAnswer depth (scopeOf inputs registers (now (widths .entry))) (now (sheet .entry)) at anIf ⌝ }
+    ensures { λ r. ⌜ r ≡ formAnswer depth (scopeOf inputs registers (now (widths .entry)) declared (outlines (now (sheet .entry)) (now (definitions .entry)) declared)) (now (sheet .entry)) at anIf ⌝ }
 {
-    let e = located(sheet, widths, at + 1);
+    let e = located(sheet, widths, definitions, declared, declared, at + 1);
     let body = match e {
         ExprRead::Read { next, width: _ } => next,
         ExprRead::Refused { number, place } => {
             return StmtRead::Refused { number, place };
         }
     };
-    let a = read_stmt(sheet, widths, inputs, registers, body, depth);
+    let a = read_stmt(
+        sheet,
+        widths,
+        definitions,
+        declared,
+        inputs,
+        registers,
+        body,
+        depth,
+    );
     let StmtRead::Read { next, size } = a else {
         return a;
     };
@@ -197,22 +243,33 @@ fn read_if(sheet: &[u8], widths: &[u8], inputs: u8, registers: u8, at: usize, de
 fn read_if_else(
     sheet: &[u8],
     widths: &[u8],
+    definitions: &[usize; 8],
+    declared: u8,
     inputs: u8,
     registers: u8,
     at: usize,
     depth: u8,
 ) -> StmtRead
     requires { ⌜ at < length (now sheet) ⌝ }
-    ensures { λ r. ⌜ r ≡ formAnswer depth (scopeOf inputs registers (now (widths .entry))) (now (sheet .entry)) at anIfElse ⌝ }
+    ensures { λ r. ⌜ r ≡ formAnswer depth (scopeOf inputs registers (now (widths .entry)) declared (outlines (now (sheet .entry)) (now (definitions .entry)) declared)) (now (sheet .entry)) at anIfElse ⌝ }
 {
-    let e = located(sheet, widths, at + 1);
+    let e = located(sheet, widths, definitions, declared, declared, at + 1);
     let body = match e {
         ExprRead::Read { next, width: _ } => next,
         ExprRead::Refused { number, place } => {
             return StmtRead::Refused { number, place };
         }
     };
-    let a = read_stmt(sheet, widths, inputs, registers, body, depth);
+    let a = read_stmt(
+        sheet,
+        widths,
+        definitions,
+        declared,
+        inputs,
+        registers,
+        body,
+        depth,
+    );
     let StmtRead::Read {
         next: second,
         size: one,
@@ -220,7 +277,16 @@ fn read_if_else(
     else {
         return a;
     };
-    let b = read_stmt(sheet, widths, inputs, registers, second, depth);
+    let b = read_stmt(
+        sheet,
+        widths,
+        definitions,
+        declared,
+        inputs,
+        registers,
+        second,
+        depth,
+    );
     let StmtRead::Read { next, size: other } = b else {
         return b;
     };
@@ -234,22 +300,33 @@ fn read_if_else(
 fn read_while(
     sheet: &[u8],
     widths: &[u8],
+    definitions: &[usize; 8],
+    declared: u8,
     inputs: u8,
     registers: u8,
     at: usize,
     depth: u8,
 ) -> StmtRead
     requires { ⌜ at < length (now sheet) ⌝ }
-    ensures { λ r. ⌜ r ≡ formAnswer depth (scopeOf inputs registers (now (widths .entry))) (now (sheet .entry)) at aWhile ⌝ }
+    ensures { λ r. ⌜ r ≡ formAnswer depth (scopeOf inputs registers (now (widths .entry)) declared (outlines (now (sheet .entry)) (now (definitions .entry)) declared)) (now (sheet .entry)) at aWhile ⌝ }
 {
-    let e = located(sheet, widths, at + 1);
+    let e = located(sheet, widths, definitions, declared, declared, at + 1);
     let body = match e {
         ExprRead::Read { next, width: _ } => next,
         ExprRead::Refused { number, place } => {
             return StmtRead::Refused { number, place };
         }
     };
-    let a = read_stmt(sheet, widths, inputs, registers, body, depth);
+    let a = read_stmt(
+        sheet,
+        widths,
+        definitions,
+        declared,
+        inputs,
+        registers,
+        body,
+        depth,
+    );
     let StmtRead::Read { next, size } = a else {
         return a;
     };
@@ -263,15 +340,26 @@ fn read_while(
 fn read_forever(
     sheet: &[u8],
     widths: &[u8],
+    definitions: &[usize; 8],
+    declared: u8,
     inputs: u8,
     registers: u8,
     at: usize,
     depth: u8,
 ) -> StmtRead
     requires { ⌜ at < length (now sheet) ⌝ }
-    ensures { λ r. ⌜ r ≡ formAnswer depth (scopeOf inputs registers (now (widths .entry))) (now (sheet .entry)) at aForever ⌝ }
+    ensures { λ r. ⌜ r ≡ formAnswer depth (scopeOf inputs registers (now (widths .entry)) declared (outlines (now (sheet .entry)) (now (definitions .entry)) declared)) (now (sheet .entry)) at aForever ⌝ }
 {
-    let a = read_stmt(sheet, widths, inputs, registers, at + 1, depth);
+    let a = read_stmt(
+        sheet,
+        widths,
+        definitions,
+        declared,
+        inputs,
+        registers,
+        at + 1,
+        depth,
+    );
     let StmtRead::Read { next, size } = a else {
         return a;
     };
@@ -285,12 +373,14 @@ fn read_forever(
 pub(crate) fn read_stmt(
     sheet: &[u8],
     widths: &[u8],
+    definitions: &[usize; 8],
+    declared: u8,
     inputs: u8,
     registers: u8,
     at: usize,
     depth: u8,
 ) -> StmtRead
-    ensures { λ r. ⌜ r ≡ stmtAnswer (readStmt (located (now (sheet .entry))) (scopeOf inputs registers (now (widths .entry))) (now (sheet .entry)) depth at) ⌝ }
+    ensures { λ r. ⌜ r ≡ stmtAnswer (readStmt (located (now (sheet .entry))) (scopeOf inputs registers (now (widths .entry)) declared (outlines (now (sheet .entry)) (now (definitions .entry)) declared)) (now (sheet .entry)) depth at) ⌝ }
 {
     let end = sheet.len();
     if end <= at {
@@ -311,12 +401,57 @@ pub(crate) fn read_stmt(
             next: at + 1,
             size: 0,
         },
-        0x03 | 0x23 => read_assignment(sheet, widths, inputs, registers, at),
-        0x0C => read_sequence(sheet, widths, inputs, registers, at, depth - 1),
-        0x06 => read_if(sheet, widths, inputs, registers, at, depth - 1),
-        0x0E => read_if_else(sheet, widths, inputs, registers, at, depth - 1),
-        0x46 => read_while(sheet, widths, inputs, registers, at, depth - 1),
-        0x44 => read_forever(sheet, widths, inputs, registers, at, depth - 1),
+        0x03 | 0x23 => read_assignment(sheet, widths, definitions, declared, inputs, registers, at),
+        0x0C => read_sequence(
+            sheet,
+            widths,
+            definitions,
+            declared,
+            inputs,
+            registers,
+            at,
+            depth - 1,
+        ),
+        0x06 => read_if(
+            sheet,
+            widths,
+            definitions,
+            declared,
+            inputs,
+            registers,
+            at,
+            depth - 1,
+        ),
+        0x0E => read_if_else(
+            sheet,
+            widths,
+            definitions,
+            declared,
+            inputs,
+            registers,
+            at,
+            depth - 1,
+        ),
+        0x46 => read_while(
+            sheet,
+            widths,
+            definitions,
+            declared,
+            inputs,
+            registers,
+            at,
+            depth - 1,
+        ),
+        0x44 => read_forever(
+            sheet,
+            widths,
+            definitions,
+            declared,
+            inputs,
+            registers,
+            at,
+            depth - 1,
+        ),
         0x10 => read_wait(sheet, widths, inputs, registers, at),
         _ => StmtRead::Refused {
             number: 5,

@@ -8,12 +8,11 @@ use native.Mathlib.Omega.{arith}
 use lib.ListN.{length}
 use borrow.Author.Tests.{eqb-true}
 use Rattle.sheet.specs.Reading.{ok}
-use Rattle.sheet.specs.Expression.{Expr, variable, constant, unknown, unary, binary, conditional, call, Arguments, no-more, argument, Parsed, tree}
-use Rattle.sheet.specs.Statement.{Scope}
+use Rattle.sheet.specs.Expression.{Expr, variable, constant, unknown, unary, binary, conditional, call, Arguments, no-more, argument, Parsed, tree, Scope}
 use Rattle.sheet.proofs.Expression.{derive}
 use Rattle.evaluation.specs.Evaluation.{reads, readsAll}
 use Rattle.evaluation.specs.Widths.{Typed, AllTyped}
-use Rattle.evaluation.proofs.Evaluation.{read-typed, eval-fits}
+use Rattle.evaluation.proofs.Evaluation.{TypedFunctions, read-typed, eval-fits}
 use Rattle.soundness.specs.Soundness.{SoundExpr}
 
 -- ---- reads
@@ -50,11 +49,11 @@ mutual
 
 -- ---- tree
 
-pub tree-sound : (c : Scope) (s : List ℕ) (p : ℕ) {q : Parsed Expr} → tree s (c .widths) p ≡ ok q →
+pub tree-sound : (c : Scope) (s : List ℕ) (p : ℕ) {q : Parsed Expr} → TypedFunctions (c .functions) → tree s c p ≡ ok q →
     SoundExpr c (q .width) (q .item)
 unfolding tree
-tree-sound c s p h =
-    let t = read-typed (derive (c .widths) s 16 p h) in
+tree-sound c s p fs h =
+    let t = read-typed fs (derive c s 16 p h) in
     record {
       typed = t;
       reads-within = reads-below (c .widths) _ _ t;

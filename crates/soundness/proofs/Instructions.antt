@@ -10,9 +10,10 @@ use lib.ListN.{length, getD}
 use borrow.Author.Tests.{leb-true, ltb-true}
 use Rattle.sheet.specs.declared.EdgeTerm.{EdgeTerm}
 use Rattle.sheet.specs.Reading.{ok}
-use Rattle.sheet.specs.Expression.{Expr, Parsed, tree}
-use Rattle.sheet.specs.Statement.{size, Scope, isRegister, Body}
+use Rattle.sheet.specs.Expression.{Expr, Parsed, tree, Scope}
+use Rattle.sheet.specs.Statement.{size, isRegister, Body}
 use Rattle.sheet.proofs.Statements.{ReadsTerms, no-terms, a-term, ReadsStmt, an-empty, an-assign, a-later, a-sequence, an-if, an-if-else, a-while, a-forever, a-wait}
+use Rattle.evaluation.proofs.Evaluation.{TypedFunctions}
 use Rattle.pseudocode.specs.Translation.{Instr, go, ifnot, translate, threadCode}
 use Rattle.pseudocode.proofs.Translation.{translate-size, threadCode-size}
 use Rattle.soundness.specs.Soundness.{SoundExpr, SoundTarget, SoundInstr, sound-wait, sound-set, sound-later, sound-go, sound-ifnot, SoundCode}
@@ -24,12 +25,12 @@ use Rattle.soundness.proofs.Expression.{tree-sound}
 &&-both true b h = (refl, h)
 &&-both false b h = (h, cc)
 
-pub target-sound : (c : Scope) (s : List ℕ) (t p : ℕ) {q : Parsed Expr} → isRegister c t ≡ true →
-    tree s (c .widths) p ≡ ok q → q .width ≡ getD (c .widths) t 0 → SoundTarget c t (q .item)
+pub target-sound : (c : Scope) (s : List ℕ) (t p : ℕ) {q : Parsed Expr} → TypedFunctions (c .functions) → isRegister c t ≡ true →
+    tree s c p ≡ ok q → q .width ≡ getD (c .widths) t 0 → SoundTarget c t (q .item)
 unfolding isRegister
-target-sound c s t p r h e =
+target-sound c s t p fs r h e =
     let x = &&-both _ _ r in
-    record { not-input = leb-true _ _ (x .0); register = ltb-true _ _ (x .1); expression = rw (← e) (tree-sound c s p h) }
+    record { not-input = leb-true _ _ (x .0); register = ltb-true _ _ (x .1); expression = rw (← e) (tree-sound c s p fs h) }
 
 pub terms-within : {ws s : List ℕ} {n at : ℕ} {ts : List EdgeTerm} → ReadsTerms ws s n at ts →
     (k : ℕ) (other : EdgeTerm) → k < length ts → getD ts k other .variable < length ws
@@ -70,44 +71,44 @@ module _ {c : Scope} {n : ℕ} where
 -- ---- translate
 
 -- A statement's instructions are followed by one more at least, its thread's last `go`.
-pub translate-sound : {c : Scope} {s : List ℕ} {d p : ℕ} {b : Body Expr} (n at : ℕ) → at + size (b .stmt) < n →
+pub translate-sound : {c : Scope} {s : List ℕ} {d p : ℕ} {b : Body Expr} → TypedFunctions (c .functions) → (n at : ℕ) → at + size (b .stmt) < n →
     ReadsStmt (tree s) c s d p b → SoundFrom c n at (translate (b .stmt) at)
 unfolding translate size
-translate-sound n at l (an-empty h m) = no-more
-translate-sound {c} {s} {p = p} n at l (an-assign {t = t} h m x r e w) =
-    one-more {p = at} (sound-set (omega arith) (target-sound c s t (p + 2) r e w)) no-more
-translate-sound {c} {s} {p = p} n at l (a-later {t = t} h m x r e w) =
-    one-more {p = at} (sound-later (omega arith) (target-sound c s t (p + 2) r e w)) no-more
-translate-sound n at l (a-sequence {a = a} {b = b} h m x y) =
+translate-sound fs n at l (an-empty h m) = no-more
+translate-sound {c} {s} {p = p} fs n at l (an-assign {t = t} h m x r e w) =
+    one-more {p = at} (sound-set (omega arith) (target-sound c s t (p + 2) fs r e w)) no-more
+translate-sound {c} {s} {p = p} fs n at l (a-later {t = t} h m x r e w) =
+    one-more {p = at} (sound-later (omega arith) (target-sound c s t (p + 2) fs r e w)) no-more
+translate-sound fs n at l (a-sequence {a = a} {b = b} h m x y) =
     let e = translate-size (a .stmt) at in
-    from-append (translate-sound n at (omega arith) x)
-    (from-at (omega arith) (translate-sound n (at + size (a .stmt)) (omega arith) y))
-translate-sound {c} {s} {p = p} n at l (an-if {a = a} h m e x) =
-    from-ifnot at (at + 1 + size (a .stmt)) (omega arith) (omega arith) (tree-sound c s (p + 1) e)
-    (translate-sound n (at + 1) (omega arith) x)
-translate-sound {c} {s} {p = p} n at l (an-if-else {a = a} {b = b} h m e x y) =
+    from-append (translate-sound fs n at (omega arith) x)
+    (from-at (omega arith) (translate-sound fs n (at + size (a .stmt)) (omega arith) y))
+translate-sound {c} {s} {p = p} fs n at l (an-if {a = a} h m e x) =
+    from-ifnot at (at + 1 + size (a .stmt)) (omega arith) (omega arith) (tree-sound c s (p + 1) fs e)
+    (translate-sound fs n (at + 1) (omega arith) x)
+translate-sound {c} {s} {p = p} fs n at l (an-if-else {a = a} {b = b} h m e x y) =
     let f = translate-size (a .stmt) (at + 1) in
-    from-ifnot at (at + 2 + size (a .stmt)) (omega arith) (omega arith) (tree-sound c s (p + 1) e)
-    (from-append (translate-sound n (at + 1) (omega arith) x)
+    from-ifnot at (at + 2 + size (a .stmt)) (omega arith) (omega arith) (tree-sound c s (p + 1) fs e)
+    (from-append (translate-sound fs n (at + 1) (omega arith) x)
     (from-go _ (at + 2 + size (a .stmt) + size (b .stmt)) (omega arith)
-    (from-at (omega arith) (translate-sound n (at + 2 + size (a .stmt)) (omega arith) y))))
-translate-sound {c} {s} {p = p} n at l (a-while {a = a} h m e x) =
-    from-ifnot at (at + size (a .stmt) + 2) (omega arith) (omega arith) (tree-sound c s (p + 1) e)
-    (from-append (translate-sound n (at + 1) (omega arith) x) (from-go _ at (omega arith) no-more))
-translate-sound n at l (a-forever h m x) =
-    from-append (translate-sound n at (omega arith) x) (from-go _ at (omega arith) no-more)
-translate-sound n at l (a-wait m w ts f) = one-more {p = at} (sound-wait (omega arith) (terms-within ts)) no-more
+    (from-at (omega arith) (translate-sound fs n (at + 2 + size (a .stmt)) (omega arith) y))))
+translate-sound {c} {s} {p = p} fs n at l (a-while {a = a} h m e x) =
+    from-ifnot at (at + size (a .stmt) + 2) (omega arith) (omega arith) (tree-sound c s (p + 1) fs e)
+    (from-append (translate-sound fs n (at + 1) (omega arith) x) (from-go _ at (omega arith) no-more))
+translate-sound fs n at l (a-forever h m x) =
+    from-append (translate-sound fs n at (omega arith) x) (from-go _ at (omega arith) no-more)
+translate-sound fs n at l (a-wait m w ts f) = one-more {p = at} (sound-wait (omega arith) (terms-within ts)) no-more
 
 -- ---- threadCode
 
-thread-from : {c : Scope} {s : List ℕ} {d p : ℕ} {b : Body Expr} (n : ℕ) → n ≡ size (b .stmt) + 1 →
+thread-from : {c : Scope} {s : List ℕ} {d p : ℕ} {b : Body Expr} → TypedFunctions (c .functions) → (n : ℕ) → n ≡ size (b .stmt) + 1 →
     ReadsStmt (tree s) c s d p b → SoundFrom c n 0 (threadCode (b .stmt))
 unfolding threadCode translate
-thread-from n e r = from-append (translate-sound n 0 (omega arith) r) (from-go _ 0 (omega arith) no-more)
+thread-from fs n e r = from-append (translate-sound fs n 0 (omega arith) r) (from-go _ 0 (omega arith) no-more)
 
-pub thread-sound : {c : Scope} {s : List ℕ} {d p : ℕ} {b : Body Expr} → size (b .stmt) + 1 ≤ 256 →
+pub thread-sound : {c : Scope} {s : List ℕ} {d p : ℕ} {b : Body Expr} → TypedFunctions (c .functions) → size (b .stmt) + 1 ≤ 256 →
     ReadsStmt (tree s) c s d p b → SoundCode c (threadCode (b .stmt))
-thread-sound {b = b} l r =
+thread-sound {b = b} fs l r =
     let e = threadCode-size (b .stmt) in
-    let x = thread-from _ e r in
+    let x = thread-from fs _ e r in
     record { some = omega arith; most = omega arith; instruction = λ k h. rw zero-add at (from-getD x k h) }

@@ -8,8 +8,8 @@ use lib.ListN.{length, getD}
 use Rattle.values.specs.declared.Value.{Value}
 use Rattle.values.specs.Values.{fits}
 use Rattle.sheet.specs.declared.EdgeTerm.{EdgeTerm}
-use Rattle.sheet.specs.Expression.{Expr, unknown}
-use Rattle.sheet.specs.Statement.{Scope, empty}
+use Rattle.sheet.specs.Expression.{Expr, unknown, Scope}
+use Rattle.sheet.specs.Statement.{empty}
 use Rattle.sheet.specs.Module.{Module}
 use Rattle.evaluation.specs.Evaluation.{eval, reads}
 use Rattle.evaluation.specs.Widths.{Typed}

@@ -11,12 +11,13 @@ use lib.Dec.{ltb, leb, eqb}
 use borrow.Author.Tests.{ltb-true, ltb-false}
 use Rattle.sheet.specs.declared.EdgeTerm.{EdgeTerm}
 use Rattle.sheet.specs.Reading.{ok}
-use Rattle.sheet.specs.Expression.{Expr, unknown, located, exprAt}
-use Rattle.sheet.specs.Statement.{Stmt, empty, size, mapStmt, Scope}
-use Rattle.sheet.specs.Module.{Module, mapModule, Listed, Head, readHead, readWires, readThreads, Sheet, readSheet, read}
-use Rattle.sheet.specs.Answers.{startsOf}
+use Rattle.sheet.specs.Expression.{Expr, unknown, Scope, located, exprAt}
+use Rattle.sheet.specs.Statement.{Stmt, empty, size, mapStmt}
+use Rattle.sheet.specs.Module.{Module, mapModule, Listed, readWires, readThreads, Sheet, readSheet, read}
+use Rattle.sheet.specs.Answers.{startsOf, definitionsOf}
 use Rattle.sheet.proofs.Reading.{bind-ok, check-ok, ok-injective}
-use Rattle.sheet.proofs.Sections.{wires-count, threads-count, Headed, headed}
+use Rattle.sheet.proofs.Sections.{wires-count, threads-count, headed}
+use Rattle.sheet.proofs.Closed.{unfunctioned}
 use Rattle.sheet.proofs.Trees.{mapRes, size-map, trees, read-located}
 use Rattle.evaluation.specs.Evaluation.{reads}
 use Rattle.pseudocode.specs.Translation.{Instr, wait!, go, threadCode}
@@ -24,9 +25,11 @@ use Rattle.pseudocode.specs.Instruction.{noTerm, termsOf, instructionOf}
 use Rattle.pseudocode.specs.declared.Instruction.the-variants.{Wait}
 use Rattle.pseudocode.specs.Compiling.{Compiled, compileAt}
 use Rattle.pseudocode.specs.Fetching.{termAt, fetchAt}
+use Rattle.pseudocode.proofs.Sheets.{scopeWith, sections, head-widths}
+use Rattle.pseudocode.proofs.Skipping.{Counted}
 use Rattle.pseudocode.proofs.Translation.{threadCode-size}
 use Rattle.pseudocode.proofs.Fetching.{term-of}
-use Rattle.pseudocode.proofs.Compiling.{Compiles, compile-law}
+use Rattle.pseudocode.proofs.Compiling.{Compiles, sheet-counted, compile-law}
 use Rattle.tables.specs.Readers.{atMost, readersBelow, watchedBelow}
 use Rattle.tables.specs.Holding.{Fetched, Holding}
 use Rattle.tables.proofs.Readers.{atMost-same}
@@ -45,9 +48,11 @@ getD-any (x ∷ xs) (suc k) a b h = getD-any xs k a b (le-of-suc-le-suc h)
 
 -- What was read at place p is the tree there.
 abbrev pub Wired : Scope → List ℕ → ℕ → Type 0
-Wired c s p = ReadAt (c .widths) s (exprAt s (c .widths) p) p
+Wired c s p = ReadAt c s (exprAt s c p) p
 
 pub record Accepted (s : List ℕ) (r : Sheet ℕ) : Type 0 where
+  pub closed : r .contents .scope .declared ≡ 0
+  pub counted : Counted s (definitionsOf (r .definitions)) (r .contents .scope .functions)
   pub widths : length (r .contents .scope .widths) ≤ 80
   pub wires : length (r .contents .wires) ≤ 32
   pub threads : length (r .contents .threads) ≤ 8
@@ -60,10 +65,10 @@ module _ (c : Scope) (s : List ℕ) where
   unfolding readWires
   wires-placed zero v p h k = rw (← ok-injective h) (λ l. absurd (not-suc-le-zero l))
   wires-placed (suc n) v p h k =
-      let e = bind-ok (located s (c .widths) p) _ h in
+      let e = bind-ok (located s c p) _ h in
       let w = check-ok (eqb (e .0 .width) (getD (c .widths) v 0)) 8 p _ (e .2) in
       let es = bind-ok (readWires (located s) c s n (v + 1) (e .0 .next)) _ (w .1) in
-      let x = located-read s (c .widths) p (e .1) in
+      let x = located-read s c p (e .1) in
       rw (← ok-injective (es .2)) (by (e .0 .item) (es .0 .items) x (wires-placed n (v + 1) (e .0 .next) (es .1)) k)
     where
       by : (p : ℕ) (ps : List ℕ) → Wired c s p → ((j : ℕ) → j < length ps → Wired c s (getD ps j 0)) → (j : ℕ) → j < length (p ∷ ps)
@@ -71,37 +76,25 @@ module _ (c : Scope) (s : List ℕ) where
       by p ps x y zero l = x
       by p ps x y (suc j) l = y j (le-of-suc-le-suc l)
 
--- "inputs (1 to 16), registers (1 to 32), wires (0 to 32)": 80 variables at most.
-head-widths : (s : List ℕ) (h : Head) → Headed s h → length (h .scope .widths) ≤ 80
-head-widths s h x =
-    let n = h .scope .inputs + h .scope .registers + h .wires in
-    let i = x .inputs-most in
-    let r = x .registers-most in
-    let w = x .wires-most in
-    let e = ap (λ (g : Head). length (g .scope .widths)) (x .same) ∙ length-take n (drop 4 s) in
-    omega (arith, e)
-
 pub accepted : (s : List ℕ) (r : Sheet ℕ) → readSheet (located s) s ≡ ok r → Accepted s r
-unfolding readSheet
-accepted s r h =
-    let k = check-ok (leb (length s) 8192) 1 8192 _ h in
-    let hd = bind-ok (readHead s) _ (k .1) in
-    let c = hd .0 .scope in
-    let es = bind-ok (readWires (located s) c s (hd .0 .wires) (c .inputs + c .registers) (hd .0 .next)) _ (hd .2) in
-    let ts = bind-ok (readThreads (located s) c s (hd .0 .threads) (es .0 .next)) _ (es .2) in
-    let z = check-ok (eqb (ts .0 .next) (length s)) 10 (ts .0 .next) _ (ts .2) in
-    let x = headed s (hd .1) in
-    let few : c .inputs + c .registers ≤ 256 = omega (arith, x .inputs-most, x .registers-most) in
-    let w = wires-count (located s) c s (hd .0 .wires) (c .inputs + c .registers) (hd .0 .next) (es .1) in
-    let t = threads-count (located s) c s (hd .0 .threads) (es .0 .next) (ts .1) in
-    rw (← ok-injective (z .1))
-    (record {
-      widths = head-widths s (hd .0) x;
-      wires = omega (arith, w, x .wires-most);
-      threads = omega (arith, t, x .threads-most);
-      wire = wires-placed c s (hd .0 .wires) (c .inputs + c .registers) (hd .0 .next) (es .1);
-      thread = threads-placed c s few (hd .0 .threads) (es .0 .next) (ts .1);
-    })
+accepted s r e =
+    let x = sections (located s) s e in
+    let c = scopeWith (x .head) (x .functions) in
+    let h = headed s (x .head-read) in
+    let few : c .inputs + c .registers ≤ 256 = omega (arith, h .inputs-most, h .registers-most) in
+    let w = wires-count (located s) c s (x .head .wires) (c .inputs + c .registers) (x .functions .next) (x .wires-read) in
+    let t = threads-count (located s) c s (x .head .threads) (x .wires .next) (x .threads-read) in
+    let z = unfunctioned (located s) s e .0 in
+    let counted = sheet-counted (located s) s e in
+    record {
+      closed = z;
+      counted = counted;
+      widths = rw (x .made) (head-widths s (x .head) h);
+      wires = rw (x .made) (omega (arith, w, h .wires-most));
+      threads = rw (x .made) (omega (arith, t, h .threads-most));
+      wire = rw (x .made) (wires-placed c s (x .head .wires) (c .inputs + c .registers) (x .functions .next) (x .wires-read));
+      thread = rw (x .made) (threads-placed c s few (x .head .threads) (x .wires .next) (x .threads-read));
+    }
 
 -- ---- the places of the wires
 
@@ -114,11 +107,14 @@ starts-at ps k h l =
 -- ---- the tables of an accepted sheet
 
 module _ (s code : List ℕ) (r : Sheet ℕ) (x : Accepted s r) where
-  abbrev ws : List ℕ
-  ws = r .contents .scope .widths
+  abbrev sc : Scope
+  sc = r .contents .scope
+
+  abbrev ds : List ℕ
+  ds = definitionsOf (r .definitions)
 
   abbrev at : ℕ → Expr
-  at = exprAt s ws
+  at = exprAt s sc
 
   abbrev wires : List Expr
   wires = map at (r .contents .wires)
@@ -131,7 +127,7 @@ module _ (s code : List ℕ) (r : Sheet ℕ) (x : Accepted s r) where
 
   -- ---- wires
 
-  pub wire-read : (k : ℕ) → k < length wires → ReadAt ws s (getD wires k (unknown 1)) (getD starts k 0)
+  pub wire-read : (k : ℕ) → k < length wires → ReadAt sc s (getD wires k (unknown 1)) (getD starts k 0)
   wire-read k h =
       let n = length-map (r .contents .wires) at in
       let l : k < length (r .contents .wires) = omega arith in
@@ -139,11 +135,11 @@ module _ (s code : List ℕ) (r : Sheet ℕ) (x : Accepted s r) where
       let e = getD-any wires k (unknown 1) (at 0) h ∙ List·getD-map at (r .contents .wires) k 0 in
       (q .0, rw (starts-at (r .contents .wires) k (x .wires) l) (q .1), q .2 ∙ sym e)
 
-  pub marked : Below (λ k. reads (getD wires k (unknown 1))) (length wires) (readersBelow s starts (length wires) (replicate 80 0))
+  pub marked : Below (λ k. reads (getD wires k (unknown 1))) (length wires) (readersBelow s ds starts (length wires) (replicate 80 0))
   marked =
       let n = length-map (r .contents .wires) at in
       let m = x .wires in
-      below (λ k. getD wires k (unknown 1)) ws s starts (length wires) (x .widths) (omega arith) wire-read (length wires) (le-refl (length wires))
+      below (λ k. getD wires k (unknown 1)) sc s ds starts (length wires) (x .counted) (x .widths) (omega arith) wire-read (length wires) (le-refl (length wires))
 
   -- ---- threads
 
@@ -162,25 +158,25 @@ module _ (s code : List ℕ) (r : Sheet ℕ) (x : Accepted s r) where
       ∙ ap (λ (n : ℕ). n + 1) (size-map at a)
 
   abbrev table : Compiled
-  table = compileAt s (length (r .contents .threads)) (r .body) code
+  table = compileAt s ds (length (r .contents .threads)) (r .body) code
 
   module _ (z : Compiles s (r .contents .threads) table) where
     pub size-at : (i : ℕ) → i < length threads → getD (table .sizes) i 0 ≡ length (threadCode (getD threads i empty))
     size-at i h = z .size-of i (thread-below i h) ∙ sym (thread-size i)
 
     pub coded-at : (i p : ℕ) → i < length threads → p < length (threadCode (getD threads i empty))
-        → Coded ws s (getD (threadCode (getD threads i empty)) p (go 0)) (fetchAt s (table .code) i p)
+        → Coded sc s (getD (threadCode (getD threads i empty)) p (go 0)) (fetchAt s (table .code) i p)
     coded-at i p h l =
         let n = thread-size i in
         let b = thread-below i h in
         rw (z .fetched i p b (omega arith), thread-at i) (placed-coded (placed-at (x .thread i b .placed) p))
 
     fetched-at : (i p : ℕ) → i < length threads → p < length (threadCode (getD threads i empty))
-        → Fetched s ws (getD (threadCode (getD threads i empty)) p (go 0)) (fetchAt s (table .code) i p)
+        → Fetched s (sc .widths) (getD (threadCode (getD threads i empty)) p (go 0)) (fetchAt s (table .code) i p)
     fetched-at i p h l =
         let n = thread-size i in
         let b = thread-below i h in
-        rw (z .fetched i p b (omega arith), thread-at i) (placed-fetched (placed-at (x .thread i b .placed) p))
+        rw (z .fetched i p b (omega arith), thread-at i) (placed-fetched (x .closed) (placed-at (x .thread i b .placed) p))
 
     -- A place past the code has no wait.
     wait-below : (i p : ℕ) {ts : List EdgeTerm} → getD (threadCode (getD threads i empty)) p (go 0) ≡ wait! ts
@@ -215,12 +211,12 @@ module _ (s code : List ℕ) (r : Sheet ℕ) (x : Accepted s r) where
         ∙ watched-named (termsOf ts) k v few s (table .code) i p f (table .sizes) (length threads) (replicate 80 false) h q refl
 
     holds : Holding s (trees s r .contents) starts (table .sizes) (table .code)
-        (readersBelow s starts (length (trees s r .contents .wires)) (replicate 80 0))
+        (readersBelow s ds starts (length (trees s r .contents .wires)) (replicate 80 0))
         (watchedBelow s (table .code) (table .sizes) (length (trees s r .contents .threads)) (replicate 80 false))
     unfolding trees mapModule
     holds =
         record {
-          wire = λ k h. stands (wire-read k h);
+          wire = λ k h. stands (x .closed) (wire-read k h);
           size = size-at;
           fetched = fetched-at;
           read-by = marked .own;
@@ -236,15 +232,15 @@ unfolding mapRes
 module-same s r m h e = ok-injective (sym (read-located s ∙ ap (mapRes (λ r. trees s r .contents)) h) ∙ e)
 
 pub holding : (s code : List ℕ) (r : Sheet ℕ) (m : Module Expr) → readSheet (located s) s ≡ ok r → read s ≡ ok m → length code ≡ 4096
-    → let c = compileAt s (length (r .contents .threads)) (r .body) code in
+    → let c = compileAt s (definitionsOf (r .definitions)) (length (r .contents .threads)) (r .body) code in
     Holding s m (startsOf (r .contents .wires)) (c .sizes) (c .code)
-    (readersBelow s (startsOf (r .contents .wires)) (length (m .wires)) (replicate 80 0))
+    (readersBelow s (definitionsOf (r .definitions)) (startsOf (r .contents .wires)) (length (m .wires)) (replicate 80 0))
     (watchedBelow s (c .code) (c .sizes) (length (m .threads)) (replicate 80 false))
 holding s code r m h e long =
-    let c = compileAt s (length (r .contents .threads)) (r .body) code in
+    let c = compileAt s (definitionsOf (r .definitions)) (length (r .contents .threads)) (r .body) code in
     subst
     (λ (n : Module Expr). Holding s n (startsOf (r .contents .wires)) (c .sizes) (c .code)
-    (readersBelow s (startsOf (r .contents .wires)) (length (n .wires)) (replicate 80 0))
+    (readersBelow s (definitionsOf (r .definitions)) (startsOf (r .contents .wires)) (length (n .wires)) (replicate 80 0))
     (watchedBelow s (c .code) (c .sizes) (length (n .threads)) (replicate 80 false)))
     (module-same s r m h e)
     (holds s code r (accepted s r h) (compile-law s code r h long))
@@ -253,18 +249,18 @@ holding s code r m h e long =
 abbrev AllCoded : List ℕ → List ℕ → Module Expr → Type 0
 AllCoded s code m =
     (i p : ℕ) → i < length (m .threads) → p < length (threadCode (getD (m .threads) i empty))
-    → Coded (m .scope .widths) s (getD (threadCode (getD (m .threads) i empty)) p (go 0)) (fetchAt s code i p)
+    → Coded (m .scope) s (getD (threadCode (getD (m .threads) i empty)) p (go 0)) (fetchAt s code i p)
 
 coded-trees : (s code : List ℕ) (r : Sheet ℕ) → Accepted s r
-    → Compiles s (r .contents .threads) (compileAt s (length (r .contents .threads)) (r .body) code)
-    → AllCoded s (compileAt s (length (r .contents .threads)) (r .body) code .code) (trees s r .contents)
+    → Compiles s (r .contents .threads) (compileAt s (definitionsOf (r .definitions)) (length (r .contents .threads)) (r .body) code)
+    → AllCoded s (compileAt s (definitionsOf (r .definitions)) (length (r .contents .threads)) (r .body) code .code) (trees s r .contents)
 unfolding trees mapModule
 coded-trees s code r x z = coded-at s code r x z
 
 pub coded : (s code : List ℕ) (r : Sheet ℕ) (m : Module Expr) → readSheet (located s) s ≡ ok r → read s ≡ ok m → length code ≡ 4096
-    → AllCoded s (compileAt s (length (r .contents .threads)) (r .body) code .code) m
+    → AllCoded s (compileAt s (definitionsOf (r .definitions)) (length (r .contents .threads)) (r .body) code .code) m
 coded s code r m h e long =
-    subst (AllCoded s (compileAt s (length (r .contents .threads)) (r .body) code .code)) (module-same s r m h e)
+    subst (AllCoded s (compileAt s (definitionsOf (r .definitions)) (length (r .contents .threads)) (r .body) code .code)) (module-same s r m h e)
     (coded-trees s code r (accepted s r h) (compile-law s code r h long))
 
 -- ---- the counts that the code is handed are the module's
@@ -274,20 +270,20 @@ module _ (s : List ℕ) (r : Sheet ℕ) (m : Module Expr) (h : readSheet (locate
   unfolding trees mapModule
   wire-count =
       atMost-same 32 (length (r .contents .wires)) (accepted s r h .wires)
-      ∙ sym (length-map (r .contents .wires) (exprAt s (r .contents .scope .widths)))
+      ∙ sym (length-map (r .contents .wires) (exprAt s (r .contents .scope)))
       ∙ ap (λ (n : Module Expr). length (n .wires)) (module-same s r m h e)
 
   pub thread-count : atMost 8 (length (r .contents .threads)) ≡ length (m .threads)
   unfolding trees mapModule
   thread-count =
       atMost-same 8 (length (r .contents .threads)) (accepted s r h .threads)
-      ∙ sym (length-map (r .contents .threads) (mapStmt (exprAt s (r .contents .scope .widths))))
+      ∙ sym (length-map (r .contents .threads) (mapStmt (exprAt s (r .contents .scope))))
       ∙ ap (λ (n : Module Expr). length (n .threads)) (module-same s r m h e)
 
   -- What `fill_readers` and `fill_watched` leave of blank tables.
   pub holding-filled : (code : List ℕ) → length code ≡ 4096
-      → let c = compileAt s (length (r .contents .threads)) (r .body) code in
+      → let c = compileAt s (definitionsOf (r .definitions)) (length (r .contents .threads)) (r .body) code in
       Holding s m (startsOf (r .contents .wires)) (c .sizes) (c .code)
-      (readersBelow s (startsOf (r .contents .wires)) (atMost 32 (length (r .contents .wires))) (replicate 80 0))
+      (readersBelow s (definitionsOf (r .definitions)) (startsOf (r .contents .wires)) (atMost 32 (length (r .contents .wires))) (replicate 80 0))
       (watchedBelow s (c .code) (c .sizes) (atMost 8 (length (r .contents .threads))) (replicate 80 false))
   holding-filled code long = rw (wire-count, thread-count) (holding s code r m h e long)

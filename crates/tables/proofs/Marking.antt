@@ -11,12 +11,14 @@ use lib.Dec.{eqb}
 use lib.ListN.{length, getD, set, length-set, replicate}
 use lib.Seq.{getD-set-same, getD-set-other}
 use Rattle.values.specs.Values.{pick}
-use Rattle.sheet.specs.Expression.{Expr, Parsed}
-use Rattle.sheet.proofs.Expression.{Reads, a-variable, a-constant, an-unknown, a-unary, a-binary, a-conditional}
-use Rattle.evaluation.specs.Evaluation.{reads}
+use Rattle.sheet.specs.Expression.{Expr, noFunction, Scope, Parsed, Passed}
+use Rattle.sheet.proofs.Expression.{Reads, a-variable, a-constant, an-unknown, a-unary, a-binary, a-conditional, a-call, ReadsAll, no-arguments, an-argument}
+use Rattle.evaluation.specs.Evaluation.{reads, readsAll}
+use Rattle.pseudocode.specs.Skipping.{argumentCount}
+use Rattle.pseudocode.proofs.Skipping.{Counted}
 use Rattle.masks.specs.Masks.{bits, mask}
 use Rattle.masks.proofs.Masks.{length-bits, bits-mask, any-none, any-bits}
-use Rattle.tables.specs.Readers.{Marking, markVariable, markBinary, markConditional, markNode, markAt, readersBelow}
+use Rattle.tables.specs.Readers.{Marking, markVariable, markBinary, markConditional, markArguments, markNode, markAt, readersBelow}
 use Rattle.tables.proofs.Readers.{markVariable-in}
 
 -- ---- bit: is wire j marked at variable v?
@@ -86,30 +88,51 @@ pub record Walked (k : ℕ) (rs : List ℕ) (x : Marking) (q : Parsed Expr) : Ty
   pub next : x .next ≡ q .next
   pub marks : Marks k rs (x .readers) (reads (q .item))
 
-module _ (ws s : List ℕ) (few : length ws ≤ 80) (k : ℕ) (hk : k < 32) where
-  pub walk : {d p : ℕ} {q : Parsed Expr} → Reads ws s d p q → (rs : List ℕ) → length rs ≡ 80 → Walked k rs (markAt d s k p rs) q
+pub record WalkedAll (k : ℕ) (rs : List ℕ) (x : Marking) (es : Passed) : Type 0 where
+  pub next : x .next ≡ es .next
+  pub marks : Marks k rs (x .readers) (readsAll (es .items))
+
+module _ (c : Scope) (s ds : List ℕ) (counted : Counted s ds (c .functions)) (few : length (c .widths) ≤ 80) (k : ℕ) (hk : k < 32) where
+  -- A call's arguments, where the walk over each of them marks what it reads.
+  walk-all : {d : ℕ} → ((p : ℕ) (q : Parsed Expr) → Reads c s d p q → (rs : List ℕ) → length rs ≡ 80 → Walked k rs (markAt d s ds k p rs) q)
+      → {n p : ℕ} {es : Passed} → ReadsAll c s d n p es → (rs : List ℕ) → length rs ≡ 80 → WalkedAll k rs (markArguments (markAt d s ds k) n p rs) es
+  unfolding markArguments readsAll
+  walk-all inner no-arguments rs long = record { next = refl; marks = marks-none k rs long }
+  walk-all {d} inner (an-argument {p = p} {e = e} a es) rs long =
+      let x = inner p e a rs long in
+      let y = walk-all inner es (markAt d s ds k p rs .readers) (x .marks .long) in
+      rw (x .next) (record { next = y .next; marks = marks-then (x .marks) (y .marks) })
+
+  -- By the depth.
+  walks : (d : ℕ) {p : ℕ} {q : Parsed Expr} → Reads c s d p q → (rs : List ℕ) → length rs ≡ 80 → Walked k rs (markAt d s ds k p rs) q
   unfolding markAt markNode markBinary markConditional reads
-  walk (a-variable {v = v} m h e l) rs long =
+  walks (suc d) (a-variable {v = v} m h e l) rs long =
       rw (m, e) (record { next = refl; marks = marks-variable k v rs hk (omega arith) long })
-  walk (a-constant m w h e l) rs long = rw m (record { next = refl; marks = marks-none k rs long })
-  walk (an-unknown m w) rs long = rw m (record { next = refl; marks = marks-none k rs long })
-  walk (a-unary m o a) rs long = let x = walk a rs long in rw m (record { next = x .next; marks = x .marks })
-  walk {p = p} (a-binary {d = d} m o a b e) rs long =
-      let x = walk a rs long in
-      let y = walk b (markAt d s k (p + 2) rs .readers) (x .marks .long) in
+  walks (suc d) (a-constant m w h e l) rs long = rw m (record { next = refl; marks = marks-none k rs long })
+  walks (suc d) (an-unknown m w) rs long = rw m (record { next = refl; marks = marks-none k rs long })
+  walks (suc d) (a-unary m o a) rs long = let x = walks d a rs long in rw m (record { next = x .next; marks = x .marks })
+  walks (suc d) {p} (a-binary m o a b e) rs long =
+      let x = walks d a rs long in
+      let y = walks d b (markAt d s ds k (p + 2) rs .readers) (x .marks .long) in
       rw (m, x .next) (record { next = y .next; marks = marks-then (x .marks) (y .marks) })
-  walk {p = p} (a-conditional {d = d} {c = q} m o c a b e) rs long =
-      let ss = markAt d s k (p + 2) rs .readers in
-      let x = walk c rs long in
-      let y = walk a ss (x .marks .long) in
-      let z = walk b (markAt d s k (q .next) ss .readers) (y .marks .long) in
+  walks (suc d) {p} (a-conditional {q = q} m o t a b e) rs long =
+      let ss = markAt d s ds k (p + 2) rs .readers in
+      let x = walks d t rs long in
+      let y = walks d a ss (x .marks .long) in
+      let z = walks d b (markAt d s ds k (q .next) ss .readers) (y .marks .long) in
       rw (m, x .next, y .next) (record { next = z .next; marks = marks-then (marks-then (x .marks) (y .marks)) (z .marks) })
+  walks (suc d) {p} (a-call {n = n} m h e l f es w) rs long =
+      let x = walk-all (λ i q r. walks d r) es rs long in
+      rw (m, e, counted n f) (record { next = x .next; marks = x .marks })
+
+  pub walk : {d p : ℕ} {q : Parsed Expr} → Reads c s d p q → (rs : List ℕ) → length rs ≡ 80 → Walked k rs (markAt d s ds k p rs) q
+  walk {d = d} r = walks d r
 
 -- ---- the wires below n
 
 -- An expression that was read at p, with its tree.
-abbrev pub ReadAt : List ℕ → List ℕ → Expr → ℕ → Type 0
-ReadAt ws s e p = (q : Parsed Expr) × Reads ws s 16 p q × (q .item ≡ e)
+abbrev pub ReadAt : Scope → List ℕ → Expr → ℕ → Type 0
+ReadAt c s e p = (q : Parsed Expr) × Reads c s 16 p q × (q .item ≡ e)
 
 -- A table of zeros has no mark.
 pub zeros : (n v : ℕ) → _≡_ {A = ℕ} (getD (replicate n 0) v 0) 0
@@ -151,13 +174,13 @@ module _ (f : ℕ → ℕ → Bool) where
       by v j l m false e = let q = eqb-false j n e in x .others v j q ∙ b .own v j l (omega arith)
 
 -- The readers of the wires below n.
-pub below : (wire : ℕ → Expr) (ws s starts : List ℕ) (count : ℕ) → length ws ≤ 80 → count ≤ 32
-    → ((j : ℕ) → j < count → ReadAt ws s (wire j) (getD starts j 0)) → (n : ℕ) → n ≤ count
-    → Below (λ j. reads (wire j)) n (readersBelow s starts n (replicate 80 0))
+pub below : (wire : ℕ → Expr) (c : Scope) (s ds starts : List ℕ) (count : ℕ) → Counted s ds (c .functions) → length (c .widths) ≤ 80 → count ≤ 32
+    → ((j : ℕ) → j < count → ReadAt c s (wire j) (getD starts j 0)) → (n : ℕ) → n ≤ count
+    → Below (λ j. reads (wire j)) n (readersBelow s ds starts n (replicate 80 0))
 unfolding readersBelow
-below wire ws s starts count few most at zero h = below-none (λ j. reads (wire j))
-below wire ws s starts count few most at (suc n) h =
-    let b = below wire ws s starts count few most at n (omega arith) in
+below wire c s ds starts count counted few most at zero h = below-none (λ j. reads (wire j))
+below wire c s ds starts count counted few most at (suc n) h =
+    let b = below wire c s ds starts count counted few most at n (omega arith) in
     let q = at n h in
-    let x = walk ws s few n (omega arith) (q .1) (readersBelow s starts n (replicate 80 0)) (b .long) in
+    let x = walk c s ds counted few n (omega arith) (q .1) (readersBelow s ds starts n (replicate 80 0)) (b .long) in
     below-more (λ j. reads (wire j)) n b (rw (q .2) at (x .marks))

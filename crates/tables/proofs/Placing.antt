@@ -11,8 +11,8 @@ use lib.Dec.{ltb, leb}
 use borrow.Author.Tests.{ltb-true, leb-true}
 use Rattle.sheet.specs.declared.EdgeTerm.{EdgeTerm}
 use Rattle.sheet.specs.Reading.{ok}
-use Rattle.sheet.specs.Expression.{Expr, Parsed, tree, located, exprAt}
-use Rattle.sheet.specs.Statement.{Stmt, empty, size, mapStmt, Scope, isRegister, Body, readStmt}
+use Rattle.sheet.specs.Expression.{Expr, Scope, Parsed, tree, located, exprAt}
+use Rattle.sheet.specs.Statement.{Stmt, empty, size, mapStmt, isRegister, Body, readStmt}
 use Rattle.sheet.specs.Module.{Listed, readThreads}
 use Rattle.sheet.proofs.Reading.{bind-ok, check-ok, ok-injective}
 use Rattle.sheet.proofs.Expression.{derive}
@@ -32,15 +32,15 @@ use Rattle.tables.proofs.Marking.{ReadAt}
 
 -- ---- an expression that was read
 
-pub stands : {ws s : List ℕ} {e : Expr} {p : ℕ} → ReadAt ws s e p → Stands s ws e p
-stands r f = ap (λ (x : Evaluated). x .value) (evalAt-eval f (r .1)) ∙ ap (eval f) (r .2)
+pub stands : {c : Scope} {s : List ℕ} {e : Expr} {p : ℕ} → c .declared ≡ 0 → ReadAt c s e p → Stands s (c .widths) e p
+stands z r f = ap (λ (x : Evaluated). x .value) (evalAt-eval f z (r .1)) ∙ ap (eval f) (r .2)
 
 -- By its place.
-pub located-read : (s ws : List ℕ) (p : ℕ) {e : Parsed ℕ} → located s ws p ≡ ok e → ReadAt ws s (exprAt s ws (e .item)) (e .item)
+pub located-read : (s : List ℕ) (c : Scope) (p : ℕ) {e : Parsed ℕ} → located s c p ≡ ok e → ReadAt c s (exprAt s c (e .item)) (e .item)
 unfolding located tree
-located-read s ws p h =
-    let t = bind-ok (tree s ws p) _ h in
-    rw (← ok-injective (t .2)) (t .0, derive ws s 16 p (t .1), sym (expr-at s ws p (t .1)))
+located-read s c p h =
+    let t = bind-ok (tree s c p) _ h in
+    rw (← ok-injective (t .2)) (t .0, derive c s 16 p (t .1), sym (expr-at s c p (t .1)))
 
 -- ---- an instruction by places and the same by trees
 
@@ -48,28 +48,28 @@ located-read s ws p h =
 abbrev pub Names : List ℕ → List EdgeTerm → Type 0
 Names ws ts = (k : ℕ) (other : EdgeTerm) → k < length ts → getD ts k other .variable < length ws
 
-pub data Placed (ws s : List ℕ) : Instr ℕ → Instr Expr → Type 0 where
-  waits : {ts : List EdgeTerm} → length ts ≤ 8 → Names ws ts → Placed ws s (wait! ts) (wait! ts)
-  assigns : {t p : ℕ} {e : Expr} → t < 256 → ReadAt ws s e p → Placed ws s (set! t p) (set! t e)
-  laters : {t p : ℕ} {e : Expr} → t < 256 → ReadAt ws s e p → Placed ws s (later! t p) (later! t e)
-  goes : {g : ℕ} → g < 256 → Placed ws s (go g) (go g)
-  ifnots : {g p : ℕ} {e : Expr} → g < 256 → ReadAt ws s e p → Placed ws s (ifnot p g) (ifnot e g)
+pub data Placed (c : Scope) (s : List ℕ) : Instr ℕ → Instr Expr → Type 0 where
+  waits : {ts : List EdgeTerm} → length ts ≤ 8 → Names (c .widths) ts → Placed c s (wait! ts) (wait! ts)
+  assigns : {t p : ℕ} {e : Expr} → t < 256 → ReadAt c s e p → Placed c s (set! t p) (set! t e)
+  laters : {t p : ℕ} {e : Expr} → t < 256 → ReadAt c s e p → Placed c s (later! t p) (later! t e)
+  goes : {g : ℕ} → g < 256 → Placed c s (go g) (go g)
+  ifnots : {g p : ℕ} {e : Expr} → g < 256 → ReadAt c s e p → Placed c s (ifnot p g) (ifnot e g)
 
-pub data PlacedAll (ws s : List ℕ) : List (Instr ℕ) → List (Instr Expr) → Type 0 where
-  none : PlacedAll ws s [] []
+pub data PlacedAll (c : Scope) (s : List ℕ) : List (Instr ℕ) → List (Instr Expr) → Type 0 where
+  none : PlacedAll c s [] []
   more : {i : Instr ℕ} {j : Instr Expr} {is : List (Instr ℕ)} {js : List (Instr Expr)}
-      → Placed ws s i j → PlacedAll ws s is js → PlacedAll ws s (i ∷ is) (j ∷ js)
+      → Placed c s i j → PlacedAll c s is js → PlacedAll c s (i ∷ is) (j ∷ js)
 
 -- An instruction of the translation, and the one that was fetched for it: its expression was read where the code says.
-pub data Coded (ws s : List ℕ) : Instr Expr → Instruction → Type 0 where
-  codes-wait : {ts : List EdgeTerm} → length ts ≤ 8 → Names ws ts → Coded ws s (wait! ts) (Wait (termsOf ts))
-  codes-set : {t p : ℕ} {e : Expr} → t < 256 → ReadAt ws s e p → Coded ws s (set! t e) (Act (Set t p))
-  codes-later : {t p : ℕ} {e : Expr} → t < 256 → ReadAt ws s e p → Coded ws s (later! t e) (Act (Later t p))
-  codes-go : {g : ℕ} → g < 256 → Coded ws s (go g) (Act (Go g))
-  codes-ifnot : {g p : ℕ} {e : Expr} → g < 256 → ReadAt ws s e p → Coded ws s (ifnot e g) (Act (IfNot g p))
+pub data Coded (c : Scope) (s : List ℕ) : Instr Expr → Instruction → Type 0 where
+  codes-wait : {ts : List EdgeTerm} → length ts ≤ 8 → Names (c .widths) ts → Coded c s (wait! ts) (Wait (termsOf ts))
+  codes-set : {t p : ℕ} {e : Expr} → t < 256 → ReadAt c s e p → Coded c s (set! t e) (Act (Set t p))
+  codes-later : {t p : ℕ} {e : Expr} → t < 256 → ReadAt c s e p → Coded c s (later! t e) (Act (Later t p))
+  codes-go : {g : ℕ} → g < 256 → Coded c s (go g) (Act (Go g))
+  codes-ifnot : {g p : ℕ} {e : Expr} → g < 256 → ReadAt c s e p → Coded c s (ifnot e g) (Act (IfNot g p))
 
-module _ {ws s : List ℕ} where
-  pub placed-coded : {i : Instr ℕ} {j : Instr Expr} → Placed ws s i j → Coded ws s j (instructionOf i)
+module _ {c : Scope} {s : List ℕ} where
+  pub placed-coded : {i : Instr ℕ} {j : Instr Expr} → Placed c s i j → Coded c s j (instructionOf i)
   unfolding instructionOf
   placed-coded (waits h n) = codes-wait h n
   placed-coded (assigns h x) = codes-set h x
@@ -77,37 +77,37 @@ module _ {ws s : List ℕ} where
   placed-coded (goes h) = codes-go h
   placed-coded (ifnots h x) = codes-ifnot h x
 
-  pub placed-fetched : {i : Instr ℕ} {j : Instr Expr} → Placed ws s i j → Fetched s ws j (instructionOf i)
+  pub placed-fetched : {i : Instr ℕ} {j : Instr Expr} → c .declared ≡ 0 → Placed c s i j → Fetched s (c .widths) j (instructionOf i)
   unfolding instructionOf
-  placed-fetched (waits h n) = a-wait h
-  placed-fetched (assigns h x) = a-set (stands x)
-  placed-fetched (laters h x) = a-later (stands x)
-  placed-fetched (goes h) = a-go
-  placed-fetched (ifnots h x) = an-ifnot (stands x)
+  placed-fetched z (waits h n) = a-wait h
+  placed-fetched z (assigns h x) = a-set (stands z x)
+  placed-fetched z (laters h x) = a-later (stands z x)
+  placed-fetched z (goes h) = a-go
+  placed-fetched z (ifnots h x) = an-ifnot (stands z x)
 
   -- What is a wait by trees is that wait by places.
-  pub placed-wait : {i : Instr ℕ} {j : Instr Expr} {ts : List EdgeTerm} → Placed ws s i j → j ≡ wait! ts
-      → (i ≡ wait! ts) × (length ts ≤ 8) × Names ws ts
+  pub placed-wait : {i : Instr ℕ} {j : Instr Expr} {ts : List EdgeTerm} → Placed c s i j → j ≡ wait! ts
+      → (i ≡ wait! ts) × (length ts ≤ 8) × Names (c .widths) ts
   placed-wait {ts = ts} (waits {ts = us} h n) e = let q : us ≡ ts = cc in rw (← q) (refl, h, n)
   placed-wait (assigns h x) e = let z : _≡_ {A = ℕ} 0 1 = cc in absurd (omega arith)
   placed-wait (laters h x) e = let z : _≡_ {A = ℕ} 0 1 = cc in absurd (omega arith)
   placed-wait (goes h) e = let z : _≡_ {A = ℕ} 0 1 = cc in absurd (omega arith)
   placed-wait (ifnots h x) e = let z : _≡_ {A = ℕ} 0 1 = cc in absurd (omega arith)
 
-  pub placed-at : {is : List (Instr ℕ)} {js : List (Instr Expr)} → PlacedAll ws s is js → (p : ℕ) → Placed ws s (getD is p (go 0)) (getD js p (go 0))
+  pub placed-at : {is : List (Instr ℕ)} {js : List (Instr Expr)} → PlacedAll c s is js → (p : ℕ) → Placed c s (getD is p (go 0)) (getD js p (go 0))
   placed-at none p = goes {g = 0} (omega arith)
   placed-at (more x xs) zero = x
   placed-at (more x xs) (suc p) = placed-at xs p
 
-  placed-append : {is ks : List (Instr ℕ)} {js ls : List (Instr Expr)} → PlacedAll ws s is js → PlacedAll ws s ks ls
-      → PlacedAll ws s (is ++ ks) (js ++ ls)
+  placed-append : {is ks : List (Instr ℕ)} {js ls : List (Instr Expr)} → PlacedAll c s is js → PlacedAll c s ks ls
+      → PlacedAll c s (is ++ ks) (js ++ ls)
   placed-append none q = q
   placed-append (more p ps) q = more p (placed-append ps q)
 
-  terms-named : {n at : ℕ} {ts : List EdgeTerm} → ReadsTerms ws s n at ts → Names ws ts
-  terms-named no-terms k other h = absurd (not-suc-le-zero h)
-  terms-named (a-term e h x l ts) zero other m = l
-  terms-named (a-term e h x l ts) (suc k) other m = terms-named ts k other (le-of-suc-le-suc m)
+terms-named : {ws s : List ℕ} {n at : ℕ} {ts : List EdgeTerm} → ReadsTerms ws s n at ts → Names ws ts
+terms-named no-terms k other h = absurd (not-suc-le-zero h)
+terms-named (a-term e h x l ts) zero other m = l
+terms-named (a-term e h x l ts) (suc k) other m = terms-named ts k other (le-of-suc-le-suc m)
 
 -- A register's number is below that of the first wire.
 register-below : (c : Scope) (t : ℕ) → isRegister c t ≡ true → t < c .inputs + c .registers
@@ -123,17 +123,17 @@ register-below c t h = by (leb (c .inputs) t) (ltb t (c .inputs + c .registers))
 
 module _ (c : Scope) (s : List ℕ) where
   abbrev pub treeAt : ℕ → Expr
-  treeAt = exprAt s (c .widths)
+  treeAt = exprAt s c
 
-  read-there : (p : ℕ) {e : Parsed ℕ} → located s (c .widths) p ≡ ok e → ReadAt (c .widths) s (treeAt (e .item)) (e .item)
-  read-there = located-read s (c .widths)
+  read-there : (p : ℕ) {e : Parsed ℕ} → located s c p ≡ ok e → ReadAt c s (treeAt (e .item)) (e .item)
+  read-there = located-read s c
 
   module _ (few : c .inputs + c .registers ≤ 256) where
     target : (t : ℕ) → isRegister c t ≡ true → t < 256
     target t r = let l = register-below c t r in omega arith
 
     stmt-placed : {d p : ℕ} {b : Body ℕ} → ReadsStmt (located s) c s d p b → (n : ℕ) → n + size (b .stmt) ≤ 255
-        → PlacedAll (c .widths) s (translate (b .stmt) n) (translate (mapStmt treeAt (b .stmt)) n)
+        → PlacedAll c s (translate (b .stmt) n) (translate (mapStmt treeAt (b .stmt)) n)
     unfolding translate mapStmt size
     stmt-placed (an-empty l m) n h = none
     stmt-placed (an-assign l m t r e w) n h = more (assigns (target _ r) (read-there _ e)) none
@@ -160,11 +160,11 @@ module _ (c : Scope) (s : List ℕ) where
 
   -- A thread's code by places and by trees, and its size.
   pub record Threaded (a : Stmt ℕ) : Type 0 where
-    pub placed : PlacedAll (c .widths) s (threadCode a) (threadCode (mapStmt treeAt a))
+    pub placed : PlacedAll c s (threadCode a) (threadCode (mapStmt treeAt a))
     pub most : size a + 1 ≤ 256
 
   thread-placed : c .inputs + c .registers ≤ 256 → {d p : ℕ} {b : Body ℕ} → ReadsStmt (located s) c s d p b → size (b .stmt) + 1 ≤ 256
-      → PlacedAll (c .widths) s (threadCode (b .stmt)) (threadCode (mapStmt treeAt (b .stmt)))
+      → PlacedAll c s (threadCode (b .stmt)) (threadCode (mapStmt treeAt (b .stmt)))
   unfolding threadCode translate
   thread-placed few x h = placed-append (stmt-placed few x 0 (omega arith)) (more (goes {g = 0} (omega arith)) none)
 

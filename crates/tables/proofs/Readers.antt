@@ -10,12 +10,14 @@ use lib.Dec.{ltb}
 use lib.ListN.{length, getD, set, List·getD-eq-default}
 use Rattle.values.specs.Values.{pick}
 use Rattle.sheet.specs.declared.EdgeTerm.{EdgeTerm}
+use Rattle.pseudocode.specs.Skipping.{argumentCount}
 use Rattle.pseudocode.specs.declared.EdgeTerms.{EdgeTerms}
 use Rattle.pseudocode.specs.declared.Instruction.{Instruction}
 use Rattle.pseudocode.specs.Fetching.{termAt, fetchAt}
+use Rattle.pseudocode.proofs.Skipping.{arguments-most}
 use Rattle.masks.specs.Masks.{bits, mask}
 use Rattle.masks.proofs.Masks.{mask-bits}
-use Rattle.tables.specs.Readers.{atMost, Marking, marking, markVariable, markBinary, markConditional, markNode, markAt, readersBelow}
+use Rattle.tables.specs.Readers.{atMost, Marking, marking, markVariable, markBinary, markConditional, markArguments, markNode, markAt, readersBelow}
 use Rattle.tables.specs.Readers.{watchVariable, watchTerms, watchInstr, watchThread, watchedBelow}
 
 -- ---- atMost
@@ -72,67 +74,89 @@ module _ (operand : ℕ → List ℕ → Marking) (p : ℕ) (rs : List ℕ) wher
   unfolding markConditional markBinary
   conditional-path e f g = let h = binary-path e f in g ∙ λ i. operand (h i .next) (h i .readers)
 
+-- ---- markArguments: at most four, none, and one by one
+
+pub count-most : (s ds : List ℕ) (n : ℕ) {r : ℕ} → r ≡ argumentCount s ds n → r ≤ 4
+count-most s ds n e = let m = arguments-most s ds n in omega arith
+
+module _ (operand : ℕ → List ℕ → Marking) where
+  pub arguments-none : (n p : ℕ) (rs : List ℕ) → n ≡ 0 → markArguments operand n p rs ≡ marking p rs
+  unfolding markArguments
+  arguments-none n p rs e = rw e refl
+
+  pub arguments-next : (n p : ℕ) (rs : List ℕ) {a : ℕ} {ss : List ℕ} {x : Marking} → (n ≡ 0 → ⊥) → marking a ss ≡ operand p rs
+      → x ≡ markArguments operand (n - 1) a ss → x ≡ markArguments operand n p rs
+  unfolding markArguments
+  arguments-next zero p rs h e f = absurd (h refl)
+  arguments-next (suc n) p rs h e f = (rw sub-one at f) ∙ λ i. markArguments operand n (e i .next) (e i .readers)
+
 -- ---- markNode: a map past those of a node
 
-pub markNode-none : (operand : ℕ → List ℕ → Marking) (s : List ℕ) (k m p : ℕ) (rs : List ℕ) → (m ≡ 0x02 → ⊥) → (m ≡ 0x0C → ⊥) → (m ≡ 0x04 → ⊥)
-    → (m ≡ 0x11 → ⊥) → (m ≡ 0x31 → ⊥) → (m ≡ 0x71 → ⊥) → markNode operand s k m p rs ≡ marking p rs
+pub markNode-none : (operand : ℕ → List ℕ → Marking) (s ds : List ℕ) (k m p : ℕ) (rs : List ℕ) → (m ≡ 0x02 → ⊥) → (m ≡ 0x0C → ⊥) → (m ≡ 0x04 → ⊥)
+    → (m ≡ 0x11 → ⊥) → (m ≡ 0x31 → ⊥) → (m ≡ 0x71 → ⊥) → (m ≡ 0x80 → ⊥) → markNode operand s ds k m p rs ≡ marking p rs
 unfolding markNode
-markNode-none operand s k m p rs a b c d e f =
-    simp (ne-eqb _ _ a, ne-eqb _ _ b, ne-eqb _ _ c, ne-eqb _ _ d, ne-eqb _ _ e, ne-eqb _ _ f)
+markNode-none operand s ds k m p rs a b c d e f g =
+    simp (ne-eqb _ _ a, ne-eqb _ _ b, ne-eqb _ _ c, ne-eqb _ _ d, ne-eqb _ _ e, ne-eqb _ _ f, ne-eqb _ _ g)
 
 -- ---- markAt: no level left, no byte left, and each node
 
-module _ (s : List ℕ) (k p : ℕ) (rs : List ℕ) where
-  pub mark-deep : (d : ℕ) → d ≡ 0 → markAt d s k p rs ≡ marking p rs
+module _ (s ds : List ℕ) (k p : ℕ) (rs : List ℕ) where
+  pub mark-deep : (d : ℕ) → d ≡ 0 → markAt d s ds k p rs ≡ marking p rs
   unfolding markAt
   mark-deep d e = rw e refl
 
-  pub mark-node : (d : ℕ) {m : ℕ} → (d ≡ 0 → ⊥) → getD s p 0 ≡ m → markAt d s k p rs ≡ markNode (markAt (d - 1) s k) s k m p rs
+  pub mark-node : (d : ℕ) {m : ℕ} → (d ≡ 0 → ⊥) → getD s p 0 ≡ m → markAt d s ds k p rs ≡ markNode (markAt (d - 1) s ds k) s ds k m p rs
   unfolding markAt
   mark-node zero h e = absurd (h refl)
   mark-node (suc d) h e = rw (sub-one, e) refl
 
-  pub mark-end : (d : ℕ) → (d ≡ 0 → ⊥) → length s ≤ p → markAt d s k p rs ≡ marking p rs
+  pub mark-end : (d : ℕ) → (d ≡ 0 → ⊥) → length s ≤ p → markAt d s ds k p rs ≡ marking p rs
   unfolding markNode
   mark-end d h l = mark-node d h (List·getD-eq-default s 0 l)
 
   module _ (d : ℕ) (deep : d ≡ 0 → ⊥) where
     pub at-variable : {v : ℕ} {ss : List ℕ} → getD s p 0 ≡ 0x02 → v ≡ getD s (p + 1) 0 → ss ≡ markVariable k v rs
-        → marking (p + 2) ss ≡ markAt d s k p rs
+        → marking (p + 2) ss ≡ markAt d s ds k p rs
     unfolding markNode
     at-variable m e h = ap (marking (p + 2)) (h ∙ ap (λ (u : ℕ). markVariable k u rs) e) ∙ sym (mark-node d deep m)
 
-    pub at-constant : getD s p 0 ≡ 0x0C → marking (p + 6) rs ≡ markAt d s k p rs
+    pub at-constant : getD s p 0 ≡ 0x0C → marking (p + 6) rs ≡ markAt d s ds k p rs
     unfolding markNode
     at-constant m = sym (mark-node d deep m)
 
-    pub at-unknown : getD s p 0 ≡ 0x04 → marking (p + 2) rs ≡ markAt d s k p rs
+    pub at-unknown : getD s p 0 ≡ 0x04 → marking (p + 2) rs ≡ markAt d s ds k p rs
     unfolding markNode
     at-unknown m = sym (mark-node d deep m)
 
-    pub at-unary : {x : Marking} → getD s p 0 ≡ 0x11 → x ≡ markAt (d - 1) s k (p + 2) rs → x ≡ markAt d s k p rs
+    pub at-unary : {x : Marking} → getD s p 0 ≡ 0x11 → x ≡ markAt (d - 1) s ds k (p + 2) rs → x ≡ markAt d s ds k p rs
     unfolding markNode
     at-unary m h = h ∙ sym (mark-node d deep m)
 
-    pub at-binary : {x : Marking} → getD s p 0 ≡ 0x31 → x ≡ markBinary (markAt (d - 1) s k) (p + 2) rs → x ≡ markAt d s k p rs
+    pub at-binary : {x : Marking} → getD s p 0 ≡ 0x31 → x ≡ markBinary (markAt (d - 1) s ds k) (p + 2) rs → x ≡ markAt d s ds k p rs
     unfolding markNode
     at-binary m h = h ∙ sym (mark-node d deep m)
 
-    pub at-conditional : {x : Marking} → getD s p 0 ≡ 0x71 → x ≡ markConditional (markAt (d - 1) s k) (p + 2) rs → x ≡ markAt d s k p rs
+    pub at-conditional : {x : Marking} → getD s p 0 ≡ 0x71 → x ≡ markConditional (markAt (d - 1) s ds k) (p + 2) rs → x ≡ markAt d s ds k p rs
     unfolding markNode
     at-conditional m h = h ∙ sym (mark-node d deep m)
 
+    pub at-call : {x : Marking} {n c : ℕ} → getD s p 0 ≡ 0x80 → n ≡ getD s (p + 1) 0 → c ≡ argumentCount s ds n
+        → x ≡ markArguments (markAt (d - 1) s ds k) c (p + 2) rs → x ≡ markAt d s ds k p rs
+    unfolding markNode
+    at-call m e f h =
+        h ∙ ap (λ (n : ℕ). markArguments (markAt (d - 1) s ds k) n (p + 2) rs) (f ∙ ap (argumentCount s ds) e) ∙ sym (mark-node d deep m)
+
 -- ---- readersBelow: no wire, and one more
 
-pub readers-none : (s starts rs : List ℕ) → rs ≡ readersBelow s starts 0 rs
+pub readers-none : (s ds starts rs : List ℕ) → rs ≡ readersBelow s ds starts 0 rs
 unfolding readersBelow
-readers-none s starts rs = refl
+readers-none s ds starts rs = refl
 
-pub readers-turn : (s starts : List ℕ) (k : ℕ) (rs : List ℕ) {ss us : List ℕ} {p : ℕ} → ss ≡ readersBelow s starts k rs
-    → marking p us ≡ markAt 16 s k (getD starts k 0) ss → us ≡ readersBelow s starts (k + 1) rs
+pub readers-turn : (s ds starts : List ℕ) (k : ℕ) (rs : List ℕ) {ss us : List ℕ} {p : ℕ} → ss ≡ readersBelow s ds starts k rs
+    → marking p us ≡ markAt 16 s ds k (getD starts k 0) ss → us ≡ readersBelow s ds starts (k + 1) rs
 unfolding readersBelow
-readers-turn s starts k rs e h =
-    rw (add-one k) (ap (λ (x : Marking). x .readers) h ∙ ap (λ (ss : List ℕ). markAt 16 s k (getD starts k 0) ss .readers) e)
+readers-turn s ds starts k rs e h =
+    rw (add-one k) (ap (λ (x : Marking). x .readers) h ∙ ap (λ (ss : List ℕ). markAt 16 s ds k (getD starts k 0) ss .readers) e)
 
 -- ---- watchVariable
 

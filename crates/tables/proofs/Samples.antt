@@ -13,7 +13,7 @@ use Rattle.tables.specs.Readers.{atMost, markVariable, markBinary, markC
 use Rattle.tables.specs.Readers.{watchVariable, watchTerms, watchInstr}
 
 -- Wire 0 is v3 + v5 and wire 1 is ~v3.
-pub sample-readers : readersBelow (0x31 ∷ 6 ∷ 0x02 ∷ 3 ∷ 0x02 ∷ 5 ∷ 0x11 ∷ 1 ∷ 0x02 ∷ 3 ∷ []) (0 ∷ 6 ∷ []) 2 (replicate 7 0)
+pub sample-readers : readersBelow (0x31 ∷ 6 ∷ 0x02 ∷ 3 ∷ 0x02 ∷ 5 ∷ 0x11 ∷ 1 ∷ 0x02 ∷ 3 ∷ []) [] (0 ∷ 6 ∷ []) 2 (replicate 7 0)
     ≡ 0 ∷ 0 ∷ 0 ∷ 3 ∷ 0 ∷ 1 ∷ 0 ∷ []
 unfolding readersBelow markAt markNode markBinary markConditional markVariable bits digits odd
 sample-readers = refl

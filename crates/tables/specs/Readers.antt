@@ -6,6 +6,7 @@ use mathlib.Core.List.{List}
 use lib.ListN.{getD, set}
 use lib.Dec.{ltb}
 use Rattle.values.specs.Values.{pick, _is_then_else_}
+use Rattle.pseudocode.specs.Skipping.{argumentCount}
 use Rattle.pseudocode.specs.declared.EdgeTerms.{EdgeTerms}
 use Rattle.pseudocode.specs.declared.Instruction.{Instruction}
 use Rattle.pseudocode.specs.declared.Instruction.the-variants.{Wait, Act}
@@ -41,26 +42,33 @@ markConditional operand p rs =
     let b = operand (a .next) (a .readers) in
     operand (b .next) (b .readers)
 
--- The node with map m at p.
-unfoldable pub markNode : (ℕ → List ℕ → Marking) → List ℕ → ℕ → ℕ → ℕ → List ℕ → Marking
-markNode operand s k m p rs =
+-- The arguments of a call, n of them from p on.
+unfoldable pub markArguments : (ℕ → List ℕ → Marking) → ℕ → ℕ → List ℕ → Marking
+markArguments operand zero p rs = marking p rs
+markArguments operand (suc n) p rs = let a = operand p rs in markArguments operand n (a .next) (a .readers)
+
+-- The node with map m at p. The functions' definitions stand at the places ds: they tell how many arguments there are. What stands
+-- in a body are the body's own variables.
+unfoldable pub markNode : (ℕ → List ℕ → Marking) → List ℕ → List ℕ → ℕ → ℕ → ℕ → List ℕ → Marking
+markNode operand s ds k m p rs =
     m is 0x02 then marking (p + 2) (markVariable k (getD s (p + 1) 0) rs) else
     m is 0x0C then marking (p + 6) rs else
     m is 0x04 then marking (p + 2) rs else
     m is 0x11 then operand (p + 2) rs else
     m is 0x31 then markBinary operand (p + 2) rs else
     m is 0x71 then markConditional operand (p + 2) rs else
+    m is 0x80 then markArguments operand (argumentCount s ds (getD s (p + 1) 0)) (p + 2) rs else
     marking p rs
 
 -- The expression at p, with so many levels left.
-unfoldable pub markAt : ℕ → List ℕ → ℕ → ℕ → List ℕ → Marking
-markAt zero s k p rs = marking p rs
-markAt (suc d) s k p rs = markNode (markAt d s k) s k (getD s p 0) p rs
+unfoldable pub markAt : ℕ → List ℕ → List ℕ → ℕ → ℕ → List ℕ → Marking
+markAt zero s ds k p rs = marking p rs
+markAt (suc d) s ds k p rs = markNode (markAt d s ds k) s ds k (getD s p 0) p rs
 
 -- The wires below n, whose expressions stand at the places `starts`.
-unfoldable pub readersBelow : List ℕ → List ℕ → ℕ → List ℕ → List ℕ
-readersBelow s starts zero rs = rs
-readersBelow s starts (suc n) rs = markAt 16 s n (getD starts n 0) (readersBelow s starts n rs) .readers
+unfoldable pub readersBelow : List ℕ → List ℕ → List ℕ → ℕ → List ℕ → List ℕ
+readersBelow s ds starts zero rs = rs
+readersBelow s ds starts (suc n) rs = markAt 16 s ds n (getD starts n 0) (readersBelow s ds starts n rs) .readers
 
 -- ---- watched: the variables that some wait names
 

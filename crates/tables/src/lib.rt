@@ -5,7 +5,7 @@ use pseudocode::Instruction;
 use sheet::byte_at;
 ghost use mathlib.Core.Path.{_≡_};
 ghost use Rattle.pseudocode.specs.Fetching.{fetchAt};
-ghost use Rattle.tables.specs.Readers.{atMost, marking, markVariable, markBinary, markConditional, markAt, readersBelow};
+ghost use Rattle.tables.specs.Readers.{atMost, marking, markVariable, markBinary, markConditional, markArguments, markAt, readersBelow};
 ghost use Rattle.tables.specs.Readers.{watchVariable, watchTerms, watchInstr, watchThread, watchedBelow};
 
 // A byte as a place.
@@ -34,25 +34,65 @@ pub fn mark_variable(k: usize, v: u8, readers: &mut [u32; 80])
 }
 
 // Marks wire `k` at the variables of two operands, the first at a place; the place after them.
-fn mark_binary(sheet: &[u8], at: usize, depth: u8, k: usize, readers: &mut [u32; 80]) -> usize
-    ensures { λ r. ⌜ marking r (now (readers .exit)) ≡ markBinary (markAt depth (now (sheet .entry)) k) at (now (readers .entry)) ⌝ }
+fn mark_binary(
+    sheet: &[u8],
+    definitions: &[usize; 8],
+    at: usize,
+    depth: u8,
+    k: usize,
+    readers: &mut [u32; 80],
+) -> usize
+    ensures { λ r. ⌜ marking r (now (readers .exit)) ≡ markBinary (markAt depth (now (sheet .entry)) (now (definitions .entry)) k) at (now (readers .entry)) ⌝ }
 {
-    let a = mark_expr(sheet, at, depth, k, readers);
-    mark_expr(sheet, a, depth, k, readers)
+    let a = mark_expr(sheet, definitions, at, depth, k, readers);
+    mark_expr(sheet, definitions, a, depth, k, readers)
 }
 
 // Marks wire `k` at the variables of three operands, the first at a place; the place after them.
-fn mark_conditional(sheet: &[u8], at: usize, depth: u8, k: usize, readers: &mut [u32; 80]) -> usize
-    ensures { λ r. ⌜ marking r (now (readers .exit)) ≡ markConditional (markAt depth (now (sheet .entry)) k) at (now (readers .entry)) ⌝ }
+fn mark_conditional(
+    sheet: &[u8],
+    definitions: &[usize; 8],
+    at: usize,
+    depth: u8,
+    k: usize,
+    readers: &mut [u32; 80],
+) -> usize
+    ensures { λ r. ⌜ marking r (now (readers .exit)) ≡ markConditional (markAt depth (now (sheet .entry)) (now (definitions .entry)) k) at (now (readers .entry)) ⌝ }
 {
-    let a = mark_expr(sheet, at, depth, k, readers);
-    let b = mark_expr(sheet, a, depth, k, readers);
-    mark_expr(sheet, b, depth, k, readers)
+    let a = mark_expr(sheet, definitions, at, depth, k, readers);
+    let b = mark_expr(sheet, definitions, a, depth, k, readers);
+    mark_expr(sheet, definitions, b, depth, k, readers)
+}
+
+// Marks wire `k` at the variables of so many arguments, the first at a place; the place after them.
+fn mark_arguments(
+    sheet: &[u8],
+    definitions: &[usize; 8],
+    count: u8,
+    at: usize,
+    depth: u8,
+    k: usize,
+    readers: &mut [u32; 80],
+) -> usize
+    ensures { λ r. ⌜ marking r (now (readers .exit)) ≡ markArguments (markAt depth (now (sheet .entry)) (now (definitions .entry)) k) count at (now (readers .entry)) ⌝ }
+{
+    if count == 0 {
+        return at;
+    }
+    let a = mark_expr(sheet, definitions, at, depth, k, readers);
+    mark_arguments(sheet, definitions, count - 1, a, depth, k, readers)
 }
 
 // Marks wire `k` at the variables of the expression at a place, with so many levels left; the place after it.
-pub fn mark_expr(sheet: &[u8], at: usize, depth: u8, k: usize, readers: &mut [u32; 80]) -> usize
-    ensures { λ r. ⌜ marking r (now (readers .exit)) ≡ markAt depth (now (sheet .entry)) k at (now (readers .entry)) ⌝ }
+pub fn mark_expr(
+    sheet: &[u8],
+    definitions: &[usize; 8],
+    at: usize,
+    depth: u8,
+    k: usize,
+    readers: &mut [u32; 80],
+) -> usize
+    ensures { λ r. ⌜ marking r (now (readers .exit)) ≡ markAt depth (now (sheet .entry)) (now (definitions .entry)) k at (now (readers .entry)) ⌝ }
 {
     if depth == 0 {
         return at;
@@ -70,21 +110,32 @@ pub fn mark_expr(sheet: &[u8], at: usize, depth: u8, k: usize, readers: &mut [u3
         }
         0x0C => at + 6,
         0x04 => rest,
-        0x11 => mark_expr(sheet, rest, depth - 1, k, readers),
-        0x31 => mark_binary(sheet, rest, depth - 1, k, readers),
-        0x71 => mark_conditional(sheet, rest, depth - 1, k, readers),
+        0x11 => mark_expr(sheet, definitions, rest, depth - 1, k, readers),
+        0x31 => mark_binary(sheet, definitions, rest, depth - 1, k, readers),
+        0x71 => mark_conditional(sheet, definitions, rest, depth - 1, k, readers),
+        0x80 => {
+            let n = byte_at(sheet, at + 1);
+            let count = pseudocode::argument_count(sheet, definitions, n);
+            mark_arguments(sheet, definitions, count, rest, depth - 1, k, readers)
+        }
         _ => at,
     }
 }
 
 // For each variable the wires that read it: marks each wire, whose expression stands at its place in `starts`.
-pub fn fill_readers(sheet: &[u8], starts: &[usize; 32], wires: u8, readers: &mut [u32; 80])
-    ensures { λ _. ⌜ now (readers .exit) ≡ readersBelow (now (sheet .entry)) (now (starts .entry)) (atMost 32 wires) (now (readers .entry)) ⌝ }
+pub fn fill_readers(
+    sheet: &[u8],
+    definitions: &[usize; 8],
+    starts: &[usize; 32],
+    wires: u8,
+    readers: &mut [u32; 80],
+)
+    ensures { λ _. ⌜ now (readers .exit) ≡ readersBelow (now (sheet .entry)) (now (definitions .entry)) (now (starts .entry)) (atMost 32 wires) (now (readers .entry)) ⌝ }
 {
     let count = at_most(32, wide(wires));
     let mut k: usize = 0;
     while k < count {
-        mark_expr(sheet, starts[k], 16, k, readers);
+        mark_expr(sheet, definitions, starts[k], 16, k, readers);
         k += 1;
     }
 }

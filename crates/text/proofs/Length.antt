@@ -7,45 +7,59 @@ use native.Mathlib.Omega.{arith}
 use mathlib.Core.List.{List, [], _∷_, _++_}
 use mathlib.Core.Bool.{Bool, true, false, _&&_}
 use lib.ListN.{length, drop, length-append}
-use lib.Dec.{ltb, leb, eqb}
-use borrow.Author.Tests.{ltb-true, leb-true, eqb-true}
+use lib.Dec.{ltb, leb}
+use borrow.Author.Tests.{ltb-true, leb-true}
 use Rattle.values.specs.Edges.{edgeOf, edgeNumber}
 use Rattle.values.specs.declared.Edge.{Edge}
 use Rattle.values.specs.declared.Edge.the-variants.{Change, Posedge, Negedge}
 use Rattle.sheet.specs.declared.EdgeTerm.{EdgeTerm}
-use Rattle.sheet.specs.Reading.{Res, ok, no, _>>=_, _>>_, within}
-use Rattle.sheet.specs.Expression.{Expr, Parsed, tree}
-use Rattle.sheet.specs.Statement.{Stmt, empty, assign, later, sequence, ifThen, ifElse, while, forever, wait, size, Scope, isRegister, Body, readStmt}
-use Rattle.sheet.specs.Module.{Module, Listed, Head, readWidths, readHead, readWires, readThreads, readSheet, read}
-use Rattle.sheet.proofs.Reading.{bind-ok, check-ok, within-ok, ok-injective}
-use Rattle.sheet.proofs.Expression.{Reads, a-variable, a-constant, an-unknown, a-unary, a-binary, a-conditional}
+use Rattle.sheet.specs.Reading.{Res, ok, no, _>>=_, _>>_}
+use Rattle.sheet.specs.Expression.{Expr, noFunction, Scope, Parsed, Passed, tree}
+use Rattle.sheet.specs.Statement.{Stmt, empty, assign, later, sequence, ifThen, ifElse, while, forever, wait, size, isRegister, Body, readStmt}
+use Rattle.sheet.specs.Module.{Module, Listed, readThreads, readSheet, read}
+use Rattle.sheet.proofs.Reading.{bind-ok, check-ok, ok-injective}
+use Rattle.sheet.proofs.Expression.{Reads, a-variable, a-constant, an-unknown, a-unary, a-binary, a-conditional, a-call, ReadsAll, no-arguments, an-argument}
+use Rattle.sheet.proofs.Sections.{headed}
+use Rattle.pseudocode.proofs.Sheets.{scopeWith, sections, head-widths}
 use Rattle.sheet.proofs.Statements.{ReadsTerms, no-terms, a-term, ReadsStmt, an-empty, an-assign, a-later, a-sequence, an-if, an-if-else, a-while, a-forever, a-wait, derive-stmt}
 use Rattle.pseudocode.specs.Translation.{Instr, wait!, set!, later!, go, ifnot, translate, threadCode}
 use Rattle.writing.specs.Ascii.{ascii}
 use Rattle.writing.specs.Buffer.{filled, puts}
-use Rattle.text.specs.Listing.{showExpr, showTerm, showTerms, showInstr, showLine, showCode, showThreads, showHead, showModule, listing, refusal, printed, output}
+use Rattle.text.specs.Listing.{showExpr, showAll, showTerm, showTerms, showInstr, showLine, showCode, showThreads, showHead, showModule, listing, refusal, printed, output}
 use Rattle.writing.proofs.Buffer.{puts-front}
 use Rattle.writing.proofs.Numbers.{length-decimal, decimal-twenty}
 use Rattle.text.proofs.Located.{tree-reads}
 
 -- ---- expressions
 
--- With the space before it, at most three characters a byte.
-pub length-expr : {ws s : List ℕ} {d p : ℕ} {q : Parsed Expr} → length ws ≤ 100 → Reads ws s d p q
-    → length (showExpr (q .item)) + 1 + 3 * p ≤ 3 * q .next
-unfolding showExpr
-length-expr b (a-variable {v = v} m h e l) = omega (arith, length-decimal 1 v (omega arith))
-length-expr b (a-constant {w = w} {v = v} m k h e l) =
-    let x : w ≤ 32 = k .most in
-    let y : 2 ^ w ≤ 2 ^ 32 = pow-le-pow-right (omega arith) x in
-    simp length-append (omega (arith, length-decimal 1 w (omega arith), length-decimal 9 v (omega arith)))
-length-expr b (an-unknown {w = w} m k) = omega (arith, length-decimal 1 w (omega (arith, k .most)))
-length-expr b (a-unary {o = o} m k x) =
-    simp length-append (omega (arith, length-expr b x, length-decimal 1 o (omega (arith, k .most))))
-length-expr b (a-binary {o = o} m k x y e) =
-    simp length-append (omega (arith, length-expr b x, length-expr b y, length-decimal 1 o (omega (arith, k .most))))
-length-expr b (a-conditional m k x y z e) =
-    simp length-append (omega (arith, length-expr b x, length-expr b y, length-expr b z, length-decimal 1 10 (omega arith)))
+-- With the space before it, at most three characters a byte: of arguments, where each has no more.
+length-all : {c : Scope} {s : List ℕ} {d : ℕ} → ((p : ℕ) (q : Parsed Expr) → Reads c s d p q → length (showExpr (q .item)) + 1 + 3 * p ≤ 3 * q .next)
+    → {n p : ℕ} {es : Passed} → ReadsAll c s d n p es → length (showAll (es .items)) + 3 * p ≤ 3 * es .next
+unfolding showAll
+length-all inner no-arguments = omega arith
+length-all inner (an-argument {p = p} {e = e} x es) = simp length-append (omega (arith, inner p e x, length-all inner es))
+
+-- Of an expression, by its depth. A call's two bytes hold a number below 100.
+module _ {c : Scope} {s : List ℕ} (b : length (c .widths) ≤ 100) (few : c .declared ≤ 100) where
+  lengths : (d : ℕ) {p : ℕ} {q : Parsed Expr} → Reads c s d p q → length (showExpr (q .item)) + 1 + 3 * p ≤ 3 * q .next
+  unfolding showExpr
+  lengths (suc d) (a-variable {v = v} m h e l) = omega (arith, length-decimal 1 v (omega arith))
+  lengths (suc d) (a-constant {w = w} {v = v} m k h e l) =
+      let x : w ≤ 32 = k .most in
+      let y : 2 ^ w ≤ 2 ^ 32 = pow-le-pow-right (omega arith) x in
+      simp length-append (omega (arith, length-decimal 1 w (omega arith), length-decimal 9 v (omega arith)))
+  lengths (suc d) (an-unknown {w = w} m k) = omega (arith, length-decimal 1 w (omega (arith, k .most)))
+  lengths (suc d) (a-unary {o = o} m k x) =
+      simp length-append (omega (arith, lengths d x, length-decimal 1 o (omega (arith, k .most))))
+  lengths (suc d) (a-binary {o = o} m k x y e) =
+      simp length-append (omega (arith, lengths d x, lengths d y, length-decimal 1 o (omega (arith, k .most))))
+  lengths (suc d) (a-conditional m k x y z e) =
+      simp length-append (omega (arith, lengths d x, lengths d y, lengths d z, length-decimal 1 10 (omega arith)))
+  lengths (suc d) (a-call {n = n} m h e l g es w) =
+      simp length-append (omega (arith, length-all (λ i q r. lengths d r) es, length-decimal 1 n (omega arith)))
+
+  pub length-expr : {d p : ℕ} {q : Parsed Expr} → Reads c s d p q → length (showExpr (q .item)) + 1 + 3 * p ≤ 3 * q .next
+  length-expr {d = d} r = lengths d r
 
 -- ---- pairs of a wait
 
@@ -112,35 +126,36 @@ unfolding isRegister
 register-below c t h =
     ltb-true t (c .inputs + c .registers) (and-right (leb (c .inputs) t) (ltb t (c .inputs + c .registers)) h)
 
-module _ (c : Scope) (s : List ℕ) (r : c .inputs + c .registers ≤ 100) (w : length (c .widths) ≤ 100) where
+module _ (c : Scope) (s : List ℕ) (r : c .inputs + c .registers ≤ 100) (w : length (c .widths) ≤ 100)
+    (few : c .declared ≤ 100) where
   -- Nine characters an instruction, and three for each byte.
   pub weight-stmt : {d p : ℕ} {b : Body Expr} → ReadsStmt (tree s) c s d p b → (n : ℕ) → n + size (b .stmt) < 1000
       → weight (translate (b .stmt) n) + 3 * p ≤ 9 * size (b .stmt) + 3 * b .next
   unfolding translate size weight
   weight-stmt (an-empty l m) n h = omega arith
   weight-stmt {p = p} (an-assign {t = t} {e = e} l m x g y f) n h =
-      let v = length-expr w (tree-reads s (c .widths) (p + 2) y) in
+      let v = length-expr w few (tree-reads s c (p + 2) y) in
       omega (arith, length-assign t (e .item) (omega (arith, register-below c t g)))
   weight-stmt {p = p} (a-later {t = t} {e = e} l m x g y f) n h =
-      let v = length-expr w (tree-reads s (c .widths) (p + 2) y) in
+      let v = length-expr w few (tree-reads s c (p + 2) y) in
       omega (arith, length-later t (e .item) (omega (arith, register-below c t g)))
   weight-stmt (a-sequence {a = a} {b = b} l m x y) n h =
       let i = weight-stmt x n (omega arith) in
       let j = weight-stmt y (n + size (a .stmt)) (omega arith) in
       rw (weight-append (translate (a .stmt) n) (translate (b .stmt) (n + size (a .stmt)))) (omega arith)
   weight-stmt {p = p} (an-if {e = e} {a = a} l m y x) n h =
-      let v = length-expr w (tree-reads s (c .widths) (p + 1) y) in
+      let v = length-expr w few (tree-reads s c (p + 1) y) in
       let i = weight-stmt x (n + 1) (omega arith) in
       omega (arith, length-ifnot (n + 1 + size (a .stmt)) (e .item) (omega arith))
   weight-stmt {p = p} (an-if-else {e = e} {a = a} {b = b} l m q x y) n h =
-      let v = length-expr w (tree-reads s (c .widths) (p + 1) q) in
+      let v = length-expr w few (tree-reads s c (p + 1) q) in
       let i = weight-stmt x (n + 1) (omega arith) in
       let j = weight-stmt y (n + 2 + size (a .stmt)) (omega arith) in
       let g = n + 2 + size (a .stmt) in
       rw (weight-append (translate (a .stmt) (n + 1)) (go (g + size (b .stmt)) ∷ translate (b .stmt) g))
       (omega (arith, length-ifnot g (e .item) (omega arith), length-go (g + size (b .stmt)) (omega arith)))
   weight-stmt {p = p} (a-while {e = e} {a = a} l m y x) n h =
-      let v = length-expr w (tree-reads s (c .widths) (p + 1) y) in
+      let v = length-expr w few (tree-reads s c (p + 1) y) in
       let i = weight-stmt x (n + 1) (omega arith) in
       rw (weight-append (translate (a .stmt) (n + 1)) (go n ∷ []))
       (omega (arith, length-ifnot (n + size (a .stmt) + 2) (e .item) (omega arith), length-go n (omega arith)))
@@ -185,13 +200,14 @@ length-translate (wait ts) n = refl
 
 -- ---- threads
 
-module _ (c : Scope) (s : List ℕ) (r : c .inputs + c .registers ≤ 100) (w : length (c .widths) ≤ 100) where
+module _ (c : Scope) (s : List ℕ) (r : c .inputs + c .registers ≤ 100) (w : length (c .widths) ≤ 100)
+    (few : c .declared ≤ 100) where
   pub length-thread : {d p : ℕ} {b : Body Expr} (thread : ℕ) → thread < 10 → size (b .stmt) + 1 ≤ 256
       → ReadsStmt (tree s) c s d p b
       → length (showCode showExpr thread 0 (threadCode (b .stmt))) + 3 * p ≤ 4096 + 3 * b .next
   unfolding threadCode translate weight
   length-thread {b = b} thread h k x =
-      let i = weight-stmt c s r w x 0 (omega arith) in
+      let i = weight-stmt c s r w few x 0 (omega arith) in
       let l = length-translate (b .stmt) 0 in
       let m = length-append (translate (b .stmt) 0) (go 0 ∷ []) in
       omega (
@@ -218,38 +234,6 @@ module _ (c : Scope) (s : List ℕ) (r : c .inputs + c .registers ≤ 100) (w : 
       (showThreads showExpr (thread + 1) (bs .0 .items)) in
       rw (← ok-injective (bs .2)) (omega arith, ap suc (y .1))
 
--- ---- the head of the sheet
-
-length-widths : (n : ℕ) (s : List ℕ) (at : ℕ) {ws : List ℕ} → readWidths n s at ≡ ok ws → length ws ≡ n
-unfolding readWidths
-length-widths zero s at h = rw (← ok-injective h)
-length-widths (suc n) s at h =
-    let v = bind-ok (within 1 32 4 s at) _ h in
-    let ws = bind-ok (readWidths n s (at + 1)) _ (v .2) in
-    rw (← ok-injective (ws .2)) (ap suc (length-widths n s (at + 1) (ws .1)))
-
--- "inputs (1 to 16), registers (1 to 32), wires (0 to 32), threads (1 to 8)"
-pub record Small (h : Head) : Type 0 where
-  pub named : h .scope .inputs + h .scope .registers ≤ 48
-  pub variables : length (h .scope .widths) ≤ 80
-  pub threads : h .threads ≤ 8
-
-pub head-small : (s : List ℕ) {h : Head} → readHead s ≡ ok h → Small h
-unfolding readHead
-head-small s e =
-    let i = bind-ok (within 1 16 3 s 0) _ e in
-    let r = bind-ok (within 1 32 3 s 1) _ (i .2) in
-    let v = bind-ok (within 0 32 3 s 2) _ (r .2) in
-    let t = bind-ok (within 1 8 3 s 3) _ (v .2) in
-    let k = bind-ok (within 1 1 4 s 4) _ (t .2) in
-    let ws = bind-ok (readWidths (i .0 + r .0 + v .0 - 1) s 5) _ (k .2) in
-    let a = within-ok 1 16 3 s 0 (i .1) in
-    let b = within-ok 1 32 3 s 1 (r .1) in
-    let c = within-ok 0 32 3 s 2 (v .1) in
-    let d = within-ok 1 8 3 s 3 (t .1) in
-    let l = length-widths (i .0 + r .0 + v .0 - 1) s 5 (ws .1) in
-    rw (← ok-injective (ws .2)) (record { named = omega arith; variables = omega arith; threads = d .most })
-
 -- ---- the listing and the output
 
 length-head : (n : ℕ) → n < 10 → length (showHead n) ≤ 10
@@ -257,25 +241,23 @@ unfolding showHead ascii
 length-head n h = simp length-append (omega (arith, length-decimal 0 n h))
 
 pub length-listing : (s : List ℕ) {m : Module Expr} → read s ≡ ok m → length (listing m) ≤ 65536
-unfolding read readSheet listing showModule
+unfolding read listing showModule
 length-listing s e =
     let r = bind-ok (readSheet (tree s) s) _ e in
-    let k = check-ok (leb (length s) 8192) 1 8192 _ (r .1) in
-    let h = bind-ok (readHead s) _ (k .1) in
-    let c = h .0 .scope in
-    let es = bind-ok (readWires (tree s) c s (h .0 .wires) (c .inputs + c .registers) (h .0 .next)) _ (h .2) in
-    let ts = bind-ok (readThreads (tree s) c s (h .0 .threads) (es .0 .next)) _ (es .2) in
-    let z = check-ok (eqb (ts .0 .next) (length s)) 10 (ts .0 .next) _ (ts .2) in
-    let b = head-small s (h .1) in
-    let n = b .named in
-    let v = b .variables in
-    let t = b .threads in
-    let x = length-threads c s (omega arith) (omega arith) (h .0 .threads) (es .0 .next) (ts .1) 0 (omega arith) in
-    let y = length-append (showHead (length (ts .0 .items))) (showThreads showExpr 0 (ts .0 .items)) in
-    let l : length s ≤ 8192 = leb-true (length s) 8192 (k .0) in
-    let q : ts .0 .next ≡ length s = eqb-true (ts .0 .next) (length s) (z .0) in
-    rw (← ok-injective (r .2), ← ok-injective (z .1))
-    (omega (arith, length-head (length (ts .0 .items)) (omega arith)))
+    let x = sections (tree s) s (r .1) in
+    let c = scopeWith (x .head) (x .functions) in
+    let h = headed s (x .head-read) in
+    let i = h .inputs-most in
+    let g = h .registers-most in
+    let t = h .threads-most in
+    let f = h .functions-most in
+    let w = head-widths s (x .head) h in
+    let y = length-threads c s (omega arith) (omega arith) (omega arith) (x .head .threads) (x .wires .next) (x .threads-read) 0 (omega arith) in
+    let z = length-append (showHead (length (x .threads .items))) (showThreads showExpr 0 (x .threads .items)) in
+    let l = x .short in
+    let q = x .ended in
+    rw (← ok-injective (r .2), x .made)
+    (omega (arith, length-head (length (x .threads .items)) (omega arith)))
 
 pub length-output : (s : List ℕ) → length (output s) ≤ 65536
 unfolding output printed refusal ascii

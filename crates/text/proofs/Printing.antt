@@ -13,16 +13,18 @@ use borrow.Author.Tests.{lt-ltb, le-ltb, ne-eqb}
 use Rattle.values.specs.Values.{pick}
 use Rattle.sheet.specs.declared.EdgeTerm.{EdgeTerm}
 use Rattle.sheet.specs.Reading.{wordOf}
-use Rattle.sheet.specs.Expression.{Expr, Parsed}
-use Rattle.sheet.proofs.Expression.{Reads, a-variable, a-constant, an-unknown, a-unary, a-binary, a-conditional}
+use Rattle.sheet.specs.Expression.{Expr, noFunction, Scope, Parsed, Passed}
+use Rattle.sheet.proofs.Expression.{Reads, a-variable, a-constant, an-unknown, a-unary, a-binary, a-conditional, a-call, ReadsAll, no-arguments, an-argument}
+use Rattle.pseudocode.specs.Skipping.{argumentCount}
+use Rattle.pseudocode.proofs.Skipping.{arguments-most, Counted}
 use Rattle.pseudocode.specs.declared.EdgeTerms.{EdgeTerms}
 use Rattle.pseudocode.specs.Instruction.{noTerm}
 use Rattle.text.specs.declared.Printed.{Printed}
 use Rattle.writing.specs.Ascii.{byte}
 use Rattle.writing.specs.Numbers.{decimal}
 use Rattle.writing.specs.Buffer.{Text, filled, puts}
-use Rattle.text.specs.Listing.{_␣_, showExpr, showTerm, showTerms}
-use Rattle.text.specs.Printing.{Shown, shown, Prints, operandsOf, behind, operandsAt, nodeAt, shownAt, textAt, allTerms, termList}
+use Rattle.text.specs.Listing.{_␣_, showExpr, showAll, showTerm, showTerms}
+use Rattle.text.specs.Printing.{Shown, shown, Prints, operandsOf, markOf, behind, operandsAt, nodeAt, shownAt, textAt, allTerms, termList}
 use Rattle.writing.proofs.Buffer.{both, puts-nil, puts-append}
 
 -- ---- Prints
@@ -50,15 +52,16 @@ prints-behind before between r after t rest e p w =
 
 -- ---- operandsOf
 
-pub operands-few : (m : ℕ) → operandsOf m ≤ 3
+pub operands-few : (s ds : List ℕ) (m b : ℕ) → operandsOf s ds m b ≤ 4
 unfolding operandsOf
-operands-few m = few (eqb m 0x11) (eqb m 0x31) (eqb m 0x71)
+operands-few s ds m b = few (eqb m 0x11) (eqb m 0x31) (eqb m 0x71) (eqb m 0x80)
   where
-    few : (a b c : Bool) → pick a 1 (pick b 2 (pick c 3 0)) ≤ 3
-    few true b c = omega arith
-    few false true c = omega arith
-    few false false true = omega arith
-    few false false false = omega arith
+    few : (x y z w : Bool) → pick x 1 (pick y 2 (pick z 3 (pick w (argumentCount s ds b) 0))) ≤ 4
+    few true y z w = omega arith
+    few false true z w = omega arith
+    few false false true w = omega arith
+    few false false false true = arguments-most s ds b
+    few false false false false = omega arith
 
 -- ---- operandsAt
 
@@ -97,33 +100,33 @@ module _ (operand : ℕ → Shown) where
 
   -- ---- nodeAt
 
-  module _ (s : List ℕ) (p m b : ℕ) where
-    pub node-variable : m ≡ 0x02 → nodeAt operand s p m b ≡ shown (p + 2) (byte "v" ∷ decimal b)
+  module _ (s ds : List ℕ) (p m b : ℕ) where
+    pub node-variable : m ≡ 0x02 → nodeAt operand s ds p m b ≡ shown (p + 2) (byte "v" ∷ decimal b)
     unfolding nodeAt
     node-variable e = rw e
 
     pub node-constant : m ≡ 0x0C
-        → nodeAt operand s p m b ≡ shown (p + 6) (byte "c" ∷ (decimal b ++ (byte ":" ∷ decimal (wordOf s (p + 2)))))
+        → nodeAt operand s ds p m b ≡ shown (p + 6) (byte "c" ∷ (decimal b ++ (byte ":" ∷ decimal (wordOf s (p + 2)))))
     unfolding nodeAt
     node-constant e = rw e
 
-    pub node-unknown : m ≡ 0x04 → nodeAt operand s p m b ≡ shown (p + 2) (byte "u" ∷ decimal b)
+    pub node-unknown : m ≡ 0x04 → nodeAt operand s ds p m b ≡ shown (p + 2) (byte "u" ∷ decimal b)
     unfolding nodeAt
     node-unknown e = rw e
 
     pub node-operator : (m ≡ 0x02 → ⊥) → (m ≡ 0x0C → ⊥) → (m ≡ 0x04 → ⊥)
-        → nodeAt operand s p m b ≡ behind (byte "o" ∷ decimal b) (operandsAt operand (operandsOf m) (p + 2))
+        → nodeAt operand s ds p m b ≡ behind (markOf m ∷ decimal b) (operandsAt operand (operandsOf s ds m b) (p + 2))
     unfolding nodeAt
     node-operator x y z = simp (ne-eqb m 0x02 x, ne-eqb m 0x0C y, ne-eqb m 0x04 z)
 
 -- ---- shownAt
 
-module _ (s : List ℕ) where
-  pub shown-deep : (d p : ℕ) → d ≡ 0 → shownAt d s p ≡ shown p []
+module _ (s ds : List ℕ) where
+  pub shown-deep : (d p : ℕ) → d ≡ 0 → shownAt d s ds p ≡ shown p []
   unfolding shownAt
   shown-deep d p e = rw e
 
-  pub shown-end : (d p : ℕ) → length s ≤ p → shownAt d s p ≡ shown p []
+  pub shown-end : (d p : ℕ) → length s ≤ p → shownAt d s ds p ≡ shown p []
   unfolding shownAt
   shown-end zero p h = refl
   shown-end (suc d) p h = simp (le-ltb p (length s) h)
@@ -134,48 +137,65 @@ module _ (s : List ℕ) where
     pub map : m ≡ getD s p 0
     pub after : b ≡ getD s (p + 1) 0
 
-  pub shown-suc : (d p m b : ℕ) → Node p m b → shownAt (suc d) s p ≡ nodeAt (shownAt d s) s p m b
+  pub shown-suc : (d p m b : ℕ) → Node p m b → shownAt (suc d) s ds p ≡ nodeAt (shownAt d s ds) s ds p m b
   unfolding shownAt
   shown-suc d p m b h = rw (h .map, h .after) (simp (lt-ltb p (length s) (h .inside)))
 
-  pub shown-node : (d p m b : ℕ) → (d ≡ 0 → ⊥) → Node p m b → shownAt d s p ≡ nodeAt (shownAt (d - 1) s) s p m b
+  pub shown-node : (d p m b : ℕ) → (d ≡ 0 → ⊥) → Node p m b → shownAt d s ds p ≡ nodeAt (shownAt (d - 1) s ds) s ds p m b
   shown-node zero p m b z h = absurd (z refl)
   shown-node (suc d) p m b z h = rw sub-one (shown-suc d p m b h)
 
 -- ---- an expression that was read
 
-module _ {ws s : List ℕ} where
-  pub shown-reads : {d p : ℕ} {q : Parsed Expr} → Reads ws s d p q
-      → shownAt d s p ≡ shown (q .next) (showExpr (q .item))
-  unfolding operandsOf behind showExpr
-  shown-reads {p = p} (a-variable {d = d} m h e l) =
-      shown-suc s d p _ _ (record { inside = omega arith; map = sym m; after = sym e }) ∙ node-variable _ s p 0x02 _ refl
-  shown-reads {p = p} (a-constant {d = d} m w h e l) =
+module _ (c : Scope) (s ds : List ℕ) (counted : Counted s ds (c .functions)) where
+  -- A call's arguments, where each of them is shown as its tree.
+  shown-all : {d : ℕ} → ((p : ℕ) (q : Parsed Expr) → Reads c s d p q → shownAt d s ds p ≡ shown (q .next) (showExpr (q .item)))
+      → {n p : ℕ} {es : Passed} → ReadsAll c s d n p es → operandsAt (shownAt d s ds) n p ≡ shown (es .next) (showAll (es .items))
+  unfolding operandsAt behind showAll
+  shown-all inner no-arguments = refl
+  shown-all {d} inner (an-argument {n = n} {p = p} {e = e} x es) =
+      operands-suc (shownAt d s ds) n p (inner p e x)
+      ∙ ap (λ y. behind ([] ␣ showExpr (e .item)) y) (shown-all inner es)
+
+  -- By the depth.
+  shows : (d : ℕ) {p : ℕ} {q : Parsed Expr} → Reads c s d p q → shownAt d s ds p ≡ shown (q .next) (showExpr (q .item))
+  unfolding operandsOf markOf behind showExpr
+  shows (suc d) {p} (a-variable m h e l) =
+      shown-suc s ds d p _ _ (record { inside = omega arith; map = sym m; after = sym e }) ∙ node-variable _ s ds p 0x02 _ refl
+  shows (suc d) {p} (a-constant m w h e l) =
       let x = w .below in
-      shown-suc s d p _ _ (record { inside = omega arith; map = sym m; after = sym (w .same) })
-      ∙ node-constant _ s p 0x0C _ refl ∙ rw e
-  shown-reads {p = p} (an-unknown {d = d} m w) =
+      shown-suc s ds d p _ _ (record { inside = omega arith; map = sym m; after = sym (w .same) })
+      ∙ node-constant _ s ds p 0x0C _ refl ∙ rw e
+  shows (suc d) {p} (an-unknown m w) =
       let x = w .below in
-      shown-suc s d p _ _ (record { inside = omega arith; map = sym m; after = sym (w .same) }) ∙ node-unknown _ s p 0x04 _ refl
-  shown-reads {p = p} (a-unary {d = d} {o = o} m w a) =
+      shown-suc s ds d p _ _ (record { inside = omega arith; map = sym m; after = sym (w .same) }) ∙ node-unknown _ s ds p 0x04 _ refl
+  shows (suc d) {p} (a-unary {o = o} m w a) =
       let x = w .below in
-      shown-suc s d p _ _ (record { inside = omega arith; map = sym m; after = sym (w .same) })
-      ∙ node-operator _ s p 0x11 _ (omega arith) (omega arith) (omega arith)
-      ∙ ap (λ x. behind (byte "o" ∷ decimal o) x) (operands-one _ (p + 2) (shown-reads a))
-  shown-reads {p = p} (a-binary {d = d} {o = o} m w a b e) =
+      shown-suc s ds d p _ _ (record { inside = omega arith; map = sym m; after = sym (w .same) })
+      ∙ node-operator _ s ds p 0x11 _ (omega arith) (omega arith) (omega arith)
+      ∙ ap (λ x. behind (byte "o" ∷ decimal o) x) (operands-one _ (p + 2) (shows d a))
+  shows (suc d) {p} (a-binary {o = o} m w a b e) =
       let x = w .below in
-      shown-suc s d p _ _ (record { inside = omega arith; map = sym m; after = sym (w .same) })
-      ∙ node-operator _ s p 0x31 _ (omega arith) (omega arith) (omega arith)
-      ∙ ap (λ x. behind (byte "o" ∷ decimal o) x) (operands-two _ (p + 2) (shown-reads a) (shown-reads b))
-  shown-reads {p = p} (a-conditional {d = d} {o = o} m w c a b e) =
+      shown-suc s ds d p _ _ (record { inside = omega arith; map = sym m; after = sym (w .same) })
+      ∙ node-operator _ s ds p 0x31 _ (omega arith) (omega arith) (omega arith)
+      ∙ ap (λ x. behind (byte "o" ∷ decimal o) x) (operands-two _ (p + 2) (shows d a) (shows d b))
+  shows (suc d) {p} (a-conditional {o = o} m w q a b e) =
       let x = w .below in
       let z : o ≡ 10 = omega (arith, w .least, w .most) in
-      shown-suc s d p _ _ (record { inside = omega arith; map = sym m; after = sym (w .same) })
-      ∙ node-operator _ s p 0x71 _ (omega arith) (omega arith) (omega arith)
-      ∙ ap (λ x. behind (byte "o" ∷ decimal o) x) (operands-three _ (p + 2) (shown-reads c) (shown-reads a) (shown-reads b))
+      shown-suc s ds d p _ _ (record { inside = omega arith; map = sym m; after = sym (w .same) })
+      ∙ node-operator _ s ds p 0x71 _ (omega arith) (omega arith) (omega arith)
+      ∙ ap (λ x. behind (byte "o" ∷ decimal o) x) (operands-three _ (p + 2) (shows d q) (shows d a) (shows d b))
       ∙ rw z
+  shows (suc d) {p} (a-call {n = n} m h e l f es w) =
+      shown-suc s ds d p _ _ (record { inside = omega arith; map = sym m; after = sym e })
+      ∙ node-operator _ s ds p 0x80 _ (omega arith) (omega arith) (omega arith)
+      ∙ ap (λ (k : ℕ). behind (byte "f" ∷ decimal n) (operandsAt (shownAt d s ds) k (p + 2))) (counted n f)
+      ∙ ap (λ x. behind (byte "f" ∷ decimal n) x) (shown-all (λ i q r. shows d r) es)
 
-  pub text-reads : {p : ℕ} {q : Parsed Expr} → Reads ws s 16 p q → textAt s p ≡ showExpr (q .item)
+  pub shown-reads : {d p : ℕ} {q : Parsed Expr} → Reads c s d p q → shownAt d s ds p ≡ shown (q .next) (showExpr (q .item))
+  shown-reads {d = d} r = shows d r
+
+  pub text-reads : {p : ℕ} {q : Parsed Expr} → Reads c s 16 p q → textAt s ds p ≡ showExpr (q .item)
   unfolding textAt
   text-reads r = ap (λ x. x .text) (shown-reads r)
 

@@ -6,13 +6,17 @@ use mathlib.Core.List.{List, [], _∷_, _++_}
 use Rattle.values.specs.Edges.{edgeOf, edgeNumber}
 use Rattle.values.specs.Operators.{unaryWidth, binaryWidth}
 use Rattle.sheet.specs.Reading.{byteAt, within, word, wordOf, wordAt}
-use Rattle.sheet.specs.Expression.{kindOf, variableAt, node, readExpr, tree}
+use Rattle.sheet.specs.Expression.{variable, call, no-more, argument, nothing, kindOf, variableAt, node, readExpr, tree}
 use Rattle.sheet.specs.Statement.{size, isRegister, readTerms, narrow, narrowAll, formOf, assignment, form, readStmt}
-use Rattle.sheet.specs.Module.{readWidths, readHead, readWires, readThreads, readSheet, read}
+use Rattle.sheet.specs.Functions.{readWidths, readFunctions}
+use Rattle.sheet.specs.Module.{inputsOf, firstAt, functionCount, widthsAt, readHead, readWires, readThreads, wholeSheet, readSheet, read}
+use Rattle.sheet.specs.Parts.{least}
+use Rattle.pseudocode.specs.Skipping.{argumentCount}
 use Rattle.pseudocode.specs.Translation.{translate, threadCode}
 use Rattle.writing.specs.Ascii.{ascii, byte}
 use Rattle.writing.specs.Numbers.{digits, decimal}
-use Rattle.text.specs.Listing.{showExpr, showTerm, showTerms, showHead, showInstr, showLine, showCode, showThreads, showModule, listing, refusal, printed, output}
+use Rattle.text.specs.Listing.{showExpr, showAll, showTerm, showTerms, showHead, showInstr, showLine, showCode, showThreads, showModule, listing, refusal, printed, output}
+use Rattle.text.specs.Printing.{operandsOf, markOf, behind, operandsAt, nodeAt, shownAt, textAt}
 
 -- Lines, each ended by a line feed.
 unfoldable pub lines : List String → List ℕ
@@ -140,5 +144,13 @@ pub samples :
     ∷ []))
     × (output [] ≡ lines ("refused 2" ∷ []))
     × (output (0x00 ∷ []) ≡ lines ("refused 3" ∷ []))
-unfolding edgeOf edgeNumber unaryWidth binaryWidth byteAt within word wordOf wordAt kindOf variableAt node readExpr tree size isRegister readTerms narrow narrowAll formOf assignment form readStmt readWidths readHead readWires readThreads readSheet read translate threadCode ascii digits decimal showExpr showTerm showTerms showHead showInstr showLine showCode showThreads showModule listing refusal printed output lines
+unfolding edgeOf edgeNumber unaryWidth binaryWidth byteAt within word wordOf wordAt kindOf variableAt node readExpr tree size isRegister readTerms narrow narrowAll formOf assignment form readStmt readWidths readFunctions inputsOf firstAt functionCount widthsAt readHead readWires readThreads wholeSheet readSheet read translate threadCode ascii digits decimal showExpr showTerm showTerms showHead showInstr showLine showCode showThreads showModule listing refusal printed output lines
 samples = (refl, refl, refl, refl, refl, refl, refl)
+
+-- Document 02, [5]: "the listing prints `f` with the number before" the arguments: of the tree, and of bytes in which the definition
+-- of function 0 stands at byte 0, with two parameters, and a call of it at byte 1.
+pub sample-call :
+    (showExpr (call 0 8 (argument (variable 1) (argument (variable 2) no-more)) nothing) ≡ ascii "f0 v1 v2")
+    × (textAt (0x02 ∷ 0x80 ∷ 0x00 ∷ 0x02 ∷ 0x01 ∷ 0x02 ∷ 0x02 ∷ []) (0 ∷ []) 1 ≡ ascii "f0 v1 v2")
+unfolding ascii digits decimal showExpr showAll least argumentCount operandsOf markOf behind operandsAt nodeAt shownAt textAt
+sample-call = (refl, refl)

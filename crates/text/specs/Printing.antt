@@ -9,6 +9,8 @@ use Rattle.values.specs.Values.{pick}
 use Rattle.sheet.specs.declared.EdgeTerm.{EdgeTerm}
 use Rattle.sheet.specs.Reading.{Res, ok, no, wordOf}
 use Rattle.sheet.specs.Module.{Sheet}
+use Rattle.sheet.specs.Answers.{definitionsOf}
+use Rattle.pseudocode.specs.Skipping.{argumentCount}
 use Rattle.pseudocode.specs.Translation.{Instr, wait!, set!, later!, go, ifnot}
 use Rattle.pseudocode.specs.declared.EdgeTerms.{EdgeTerms}
 use Rattle.pseudocode.specs.declared.Action.{Action}
@@ -36,9 +38,14 @@ pub record Prints (q : Shown) (before : Text) (r : Printed) (after : List ℕ) :
   pub place : r .next ≡ q .next
   pub bytes : filled after (r .pos) ≡ puts before (q .text)
 
--- How many operands a map has: "4, 5, 6 operands".
-unfoldable pub operandsOf : ℕ → ℕ
-operandsOf m = pick (eqb m 0x11) 1 (pick (eqb m 0x31) 2 (pick (eqb m 0x71) 3 0))
+-- How many operands a map has, with the byte after it: "4, 5, 6 operands"; a call's by its function's definition, at the places ds.
+unfoldable pub operandsOf : List ℕ → List ℕ → ℕ → ℕ → ℕ
+operandsOf s ds m b =
+    pick (eqb m 0x11) 1 (pick (eqb m 0x31) 2 (pick (eqb m 0x71) 3 (pick (eqb m 0x80) (argumentCount s ds b) 0)))
+
+-- What stands before an operator's number, and before a function's: "the listing prints `f` with the number".
+unfoldable pub markOf : ℕ → ℕ
+markOf m = pick (eqb m 0x80) (byte "f") (byte "o")
 
 -- A text in front of what is shown.
 unfoldable pub behind : List ℕ → Shown → Shown
@@ -49,22 +56,22 @@ unfoldable pub operandsAt : (ℕ → Shown) → ℕ → ℕ → Shown
 operandsAt operand zero p = shown p []
 operandsAt operand (suc n) p = behind ([] ␣ operand p .text) (operandsAt operand n (operand p .next))
 
--- The node whose map stands at p, with the byte after it: variable, constant, unknown constant, operator.
-unfoldable pub nodeAt : (ℕ → Shown) → List ℕ → ℕ → ℕ → ℕ → Shown
-nodeAt operand s p m b =
+-- The node whose map stands at p, with the byte after it: variable, constant, unknown constant, operator or call.
+unfoldable pub nodeAt : (ℕ → Shown) → List ℕ → List ℕ → ℕ → ℕ → ℕ → Shown
+nodeAt operand s ds p m b =
     pick (eqb m 0x02) (shown (p + 2) (byte "v" ∷ decimal b))
     (pick (eqb m 0x0C) (shown (p + 6) (byte "c" ∷ (decimal b ++ (byte ":" ∷ decimal (wordOf s (p + 2))))))
     (pick (eqb m 0x04) (shown (p + 2) (byte "u" ∷ decimal b))
-    (behind (byte "o" ∷ decimal b) (operandsAt operand (operandsOf m) (p + 2)))))
+    (behind (markOf m ∷ decimal b) (operandsAt operand (operandsOf s ds m b) (p + 2)))))
 
 -- The expression at p, with so many levels left; nothing past the sheet's end.
-unfoldable pub shownAt : ℕ → List ℕ → ℕ → Shown
-shownAt zero s p = shown p []
-shownAt (suc d) s p = pick (ltb p (length s)) (nodeAt (shownAt d s) s p (getD s p 0) (getD s (p + 1) 0)) (shown p [])
+unfoldable pub shownAt : ℕ → List ℕ → List ℕ → ℕ → Shown
+shownAt zero s ds p = shown p []
+shownAt (suc d) s ds p = pick (ltb p (length s)) (nodeAt (shownAt d s ds) s ds p (getD s p 0) (getD s (p + 1) 0)) (shown p [])
 
 -- The text of the expression at a place. "Depth at most 16."
-unfoldable pub textAt : List ℕ → ℕ → List ℕ
-textAt s p = shownAt 16 s p .text
+unfoldable pub textAt : List ℕ → List ℕ → ℕ → List ℕ
+textAt s ds p = shownAt 16 s ds p .text
 
 -- ---- instructions
 
@@ -89,5 +96,5 @@ instrOf (Act a) = actionInstr a
 -- ---- the program's output, by the places of the expressions that the code keeps
 
 unfoldable pub printedAt : List ℕ → Res (Sheet ℕ) → List ℕ
-printedAt s (ok r) = showModule (textAt s) (r .contents)
+printedAt s (ok r) = showModule (textAt s (definitionsOf (r .definitions))) (r .contents)
 printedAt s (no n p) = refusal n

@@ -16,7 +16,7 @@ ghost use Rattle.pseudocode.specs.Instruction.{noTerm};
 ghost use Rattle.writing.specs.Numbers.{decimal};
 ghost use Rattle.writing.specs.Buffer.{filled, puts};
 ghost use Rattle.text.specs.Listing.{_␣_, showTerm, showTerms, showInstr, showLine, showHead, refusal};
-ghost use Rattle.text.specs.Printing.{Prints, operandsOf, operandsAt, shownAt, textAt};
+ghost use Rattle.text.specs.Printing.{Prints, operandsOf, markOf, operandsAt, shownAt, textAt};
 ghost use Rattle.text.specs.Printing.{allTerms, termList, actionInstr, instrOf};
 
 // What printing an expression gives: the next place in the sheet and the next position in the buffer.
@@ -45,43 +45,59 @@ pub fn print_refusal(number: u8, text: &mut [u8; 65536], pos: usize) -> usize
 
 // ---- expressions
 
-// How many operands a map has.
-fn operands_of(map: u8) -> u8
-    ensures { λ r. ⌜ r ≡ operandsOf map ⌝ }
+// How many operands a map has, with the byte after it.
+fn operands_of(sheet: &[u8], definitions: &[usize; 8], map: u8, b: u8) -> u8
+    ensures { λ r. ⌜ r ≡ operandsOf (now (sheet .entry)) (now (definitions .entry)) map b ⌝ }
 {
     match map {
         0x11 => 1,
         0x31 => 2,
         0x71 => 3,
+        0x80 => pseudocode::argument_count(sheet, definitions, b),
         _ => 0,
     }
+}
+
+// What stands before an operator's number, and before a function's.
+fn mark_of(map: u8) -> u8
+    ensures { λ r. ⌜ r ≡ markOf map ⌝ }
+{
+    if map == 0x80 { b'f' } else { b'o' }
 }
 
 // So many operands, each behind a space.
 fn print_operands(
     sheet: &[u8],
+    definitions: &[usize; 8],
     at: usize,
     depth: u8,
     n: u8,
     text: &mut [u8; 65536],
     pos: usize,
 ) -> Printed
-    ensures { λ r. ⌜ Prints (operandsAt (shownAt depth (now (sheet .entry))) n at)
+    ensures { λ r. ⌜ Prints (operandsAt (shownAt depth (now (sheet .entry)) (now (definitions .entry))) n at)
         (filled (now (text .entry)) pos) r (now (text .exit)) ⌝ }
 {
     if n == 0 {
         return Printed { next: at, pos };
     }
     let p = put_byte(b' ', text, pos);
-    let a = print_expr(sheet, at, depth, text, p);
+    let a = print_expr(sheet, definitions, at, depth, text, p);
     let next = a.next;
     let q = a.pos;
-    print_operands(sheet, next, depth, n - 1, text, q)
+    print_operands(sheet, definitions, next, depth, n - 1, text, q)
 }
 
 // The expression at a place of the sheet, with so many levels left.
-fn print_expr(sheet: &[u8], at: usize, depth: u8, text: &mut [u8; 65536], pos: usize) -> Printed
-    ensures { λ r. ⌜ Prints (shownAt depth (now (sheet .entry)) at)
+fn print_expr(
+    sheet: &[u8],
+    definitions: &[usize; 8],
+    at: usize,
+    depth: u8,
+    text: &mut [u8; 65536],
+    pos: usize,
+) -> Printed
+    ensures { λ r. ⌜ Prints (shownAt depth (now (sheet .entry)) (now (definitions .entry)) at)
         (filled (now (text .entry)) pos) r (now (text .exit)) ⌝ }
 {
     if depth == 0 {
@@ -115,21 +131,28 @@ fn print_expr(sheet: &[u8], at: usize, depth: u8, text: &mut [u8; 65536], pos: u
             pos: p,
         };
     }
-    let p = put_marked(b'o', b as usize, text, pos);
-    let n = operands_of(map);
-    print_operands(sheet, at + 2, depth - 1, n, text, p)
+    let p = put_marked(mark_of(map), b as usize, text, pos);
+    let n = operands_of(sheet, definitions, map, b);
+    print_operands(sheet, definitions, at + 2, depth - 1, n, text, p)
 }
 
 // ---- instructions
 
 // A number and the expression at a place, each behind a space.
-fn print_fields(sheet: &[u8], n: usize, at: usize, text: &mut [u8; 65536], pos: usize) -> usize
+fn print_fields(
+    sheet: &[u8],
+    definitions: &[usize; 8],
+    n: usize,
+    at: usize,
+    text: &mut [u8; 65536],
+    pos: usize,
+) -> usize
     ensures { λ r. ⌜ filled (now (text .exit)) r ≡
-        puts (filled (now (text .entry)) pos) ([] ␣ decimal n ␣ textAt (now (sheet .entry)) at) ⌝ }
+        puts (filled (now (text .entry)) pos) ([] ␣ decimal n ␣ textAt (now (sheet .entry)) (now (definitions .entry)) at) ⌝ }
 {
     let p = put_marked(b' ', n, text, pos);
     let q = put_byte(b' ', text, p);
-    let e = print_expr(sheet, at, 16, text, q);
+    let e = print_expr(sheet, definitions, at, 16, text, q);
     e.pos
 }
 
@@ -186,18 +209,24 @@ fn print_terms(t: EdgeTerms, text: &mut [u8; 65536], pos: usize) -> usize
 }
 
 // An instruction that runs: its word and fields.
-fn print_action(sheet: &[u8], action: Action, text: &mut [u8; 65536], pos: usize) -> usize
+fn print_action(
+    sheet: &[u8],
+    definitions: &[usize; 8],
+    action: Action,
+    text: &mut [u8; 65536],
+    pos: usize,
+) -> usize
     ensures { λ r. ⌜ filled (now (text .exit)) r ≡
-        puts (filled (now (text .entry)) pos) (showInstr (textAt (now (sheet .entry))) (actionInstr action)) ⌝ }
+        puts (filled (now (text .entry)) pos) (showInstr (textAt (now (sheet .entry)) (now (definitions .entry))) (actionInstr action)) ⌝ }
 {
     match action {
         Action::Set { target, at } => {
             let p = put_word(b"set", text, pos);
-            print_fields(sheet, target as usize, at, text, p)
+            print_fields(sheet, definitions, target as usize, at, text, p)
         }
         Action::Later { target, at } => {
             let p = put_word(b"later", text, pos);
-            print_fields(sheet, target as usize, at, text, p)
+            print_fields(sheet, definitions, target as usize, at, text, p)
         }
         Action::Go(goal) => {
             let p = put_word(b"go", text, pos);
@@ -205,7 +234,7 @@ fn print_action(sheet: &[u8], action: Action, text: &mut [u8; 65536], pos: usize
         }
         Action::IfNot { goal, at } => {
             let p = put_word(b"ifnot", text, pos);
-            print_fields(sheet, goal, at, text, p)
+            print_fields(sheet, definitions, goal, at, text, p)
         }
     }
 }
@@ -213,25 +242,27 @@ fn print_action(sheet: &[u8], action: Action, text: &mut [u8; 65536], pos: usize
 // An instruction: its word and fields.
 fn print_instruction(
     sheet: &[u8],
+    definitions: &[usize; 8],
     instruction: Instruction,
     text: &mut [u8; 65536],
     pos: usize,
 ) -> usize
     ensures { λ r. ⌜ filled (now (text .exit)) r ≡
-        puts (filled (now (text .entry)) pos) (showInstr (textAt (now (sheet .entry))) (instrOf instruction)) ⌝ }
+        puts (filled (now (text .entry)) pos) (showInstr (textAt (now (sheet .entry)) (now (definitions .entry))) (instrOf instruction)) ⌝ }
 {
     match instruction {
         Instruction::Wait(t) => {
             let p = put_word(b"wait", text, pos);
             print_terms(t, text, p)
         }
-        Instruction::Act(action) => print_action(sheet, action, text, pos),
+        Instruction::Act(action) => print_action(sheet, definitions, action, text, pos),
     }
 }
 
 // The line of an instruction, whose expression stands in the sheet.
 pub fn print_line(
     sheet: &[u8],
+    definitions: &[usize; 8],
     thread: usize,
     place: usize,
     instruction: Instruction,
@@ -239,11 +270,11 @@ pub fn print_line(
     pos: usize,
 ) -> usize
     ensures { λ r. ⌜ filled (now (text .exit)) r ≡
-        puts (filled (now (text .entry)) pos) (showLine (textAt (now (sheet .entry))) thread place (instrOf instruction)) ⌝ }
+        puts (filled (now (text .entry)) pos) (showLine (textAt (now (sheet .entry)) (now (definitions .entry))) thread place (instrOf instruction)) ⌝ }
 {
     let p = put_decimal(thread, text, pos);
     let q = put_marked(b' ', place, text, p);
     let w = put_byte(b' ', text, q);
-    let e = print_instruction(sheet, instruction, text, w);
+    let e = print_instruction(sheet, definitions, instruction, text, w);
     put_byte(b'\n', text, e)
 }

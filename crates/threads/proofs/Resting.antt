@@ -11,8 +11,8 @@ use native.Mathlib.Omega.{arith}
 use lib.ListN.{length, getD, set, length-set, replicate, length-replicate}
 use lib.Seq.{getD-set-other}
 use Rattle.sheet.specs.declared.EdgeTerm.{EdgeTerm}
-use Rattle.sheet.specs.Expression.{Expr}
-use Rattle.sheet.specs.Statement.{Scope, Stmt, empty, assign, later, sequence, ifThen, ifElse, while, forever, wait, size}
+use Rattle.sheet.specs.Expression.{Expr, Scope}
+use Rattle.sheet.specs.Statement.{Stmt, empty, assign, later, sequence, ifThen, ifElse, while, forever, wait, size}
 use Rattle.sheet.specs.Module.{Module}
 use Rattle.pseudocode.specs.Translation.{Instr, wait!, set!, later!, go, ifnot, translate, threadCode}
 use Rattle.pseudocode.proofs.Translation.{translate-size, threadCode-size}

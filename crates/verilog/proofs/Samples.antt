@@ -8,12 +8,13 @@ use Rattle.values.specs.Operators.{unaryWidth, binaryWidth}
 use Rattle.sheet.specs.Reading.{Res, ok, no, byteAt, within, word, wordOf, wordAt}
 use Rattle.sheet.specs.Expression.{Expr, kindOf, variableAt, node, readExpr, tree}
 use Rattle.sheet.specs.Statement.{size, isRegister, readTerms, narrow, narrowAll, formOf, assignment, form, readStmt}
-use Rattle.sheet.specs.Module.{Module, readWidths, readHead, readWires, readThreads, readSheet, read}
+use Rattle.sheet.specs.Functions.{readWidths, readFunctions}
+use Rattle.sheet.specs.Module.{Module, inputsOf, firstAt, functionCount, widthsAt, readHead, readWires, readThreads, wholeSheet, readSheet, read}
 use Rattle.writing.specs.Ascii.{ascii, byte}
 use Rattle.writing.specs.Numbers.{digits, decimal}
 use Rattle.naming.specs.Naming.{plainMark, plainNumber, plainName}
 use Rattle.signs.specs.Signs.{sign, constantText, unknownText}
-use Rattle.verilog.specs.Verilog.{indent, before, edgeText, rangeText, directionText, front, exprText, termText, termsText, sequenceText, stmtText, portText, portsText, wiresText, opening, remainder, openedText, threadText, threadsText, declarationText, declarationsText, moduleText, verilogText}
+use Rattle.verilog.specs.Verilog.{indent, before, edgeText, rangeText, directionText, front, exprText, termText, termsText, sequenceText, stmtText, portText, portsText, wiresText, opening, remainder, openedText, threadText, threadsText, declarationText, declarationsText, functionsText, moduleText, verilogText}
 
 -- Lines, each ended by a line feed.
 unfoldable pub lines : List String → List ℕ
@@ -181,5 +182,5 @@ pub samples :
     ∷ "  end"
     ∷ "endmodule"
     ∷ []))
-unfolding edgeOf unaryWidth binaryWidth byteAt within word wordOf wordAt kindOf variableAt node readExpr tree size isRegister readTerms narrow narrowAll formOf assignment form readStmt readWidths readHead readWires readThreads readSheet read ascii digits decimal plainMark plainNumber plainName sign constantText unknownText indent before edgeText rangeText directionText front exprText termText termsText sequenceText stmtText portText portsText wiresText opening remainder openedText threadText threadsText declarationText declarationsText moduleText verilogText lines textOf
+unfolding edgeOf unaryWidth binaryWidth byteAt within word wordOf wordAt kindOf variableAt node readExpr tree size isRegister readTerms narrow narrowAll formOf assignment form readStmt readWidths readFunctions inputsOf firstAt functionCount widthsAt readHead readWires readThreads wholeSheet readSheet read ascii digits decimal plainMark plainNumber plainName sign constantText unknownText indent before edgeText rangeText directionText front exprText termText termsText sequenceText stmtText portText portsText wiresText opening remainder openedText threadText threadsText declarationText declarationsText functionsText moduleText verilogText lines textOf
 samples = (refl, refl, refl, refl, refl)

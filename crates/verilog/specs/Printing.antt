@@ -1,5 +1,5 @@
 -- The same text over any bytes, as the code prints it; where the sheet was read, it is the module's (proofs/Printing.antt).
-use Prim.Native.Nat.{ℕ, zero, suc, _+_, _*_}
+use Prim.Native.Nat.{ℕ, zero, suc, _+_, _-_, _*_}
 use mathlib.Core.List.{List, [], _++_}
 use lib.ListN.{length, getD}
 use lib.Dec.{ltb, eqb}
@@ -7,11 +7,13 @@ use mathlib.Core.Bool.{Bool, true, false, _&&_}
 use Rattle.values.specs.Values.{pick, _is_then_else_}
 use Rattle.values.specs.Edges.{edgeOf}
 use Rattle.sheet.specs.Reading.{wordOf}
+use Rattle.pseudocode.specs.Skipping.{argumentCount}
 use Rattle.writing.specs.Ascii.{ascii}
+use Rattle.writing.specs.Numbers.{decimal}
 use Rattle.writing.specs.Buffer.{Text, filled, puts}
 use Rattle.signs.specs.Signs.{operands, lead, constantText, unknownText}
 use Rattle.verilog.specs.declared.Printed.{Printed}
-use Rattle.verilog.specs.Verilog.{_&_, indent, before, edgeText, portsText, declarationText}
+use Rattle.verilog.specs.Verilog.{_&_, indent, before, edgeText, portsText, declarationText, ownName, functionHead, functionEnd}
 
 -- ---- what is shown: a text, and the next place in the sheet
 
@@ -43,12 +45,20 @@ told r bytes = left (r .next) (filled bytes (r .pos))
 unfoldable pub leaves : Text → Shown → Left
 leaves t q = left (q .next) (puts t (q .text))
 
--- ---- operands
+-- ---- operands, and a call's arguments, whose operator is 11 and how many there are
+
+-- What stands in front of an operand, when n are still to come, this one among them.
+unfoldable pub leadAt : ℕ → ℕ → List ℕ
+leadAt o n = pick (ltb o 11) (lead o n) (before (ascii ", ") (o - 11 - n))
 
 -- n operands of operator o and the closing parenthesis. `operand` shows the one at a place.
 unfoldable pub operandsAt : (ℕ → Shown) → ℕ → ℕ → ℕ → Shown
 operandsAt operand o zero p = shown p (ascii ")")
-operandsAt operand o (suc n) p = behind (lead o (suc n) ++ operand p .text) (operandsAt operand o n (operand p .next))
+operandsAt operand o (suc n) p = behind (leadAt o (suc n) ++ operand p .text) (operandsAt operand o n (operand p .next))
+
+-- What stands in front of the first, by the node's map and the byte after it.
+unfoldable pub openingAt : ℕ → ℕ → List ℕ
+openingAt m b = m is 0x80 then (ascii "f" & decimal b & ascii "(") else ascii "("
 
 -- ---- a line with nothing from the sheet
 
@@ -101,26 +111,14 @@ bodiesAt stmt m n (suc k) p =
 unfoldable pub opensAt : List ℕ → ℕ → Bool
 opensAt s p = ltb p (length s) && eqb (shapeOf (getD s p 0) (getD s (p + 1) 0)) 0x1C
 
--- ---- the parts of a sheet s, by the names of its variables
+-- ---- a place that is within a sheet, or its end for one past it
+
+unfoldable pub inside : List ℕ → ℕ → ℕ
+inside s p = pick (ltb (length s) p) (length s) p
+
+-- ---- waits: a sheet s, by the names of its variables
 
 module _ (name : ℕ → List ℕ) (s : List ℕ) where
-  -- ---- expressions
-
-  -- The node whose map stands at p, with the byte after it: variable, constant, unknown constant, operator.
-  unfoldable pub nodeAt : (ℕ → Shown) → ℕ → ℕ → ℕ → Shown
-  nodeAt operand p m b =
-      m is 0x02 then shown (p + 2) (name b) else
-      m is 0x0C then shown (p + 6) (constantText b (wordOf s (p + 2))) else
-      m is 0x04 then shown (p + 2) (unknownText b) else
-      behind (ascii "(") (operandsAt operand b (operands b) (p + 2))
-
-  -- The expression at p, with so many levels left; nothing past the sheet's end.
-  unfoldable pub shownAt : ℕ → ℕ → Shown
-  shownAt zero p = shown p []
-  shownAt (suc d) p = pick (ltb p (length s)) (nodeAt (shownAt d) p (getD s p 0) (getD s (p + 1) 0)) (shown p [])
-
-  -- ---- statements
-
   -- The pair of a wait at p, which is the wait's kth.
   unfoldable pub termAt : ℕ → ℕ → List ℕ
   termAt k p = before (ascii " or ") k & edgeText (edgeOf (getD s p 0)) & name (getD s (p + 1) 0)
@@ -129,6 +127,46 @@ module _ (name : ℕ → List ℕ) (s : List ℕ) where
   unfoldable pub termsAt : ℕ → ℕ → ℕ → List ℕ
   termsAt zero k p = []
   termsAt (suc n) k p = termAt k p & termsAt n (k + 1) (p + 2)
+
+  -- A wait whose map stands at p, and a word behind it.
+  unfoldable pub waitAt : List ℕ → ℕ → ℕ → Shown
+  waitAt word n p =
+      let k = getD s (p + 1) 0 in
+      shown (p + 2 + 2 * k) (indent n & ascii "@(" & termsAt k 0 (p + 2) & word)
+
+  -- n variables from v on, with i inputs and r registers, the first variable's width at q.
+  unfoldable pub declarationsAt : ℕ → ℕ → ℕ → ℕ → ℕ → List ℕ
+  declarationsAt i r q zero v = []
+  declarationsAt i r q (suc n) v = declarationText name i r v (getD s (q + v) 0) & declarationsAt i r q n (v + 1)
+
+-- ---- how many operands a node has, and their operator, by its map and the byte after it; the functions' definitions stand at ds
+
+module _ (s ds : List ℕ) where
+  unfoldable pub countOf : ℕ → ℕ → ℕ
+  countOf m b = m is 0x80 then argumentCount s ds b else operands b
+
+  unfoldable pub operatorOf : ℕ → ℕ → ℕ
+  operatorOf m b = m is 0x80 then 11 + argumentCount s ds b else b
+
+-- ---- the parts of a sheet s whose functions' definitions stand at ds, by the names of its variables
+
+module _ (name : ℕ → List ℕ) (s ds : List ℕ) where
+  -- ---- expressions
+
+  -- The node whose map stands at p, with the byte after it: variable, constant, unknown constant, operator or call.
+  unfoldable pub nodeAt : (ℕ → Shown) → ℕ → ℕ → ℕ → Shown
+  nodeAt operand p m b =
+      m is 0x02 then shown (p + 2) (name b) else
+      m is 0x0C then shown (p + 6) (constantText b (wordOf s (p + 2))) else
+      m is 0x04 then shown (p + 2) (unknownText b) else
+      behind (openingAt m b) (operandsAt operand (operatorOf s ds m b) (countOf s ds m b) (p + 2))
+
+  -- The expression at p, with so many levels left; nothing past the sheet's end.
+  unfoldable pub shownAt : ℕ → ℕ → Shown
+  shownAt zero p = shown p []
+  shownAt (suc d) p = pick (ltb p (length s)) (nodeAt (shownAt d) p (getD s p 0) (getD s (p + 1) 0)) (shown p [])
+
+  -- ---- statements
 
   -- An assignment whose map stands at p.
   unfoldable pub assignAt : List ℕ → ℕ → ℕ → Shown
@@ -142,12 +180,6 @@ module _ (name : ℕ → List ℕ) (s : List ℕ) where
       let e = shownAt 16 (p + 1) in
       shown (e .next) (indent n & word & e .text & ascii ") begin\n")
 
-  -- A wait whose map stands at p, and a word behind it.
-  unfoldable pub waitAt : List ℕ → ℕ → ℕ → Shown
-  waitAt word n p =
-      let k = getD s (p + 1) 0 in
-      shown (p + 2 + 2 * k) (indent n & ascii "@(" & termsAt k 0 (p + 2) & word)
-
   -- What stands in front of a statement's first body: of a statement without a body all of it. It stands at p, its shape is m.
   unfoldable pub headingAt : ℕ → ℕ → ℕ → Shown
   headingAt n p m =
@@ -155,13 +187,13 @@ module _ (name : ℕ → List ℕ) (s : List ℕ) where
       m is 0x03 then assignAt (ascii " = ") n p else
       m is 0x23 then assignAt (ascii " <= ") n p else
       m is 0x0C then shown (p + 1) [] else
-      m is 0x1C then waitAt (ascii ") begin\n") n (p + 1) else
+      m is 0x1C then waitAt name s (ascii ") begin\n") n (p + 1) else
       m is 0x2C then wordAt (ascii "begin\n") n p else
       m is 0x06 then conditionAt (ascii "if (") n p else
       m is 0x0E then conditionAt (ascii "if (") n p else
       m is 0x46 then conditionAt (ascii "while (") n p else
       m is 0x44 then wordAt (ascii "forever begin\n") n p else
-      m is 0x10 then waitAt (ascii ");\n") n p else
+      m is 0x10 then waitAt name s (ascii ");\n") n p else
       shown p []
 
   -- The statement at p, n levels in, whose shape is m.
@@ -176,11 +208,6 @@ module _ (name : ℕ → List ℕ) (s : List ℕ) where
   stmtAt (suc d) n p = pick (ltb p (length s)) (formAt (stmtAt d) n p (shapeOf (getD s p 0) (getD s (p + 1) 0))) (shown p [])
 
   -- ---- the module's parts
-
-  -- n variables from v on, with i inputs and r registers, their widths from byte 4 on.
-  unfoldable pub declarationsAt : ℕ → ℕ → ℕ → ℕ → List ℕ
-  declarationsAt i r zero v = []
-  declarationsAt i r (suc n) v = declarationText name i r v (getD s (4 + v) 0) & declarationsAt i r n (v + 1)
 
   -- The assignment of wire v, whose expression stands at p.
   unfoldable pub wireAt : ℕ → ℕ → Shown
@@ -201,7 +228,7 @@ module _ (name : ℕ → List ℕ) (s : List ℕ) where
 
   unfoldable pub waitingAt : ℕ → Shown
   waitingAt p =
-      let w = waitAt (ascii ") begin\n") 0 (p + 1) in
+      let w = waitAt name s (ascii ") begin\n") 0 (p + 1) in
       let a = stmtAt 63 2 (w .next) in
       shown (a .next) (ascii "  always " & w .text & a .text & ascii "  end\n")
 
@@ -213,13 +240,39 @@ module _ (name : ℕ → List ℕ) (s : List ℕ) where
   threadsAt zero p = shown p []
   threadsAt (suc n) p = behind (threadAt p .text) (threadsAt n (threadAt p .next))
 
-  -- The module with i inputs, r registers, w wires and t threads.
-  unfoldable pub moduleAt : ℕ → ℕ → ℕ → ℕ → List ℕ
-  moduleAt i r w t =
+-- ---- functions: the definition of function n at p; nothing past the sheet's end
+
+module _ (s ds : List ℕ) where
+  -- With k parameters.
+  unfoldable pub definitionOf : ℕ → ℕ → ℕ → Shown
+  definitionOf n p k =
+      let a = stmtAt (ownName k) s ds 64 2 (p + 2 + k) in
+      shown (a .next)
+      (functionHead n (getD s (p + 1 + k) 0)
+      & declarationsAt (ownName k) s k 1 (p + 1) (k + 1) 0
+      & ascii "  begin\n"
+      & a .text
+      & functionEnd n)
+
+  unfoldable pub definitionAt : ℕ → ℕ → Shown
+  definitionAt n p = pick (ltb p (length s)) (definitionOf n p (getD s p 0)) (shown p [])
+
+  -- m functions, the first function n with its definition at p.
+  unfoldable pub definitionsAt : ℕ → ℕ → ℕ → Shown
+  definitionsAt zero n p = shown p []
+  definitionsAt (suc m) n p = behind (definitionAt n p .text) (definitionsAt m (n + 1) (definitionAt n p .next))
+
+-- ---- the module with i inputs, r registers, w wires, t threads and f functions, the first variable's width at q
+
+module _ (name : ℕ → List ℕ) (s ds : List ℕ) where
+  unfoldable pub moduleAt : ℕ → ℕ → ℕ → ℕ → ℕ → ℕ → List ℕ
+  moduleAt i r w t f q =
       let n = i + r + w in
-      let es = wiresAt w (i + r) (4 + n) in
+      let fs = definitionsAt s ds f 0 (q + n) in
+      let es = wiresAt name s ds w (i + r) (fs .next) in
       ascii "module walbryts (" & portsText name i 0 & ascii ");\n"
-      & declarationsAt i r n 0
+      & declarationsAt name s i r q n 0
+      & fs .text
       & es .text
-      & threadsAt t (es .next) .text
+      & threadsAt name s ds t (es .next) .text
       & ascii "endmodule\n"

@@ -20,20 +20,21 @@
 -- A thread that can come round without a wait is text that Icarus refuses or never leaves; extraction refuses it too (17).
 use Prim.Native.Nat.{ℕ, zero, suc, _+_, _-_, _*_}
 use mathlib.Core.List.{List, [], _∷_, _++_}
-use lib.ListN.{replicate}
+use lib.ListN.{length, replicate}
 use lib.Dec.{ltb}
 use Rattle.values.specs.Values.{pick, _is_then_else_}
 use Rattle.values.specs.declared.Edge.{Edge}
 use Rattle.values.specs.declared.Edge.the-variants.{Change, Posedge, Negedge}
 use Rattle.sheet.specs.declared.EdgeTerm.{EdgeTerm}
 use Rattle.sheet.specs.Reading.{Res, ok, no}
-use Rattle.sheet.specs.Expression.{Expr, variable, constant, unknown, unary, binary, conditional, call, Arguments, no-more, argument}
+use Rattle.sheet.specs.Expression.{Expr, variable, constant, unknown, unary, binary, conditional, call, Arguments, no-more, argument, Body, nothing, result, inTurn, Function}
+use Rattle.sheet.specs.Expression as Tree
 use Rattle.sheet.specs.Statement.{Stmt, empty, assign, later, sequence, ifThen, ifElse, while, forever, wait}
 use Rattle.sheet.specs.Module.{Module, read}
 use Rattle.writing.specs.Ascii.{ascii, byte}
 use Rattle.writing.specs.Numbers.{decimal}
 use Rattle.writing.specs.Buffer.{Text, filled, puts}
-use Rattle.naming.specs.Naming.{plainName, nameOf}
+use Rattle.naming.specs.Naming.{plainName, plainTable, nameOf}
 use Rattle.signs.specs.Signs.{sign, constantText, unknownText}
 
 infixr 60 _&_
@@ -217,13 +218,54 @@ module _ (name : ℕ → List ℕ) where
   declarationsText i r v [] = []
   declarationsText i r v (w ∷ ws) = declarationText i r v w & declarationsText i r (v + 1) ws
 
+-- ---- functions
+
+-- A body as the statement that it is, with k parameters: "the next byte the result, the only target".
+unfoldable pub statementOf : ℕ → Body → Stmt Expr
+statementOf k nothing = empty
+statementOf k (result e) = assign k e
+statementOf k (inTurn a b) = sequence (statementOf k a) (statementOf k b)
+statementOf k (Tree.ifThen e a) = ifThen e (statementOf k a)
+statementOf k (Tree.ifElse e a b) = ifElse e (statementOf k a) (statementOf k b)
+
+-- Its variables are named as those of a module with k inputs and one register: the parameters i0, .. and the result r0.
+unfoldable pub ownName : ℕ → ℕ → List ℕ
+ownName k = nameOf (plainTable k 1)
+
+-- The first line of function n, with a result of width w, and its last lines.
+unfoldable pub functionHead : ℕ → ℕ → List ℕ
+functionHead n w = ascii "  function automatic " & rangeText w & ascii "f" & decimal n & ascii ";\n"
+
+unfoldable pub functionEnd : ℕ → List ℕ
+functionEnd n = ascii "    f" & decimal n & ascii " = r0;\n  end\n  endfunction\n"
+
+-- Its result "starts unknown": a variable of an automatic function is x when a call begins (IEEE 1364, automatic functions), so that no
+-- statement says it.
+unfoldable pub functionText : ℕ → Function → List ℕ
+functionText n f =
+    let k = length (f .parameters) in
+    functionHead n (f .result)
+    & declarationsText (ownName k) k 1 0 (f .parameters ++ (f .result ∷ []))
+    & ascii "  begin\n"
+    & stmtText (ownName k) 2 (statementOf k (f .body))
+    & functionEnd n
+
+-- The functions from the nth on.
+unfoldable pub functionsText : ℕ → List Function → List ℕ
+functionsText n [] = []
+functionsText n (f ∷ fs) = functionText n f & functionsText (n + 1) fs
+
+-- ---- the module
+
+module _ (name : ℕ → List ℕ) where
   unfoldable pub moduleText : Module Expr → List ℕ
   moduleText m =
       let c = m .scope in
-      ascii "module walbryts (" & portsText (c .inputs) 0 & ascii ");\n"
-      & declarationsText (c .inputs) (c .registers) 0 (c .widths)
-      & wiresText (c .inputs + c .registers) (m .wires)
-      & threadsText (m .threads)
+      ascii "module walbryts (" & portsText name (c .inputs) 0 & ascii ");\n"
+      & declarationsText name (c .inputs) (c .registers) 0 (c .widths)
+      & functionsText 0 (c .functions)
+      & wiresText name (c .inputs + c .registers) (m .wires)
+      & threadsText name (m .threads)
       & ascii "endmodule\n"
 
 -- ---- verilogText: the module with plain names, i0.., r0.., w0..

@@ -4,16 +4,17 @@ use mathlib.Core.Path.{_≡_, refl, subst, subst⁻¹}
 use mathlib.Core.List.{List, [], _∷_, _++_, map}
 use Prim.Native.Nat.{ℕ, zero, suc, _+_, _≤_, _<_}
 use native.Mathlib.Omega.{arith}
-use lib.ListN.{length, length-map}
-use borrow.Author.Tests.{eq-eqb, le-leb, lt-leb}
+use lib.ListN.{length, getD, length-map}
+use borrow.Author.Tests.{eq-eqb, lt-ltb, le-leb, lt-leb}
 use Rattle.sheet.specs.Reading.{Res, ok, no, _>>=_}
-use Rattle.sheet.specs.Expression.{Expr, tree}
-use Rattle.sheet.specs.Statement.{Stmt, Scope, Body, aSequence, anIf, anIfElse, aWhile, aForever, form, readStmt, size}
-use Rattle.sheet.specs.Module.{Module, Head, readThreads, readSheet, read}
+use Rattle.sheet.specs.Expression.{Expr, tree, Scope}
+use Rattle.sheet.specs.Statement.{Stmt, Body, aSequence, anIf, anIfElse, aWhile, aForever, form, readStmt, size}
+use Rattle.sheet.specs.Functions.{readFunctions}
+use Rattle.sheet.specs.Module.{Module, Head, readThreads, wholeSheet, readSheet, read}
 use Rattle.sheet.proofs.Reading.{byte-at}
 use Rattle.sheet.proofs.Statements.{ReadsStmt, an-empty, an-assign, a-later, a-sequence, an-if, an-if-else, a-while, a-forever, a-wait, formMap, accept-form, accept-stmt}
 use Rattle.encoding.specs.Encoding.{encodeStmt, encodeWires, encodeThreads, encode}
-use Rattle.encoding.specs.WellFormed.{ThreadsFit, WellFormed}
+use Rattle.encoding.specs.WellFormed.{WiresFit, ThreadsFit, WellFormed}
 use Rattle.encoding.proofs.Spelling.{Spells, spells-self, spells-split}
 use Rattle.encoding.proofs.Statements.{spells-stmt}
 use Rattle.encoding.proofs.Module.{headBytes, HeadFits, head-at, wires-at}
@@ -85,16 +86,18 @@ unfolding read readSheet
 too-long s h = rw (lt-leb (length s) 8192 h) refl
 
 sheet-less : (m : Module Expr) → WellFormed m → (s : List ℕ) → encode (returnedModule m) ≡ s → length s ≤ 8192
-    → (b : ℕ) × OrSeven (record { contents = returnedModule m; body = b }) (readSheet (tree s) s)
-unfolding readSheet encode headBytes returnedModule
+    → (b : ℕ) × OrSeven (record { contents = returnedModule m; definitions = []; body = b }) (readSheet (tree s) s)
+unfolding readFunctions wholeSheet readSheet encode headBytes returnedModule
 sheet-less m f s e short =
     let i = m .scope .inputs in
     let r = m .scope .registers in
     let ws = m .scope .widths in
     let bs = map returned (m .threads) in
+    let c : Scope = record { inputs = i; registers = r; widths = ws; declared = 0; functions = [] } in
+    let same : m .scope ≡ c = λ j. record { inputs = i; registers = r; widths = ws; declared = f .plain .0 j; functions = f .plain .1 j } in
     let h : Head =
     record {
-      scope = m .scope;
+      scope = c;
       wires = length (m .wires);
       threads = length bs;
       next = 4 + (i + r + length (m .wires));
@@ -103,6 +106,7 @@ sheet-less m f s e short =
     let l = length-map (m .threads) returned in
     let a = f .threads .0 in
     let b = f .threads .1 in
+    let most = f .inputs .1 in
     let fits : HeadFits h =
     record {
       inputs = f .inputs;
@@ -114,17 +118,26 @@ sheet-less m f s e short =
       clock = f .clock;
     }
     in
+    let first : getD s 0 0 < 128 = subst (λ (x : List ℕ). getD x 0 0 < 128) e (omega arith) in
     let whole : Spells s 0 (encode (returnedModule m)) (length s) = subst⁻¹ (λ (x : List ℕ). Spells s 0 x (length s)) e (spells-self s) in
     let z = spells-split (headBytes h ++ encodeWires (m .wires)) (encodeThreads bs) whole in
     let y = spells-split (headBytes h) (encodeWires (m .wires)) (z .0) in
-    let n : 0 + length (headBytes h) ≡ 4 + (i + r + length (m .wires)) = omega (arith, f .variables) in (
-      0 + length (headBytes h ++ encodeWires (m .wires)),
-      rw (
-        le-leb (length s) 8192 short,
-        head-at s i r (length (m .wires)) (length bs) ws fits (rw n at (y .0)),
-        wires-at (m .scope) (i + r) (m .wires) (f .wired) (rw n at (y .1)),
-      )
-          (then-or _ (threads-less (m .scope) s (m .threads) (f .threaded) (z .1)) (rw (eq-eqb (length s) (length s) refl) fine)),
+    let n : 0 + length (headBytes h) ≡ 4 + (i + r + length (m .wires)) = omega (arith, f .variables) in
+    let body = 0 + length (headBytes h ++ encodeWires (m .wires)) in
+    let wired = subst (λ (k : Scope). WiresFit k (i + r) (m .wires)) same (f .wired) in
+    let threaded = subst (λ (k : Scope). ThreadsFit k (m .threads)) same (f .threaded) in
+    let made : OrSeven (record { contents = record { scope = c; wires = m .wires; threads = bs }; definitions = []; body = body })
+    (readSheet (tree s) s) =
+    rw (
+      le-leb (length s) 8192 short,
+      lt-ltb (getD s 0 0) 128 first,
+      head-at s i r (length (m .wires)) (length bs) ws fits (rw n at (y .0)),
+      wires-at c (i + r) (m .wires) wired (rw n at (y .1)),
+    )
+    (then-or _ (threads-less c s (m .threads) threaded (z .1)) (rw (eq-eqb (length s) (length s) refl) fine)) in (
+      body,
+      subst⁻¹ (λ (k : Scope). OrSeven (record { contents = record { scope = k; wires = m .wires; threads = bs }; definitions = []; body = body })
+          (readSheet (tree s) s)) same made,
     )
 
 pub too-deep : (m : Module Expr) → WellFormed m → length (encode (returnedModule m)) ≤ 8192 → (n p : ℕ)

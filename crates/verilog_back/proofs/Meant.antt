@@ -10,8 +10,8 @@ use borrow.Author.Tests.{le-leb}
 use Rattle.values.specs.declared.Edge.{Edge}
 use Rattle.values.specs.declared.Edge.the-variants.{Change, Posedge, Negedge}
 use Rattle.sheet.specs.declared.EdgeTerm.{EdgeTerm}
-use Rattle.sheet.specs.Expression.{Expr, variable, constant, unknown, unary, binary, conditional, call}
-use Rattle.sheet.specs.Statement.{Stmt, empty, assign as assigns, later, sequence, ifThen, ifElse, while, forever, wait, Scope}
+use Rattle.sheet.specs.Expression.{Expr, variable, constant, unknown, unary, binary, conditional, call, Scope}
+use Rattle.sheet.specs.Statement.{Stmt, empty, assign as assigns, later, sequence, ifThen, ifElse, while, forever, wait}
 use Rattle.encoding.specs.Encoding.{encodeExpr, encodeStmt}
 use Rattle.encoding.specs.WellFormed.{WellTyped, IsTarget, IsAssignment, PairsFit, WellBuilt}
 use Rattle.verilog_grammar.specs.AnnexA.{Statement, block, Statements, none, more}
@@ -67,7 +67,7 @@ module _ (called : ℕ → List ℕ) where
   module _ (index : List ℕ → ℕ) (c : Scope) (right : (v : ℕ) → v < length (c .widths) → index (called v) ≡ v) where
     -- ---- expressions
 
-    pub expr-meant : (k : ℕ) (e : Expr) (w : ℕ) → WellTyped (c .widths) k e w → (d : InExpr e)
+    pub expr-meant : (k : ℕ) (e : Expr) (w : ℕ) → WellTyped c k e w → (d : InExpr e)
         → encodeExpr (primaryOf index (primaryTree called e d)) ≡ encodeExpr e
     unfolding WellTyped primaryTree primaryOf exprOf encodeExpr numberExpr
     expr-meant zero e w t d = absurd t
@@ -79,7 +79,7 @@ module _ (called : ℕ → List ℕ) where
         rw (binary-number o (t .0 .0) (t .0 .1), expr-meant k a l (t .1) (d .0), expr-meant k b l (t .2) (d .1)) refl
     expr-meant (suc k) (conditional b x y) w t d =
         rw (expr-meant k b (t .0 .0) (t .0 .1) (d .0), expr-meant k x w (t .1) (d .1), expr-meant k y w (t .2) (d .2)) refl
-    expr-meant (suc k) (call n l ys b) w t d = absurd t
+    expr-meant (suc k) (call n l ys b) w t d = absurd d
 
     -- ---- waits
 

@@ -7,8 +7,8 @@ use native.Mathlib.Omega.{arith}
 use lib.ListN.{length, getD}
 use Rattle.sheet.specs.declared.EdgeTerm.{EdgeTerm}
 use Rattle.sheet.specs.Reading as Sheet
-use Rattle.sheet.specs.Expression.{Expr, variable, constant, unknown, unary, binary, conditional, call}
-use Rattle.sheet.specs.Statement.{Stmt, empty, assign, later, sequence, ifThen, ifElse, while, forever, wait, Scope}
+use Rattle.sheet.specs.Expression.{Expr, variable, constant, unknown, unary, binary, conditional, call, Scope}
+use Rattle.sheet.specs.Statement.{Stmt, empty, assign, later, sequence, ifThen, ifElse, while, forever, wait}
 use Rattle.sheet.specs.Module.{Module, read}
 use Rattle.encoding.specs.Encoding.{Bytes}
 use Rattle.encoding.specs.WellFormed.{WellTyped, IsTarget, IsAssignment, PairsFit, WellBuilt, WiresFit, ThreadsFit, WellFormed}
@@ -20,8 +20,8 @@ use Rattle.verilog.specs.Verilog.{Front, waiting, nesting, single, front, openi
 use Rattle.verilog_back.specs.Claims.{PlainlyPrinted}
 
 module _ (f g : ℕ → List ℕ) (c : Scope) (same : (v : ℕ) → v < length (c .widths) → f v ≡ g v)
-    (bound : c .inputs + c .registers ≤ length (c .widths)) where
-  expr-same : (k : ℕ) (e : Expr) (w : ℕ) → WellTyped (c .widths) k e w → exprText f e ≡ exprText g e
+    (bound : c .inputs + c .registers ≤ length (c .widths)) (none : c .declared ≡ 0) where
+  expr-same : (k : ℕ) (e : Expr) (w : ℕ) → WellTyped c k e w → exprText f e ≡ exprText g e
   unfolding WellTyped exprText
   expr-same zero e w t = absurd t
   expr-same (suc k) (variable v) w t = same v (t .0)
@@ -31,7 +31,7 @@ module _ (f g : ℕ → List ℕ) (c : Scope) (same : (v : ℕ) → v < length (
   expr-same (suc k) (binary o l a b) w t = rw (expr-same k a l (t .1), expr-same k b l (t .2)) refl
   expr-same (suc k) (conditional b x y) w t =
       rw (expr-same k b (t .0 .0) (t .0 .1), expr-same k x w (t .1), expr-same k y w (t .2)) refl
-  expr-same (suc k) (call n l ys b) w t = absurd t
+  expr-same (suc k) (call n l ys b) w t = absurd (omega (arith, none, t .0))
 
   terms-same : (k : ℕ) (ts : List EdgeTerm) → PairsFit (c .widths) ts → termsText f k ts ≡ termsText g k ts
   unfolding termsText termText PairsFit
@@ -125,7 +125,7 @@ module _ (f g : ℕ → List ℕ) (c : Scope) (same : (v : ℕ) → v < length (
 
   -- ---- the module's other parts
 
-  wires-same : (v : ℕ) (es : List Expr) → WiresFit (c .widths) v es → v + length es ≤ length (c .widths)
+  wires-same : (v : ℕ) (es : List Expr) → WiresFit c v es → v + length es ≤ length (c .widths)
       → wiresText f v es ≡ wiresText g v es
   unfolding WiresFit wiresText
   wires-same v [] t l = refl
@@ -149,11 +149,12 @@ module-same f g m w same =
     let c = m .scope in
     let n = w .variables in
     let bound : c .inputs + c .registers ≤ length (c .widths) = omega arith in
+    let none = w .plain .0 in
     rw (
-      ports-same f g c same bound (c .inputs) 0 (omega arith),
-      declarations-same f g c same bound (c .inputs) (c .registers) 0 (c .widths) (omega arith),
-      wires-same f g c same bound (c .inputs + c .registers) (m .wires) (w .wired) (omega arith),
-      threads-same f g c same bound (m .threads) (w .threaded),
+      ports-same f g c same bound none (c .inputs) 0 (omega arith),
+      declarations-same f g c same bound none (c .inputs) (c .registers) 0 (c .widths) (omega arith),
+      wires-same f g c same bound none (c .inputs + c .registers) (m .wires) (w .wired) (omega arith),
+      threads-same f g c same bound none (m .threads) (w .threaded),
     )
     refl
 

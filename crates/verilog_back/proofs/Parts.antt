@@ -9,8 +9,8 @@ use lib.Dec.{ltb, eqb}
 use lib.ListN.{length}
 use borrow.Author.Tests.{lt-ltb, le-ltb, ltb-true, ltb-false, eqb-true}
 use Rattle.values.specs.Values.{pick}
-use Rattle.sheet.specs.Expression.{Expr}
-use Rattle.sheet.specs.Statement.{Stmt, Scope}
+use Rattle.sheet.specs.Expression.{Expr, Scope}
+use Rattle.sheet.specs.Statement.{Stmt}
 use Rattle.encoding.specs.Encoding.{encodeExpr, encodeWires, encodeThreads}
 use Rattle.encoding.specs.WellFormed.{AreWidths, WiresFit, ThreadsFit}
 use Rattle.naming.specs.Naming.{sameText}
@@ -279,7 +279,7 @@ module _ (called : ℕ → List ℕ) where
             rw (e, f) (different called (length (c .widths)) distinct v u (omega arith) (omega arith) (λ q. omega arith)) in
             rw (q, skipped v (u + 1) t a ds vs e r (omega arith) m) refl
 
-        pub wires-written : (v : ℕ) (es : List Expr) (d : Each InWire es) (vs : List Variable) → WiresFit (c .widths) v es
+        pub wires-written : (v : ℕ) (es : List Expr) (d : Each InWire es) (vs : List Variable) → WiresFit c v es
             → Row called v (map nameOf vs) (v + length es) → v + length es ≤ length (c .widths)
             → writtenWires (drivenBy v es d) vs ≡ encodeWires es
         unfolding WiresFit drivenBy writtenWires encodeWires exprOf nameOf

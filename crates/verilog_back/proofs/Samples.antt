@@ -11,7 +11,7 @@ use Rattle.writing.specs.Ascii.{ascii}
 use Rattle.writing.specs.Numbers.{digits, decimal}
 use Rattle.naming.specs.Naming.{plainMark, plainNumber, plainName}
 use Rattle.signs.specs.Signs.{sign}
-use Rattle.verilog.specs.Verilog.{indent, before, edgeText, rangeText, directionText, front, exprText, termText, termsText, sequenceText, stmtText, portText, portsText, wiresText, opening, remainder, openedText, threadText, threadsText, declarationText, declarationsText, moduleText, verilogText}
+use Rattle.verilog.specs.Verilog.{indent, before, edgeText, rangeText, directionText, front, exprText, termText, termsText, sequenceText, stmtText, portText, portsText, wiresText, opening, remainder, openedText, threadText, threadsText, declarationText, declarationsText, functionsText, moduleText, verilogText}
 use Rattle.verilog_tokens.specs.Tokens.{tokens}
 use Rattle.verilog_grammar.specs.Reader.{readModule}
 use Rattle.verilog_source.specs.Compiled.{unnumbered, partsOf, sheetOf}
@@ -20,7 +20,7 @@ use Rattle.verilog_source.proofs.Samples.{opened}
 -- A module's printed text, with every definition open that makes it and reads it.
 unfoldable printed : Module Expr → List ℕ
 unfolding opened ascii digits decimal plainMark plainNumber plainName sign indent before edgeText rangeText directionText front exprText
-    termText termsText sequenceText stmtText portText portsText wiresText opening remainder openedText threadText threadsText declarationText declarationsText moduleText
+    termText termsText sequenceText stmtText portText portsText wiresText opening remainder openedText threadText threadsText declarationText declarationsText functionsText moduleText
     verilogText
 printed m = verilogText m
 
@@ -33,7 +33,7 @@ comes m bytes = sheetOf (tokens (verilogText m)) (partsOf (readModule unnumbered
 flipFlop : Module Expr
 flipFlop =
     record {
-      scope = record { inputs = 2; registers = 1; widths = 1 ∷ 8 ∷ 8 ∷ [] };
+      scope = record { inputs = 2; registers = 1; widths = 1 ∷ 8 ∷ 8 ∷ []; declared = 0; functions = [] };
       wires = [];
       threads = sequence (wait (record { edge = Posedge; variable = 0 } ∷ [])) (later 2 (variable 1)) ∷ [];
     }
@@ -48,7 +48,7 @@ flip-flop-back = refl
 toggles : Module Expr
 toggles =
     record {
-      scope = record { inputs = 1; registers = 1; widths = 1 ∷ 1 ∷ [] };
+      scope = record { inputs = 1; registers = 1; widths = 1 ∷ 1 ∷ []; declared = 0; functions = [] };
       wires = [];
       threads = sequence (later 1 (unary 1 1 (variable 1))) (wait (record { edge = Posedge; variable = 0 } ∷ [])) ∷ [];
     }

@@ -8,8 +8,8 @@ use native.Mathlib.Omega.{arith}
 use lib.ListN.{length, take, drop, length-map}
 use lib.Seq.{take-at, drop-at}
 use Rattle.values.specs.Values.{pick}
-use Rattle.sheet.specs.Expression.{Expr, tree}
-use Rattle.sheet.specs.Statement.{Stmt, empty, assign, later, sequence, ifThen, ifElse, while, forever, wait, Scope, Body}
+use Rattle.sheet.specs.Expression.{Expr, tree, Scope}
+use Rattle.sheet.specs.Statement.{Stmt, empty, assign, later, sequence, ifThen, ifElse, while, forever, wait, Body}
 use Rattle.sheet.specs.Module.{Module, Listed}
 use Rattle.sheet.proofs.Reading.{ok-injective}
 use Rattle.sheet.proofs.Statements.{accept-stmt}
@@ -110,6 +110,7 @@ fits-formed m f h =
       registers = f .registers;
       wires = f .wires;
       threads = (omega arith, omega arith);
+      plain = f .plain;
       variables = f .variables;
       widths = f .widths;
       clock = f .clock;
@@ -159,7 +160,7 @@ same-threads c (b ∷ bs) (d ∷ ds) h l n e =
     let y = same-threads c bs ds (h .1) (l .1) (omega arith) (x .1) in
     ap (λ (z : Stmt Expr). z ∷ bs) (x .0) ∙ ap (λ (z : List (Stmt Expr)). d ∷ z) y
 
-same-wires : (c : Scope) (v : ℕ) (es ds : List Expr) (x y : List ℕ) → WiresFit (c .widths) v es → WiresFit (c .widths) v ds
+same-wires : (c : Scope) (v : ℕ) (es ds : List Expr) (x y : List ℕ) → WiresFit c v es → WiresFit c v ds
     → length es ≡ length ds → encodeWires es ++ x ≡ encodeWires ds ++ y → (es ≡ ds) × (x ≡ y)
 same-wires c v es ds x y h l n e =
     let s = encodeWires es ++ x in
@@ -177,9 +178,9 @@ module-same : (a b : Scope) (es fs : List Expr) (bs ds : List (Stmt Expr)) → a
     → _≡_ {A = Module Expr} (record { scope = a; wires = es; threads = bs }) (record { scope = b; wires = fs; threads = ds })
 module-same a b es fs bs ds p q r = cc
 
-scope-same : (i j r q : ℕ) (ws us : List ℕ) → i ≡ j → r ≡ q → ws ≡ us
-    → _≡_ {A = Scope} (record { inputs = i; registers = r; widths = ws }) (record { inputs = j; registers = q; widths = us })
-scope-same i j r q ws us a b c = cc
+scope-same : (a b : Scope) → a .inputs ≡ b .inputs → a .registers ≡ b .registers → a .widths ≡ b .widths → a .declared ≡ b .declared
+    → a .functions ≡ b .functions → a ≡ b
+scope-same a b i r w d f = λ j. record { inputs = i j; registers = r j; widths = w j; declared = d j; functions = f j }
 
 parted : (ws us x y : List ℕ) → length ws ≡ length us → ws ++ x ≡ us ++ y → (ws ≡ us) × (x ≡ y)
 parted ws us x y n e = (
@@ -202,9 +203,9 @@ only-returned m d f g e =
     let a = f .variables in
     let b = g .variables in
     let p = parted (k .widths) (c .widths) _ _ (omega arith) z' in
-    let same : k ≡ c = scope-same (k .inputs) (c .inputs) (k .registers) (c .registers) (k .widths) (c .widths) i r (p .0) in
-    let wired : WiresFit (c .widths) (c .inputs + c .registers) (d .wires) =
-    subst (λ (z : Scope). WiresFit (z .widths) (z .inputs + z .registers) (d .wires)) same (g .wired) in
+    let same : k ≡ c = scope-same k c i r (p .0) (g .plain .0 ∙ sym (f .plain .0)) (g .plain .1 ∙ sym (f .plain .1)) in
+    let wired : WiresFit c (c .inputs + c .registers) (d .wires) =
+    subst (λ (z : Scope). WiresFit z (z .inputs + z .registers) (d .wires)) same (g .wired) in
     let built : Built c (d .threads) = subst (λ (z : Scope). Built z (d .threads)) same (fit-built k (d .threads) (g .threaded)) in
     let u = same-wires c (c .inputs + c .registers) (d .wires) (m .wires) _ _ wired (f .wired) w (p .1) in
     let v = same-threads c (d .threads) (map returned (m .threads)) built (back-built c (m .threads) (f .threaded)) t (u .1) in

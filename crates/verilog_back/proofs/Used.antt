@@ -11,8 +11,8 @@ use Rattle.values.specs.Values.{pick}
 use Rattle.values.specs.declared.Edge.{Edge}
 use Rattle.values.specs.declared.Edge.the-variants.{Change, Posedge, Negedge}
 use Rattle.sheet.specs.declared.EdgeTerm.{EdgeTerm}
-use Rattle.sheet.specs.Expression.{Expr, variable, constant, unknown, unary, binary, conditional, call}
-use Rattle.sheet.specs.Statement.{Stmt, empty, assign as assigns, later, sequence, ifThen, ifElse, while, forever, wait, Scope}
+use Rattle.sheet.specs.Expression.{Expr, variable, constant, unknown, unary, binary, conditional, call, Scope}
+use Rattle.sheet.specs.Statement.{Stmt, empty, assign as assigns, later, sequence, ifThen, ifElse, while, forever, wait}
 use Rattle.sheet.specs.Module.{Module}
 use Rattle.encoding.specs.WellFormed.{WellTyped, IsTarget, IsAssignment, PairsFit, WellBuilt, WiresFit, ThreadsFit, WellFormed}
 use Rattle.verilog_tokens.specs.Tokens.{Token, terminal, name, number, known, unknown as unvalued, Name}
@@ -42,7 +42,7 @@ module _ (called : ℕ → List ℕ) (ns : List Name) (c : Scope)
   none-missing (value n) = none-missing n
   none-missing (valueless n) = none-missing n
 
-  expr-named : (k : ℕ) (e : Expr) (w : ℕ) → WellTyped (c .widths) k e w → (d : InExpr e) (rest : List Token) → Named rest
+  expr-named : (k : ℕ) (e : Expr) (w : ℕ) → WellTyped c k e w → (d : InExpr e) (rest : List Token) → Named rest
       → Named (spellPrimary (primaryTree called e d) rest)
   unfolding WellTyped primaryTree spellPrimary spell spellNumber
   expr-named zero e w t d rest h = absurd t
@@ -56,7 +56,7 @@ module _ (called : ℕ → List ℕ) (ns : List Name) (c : Scope)
       sign
       (expr-named k a (t .0 .0) (t .0 .1) (d .0) _
       (sign (expr-named k x w (t .1) (d .1) _ (sign (expr-named k y w (t .2) (d .2) _ (sign h))))))
-  expr-named (suc k) (call n l ys b) w t d rest h = absurd t
+  expr-named (suc k) (call n l ys b) w t d rest h = absurd d
 
   term-named : (e : Edge) (p v : ℕ) (rest : List Token) → v < length (c .widths) → Named rest
       → Named (spellEvent (termTree called e (nameAt called p v)) rest)
@@ -183,7 +183,7 @@ module _ (called : ℕ → List ℕ) (ns : List Name) (c : Scope)
     threads-named [] t d = sign end
     threads-named (a ∷ bs) t d = sign (thread-named 63 a (t .0) (d .0) _ (threads-named bs (t .2) (d .1)))
 
-    wires-named : (v : ℕ) (es : List Expr) → WiresFit (c .widths) v es → v + length es ≤ length (c .widths) → (d : Each InWire es)
+    wires-named : (v : ℕ) (es : List Expr) → WiresFit c v es → v + length es ≤ length (c .widths) → (d : Each InWire es)
         (xs : List Item) → Named (spellParts xs []) → Named (spellParts (wireTrees called v es d xs) [])
     unfolding WiresFit wireTrees spellParts spellPart spellListed spellNet spell
     wires-named v [] t l d xs h = h

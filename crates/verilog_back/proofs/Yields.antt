@@ -13,8 +13,8 @@ use Rattle.values.specs.Values.{pick}
 use Rattle.values.specs.declared.Edge.{Edge}
 use Rattle.values.specs.declared.Edge.the-variants.{Change, Posedge, Negedge}
 use Rattle.sheet.specs.declared.EdgeTerm.{EdgeTerm}
-use Rattle.sheet.specs.Expression.{Expr, variable, constant, unknown, unary, binary, conditional, call}
-use Rattle.sheet.specs.Statement.{Stmt, empty, assign as assigns, later, sequence, ifThen, ifElse, while, forever, wait, Scope}
+use Rattle.sheet.specs.Expression.{Expr, variable, constant, unknown, unary, binary, conditional, call, Scope}
+use Rattle.sheet.specs.Statement.{Stmt, empty, assign as assigns, later, sequence, ifThen, ifElse, while, forever, wait}
 use Rattle.sheet.specs.Module.{Module}
 use Rattle.encoding.specs.WellFormed.{WellTyped, IsAssignment, WellBuilt, AreWidths, WiresFit, ThreadsFit, WellFormed}
 use Rattle.writing.specs.Ascii.{ascii}
@@ -91,42 +91,42 @@ all-some (more a xs) rest = rw (all-some xs rest) refl
 module _ (called : ℕ → List ℕ) where
   -- ---- expressions
 
-  expr-yields : (ws : List ℕ) (n : ℕ) (e : Expr) (w : ℕ) → WellTyped ws n e w → (rest : From) (p : ℕ)
+  expr-yields : (sc : Scope) → sc .declared ≡ 0 → (n : ℕ) (e : Expr) (w : ℕ) → WellTyped sc n e w → (rest : From) (p : ℕ)
       → (d : InExpr e) × (q : ℕ) × (exprTokens called e rest p ≡ spellPrimary (primaryTree called e d) (rest q))
   unfolding WellTyped exprTokens names marks values unknowns primaryTree spellPrimary spell spellNumber
-  expr-yields ws zero e w t rest p = absurd t
-  expr-yields ws (suc n) (variable v) w t rest p = (p, p + length (called v), refl)
-  expr-yields ws (suc n) (constant k v) w t rest p =
+  expr-yields sc uncalled zero e w t rest p = absurd t
+  expr-yields sc uncalled (suc n) (variable v) w t rest p = (p, p + length (called v), refl)
+  expr-yields sc uncalled (suc n) (constant k v) w t rest p =
       let x = counted-at k (t .0 .0) (values v rest) p in
       (tt, x .0 + length (ascii "'d" ++ decimal v), x .1)
-  expr-yields ws (suc n) (unknown k) w t rest p =
+  expr-yields sc uncalled (suc n) (unknown k) w t rest p =
       let x = counted-at k (t .0 .0) (unknowns rest) p in
       (tt, x .0 + length (ascii "'bx"), x .1)
-  expr-yields ws (suc n) (unary o k a) w t rest p =
+  expr-yields sc uncalled (suc n) (unary o k a) w t rest p =
       let s = unary-sign o (t .0 .0) (t .0 .1) (exprTokens called a (marks ")" rest)) (p + length (ascii "(")) in
-      let x = expr-yields ws n a k (t .1) (marks ")" rest) (s .0) in (
+      let x = expr-yields sc uncalled n a k (t .1) (marks ")" rest) (s .0) in (
         x .0,
         x .1 + length (ascii ")"),
         ap (λ (l : List Token). mark "(" ∷ l) (s .1 ∙ ap (λ (l : List Token). terminal (unarySign (unaryOf o)) ∷ l) (x .2)),
       )
-  expr-yields ws (suc n) (binary o k a b) w t rest p =
-      let x = expr-yields ws n a k (t .1) (signTokens o (exprTokens called b (marks ")" rest))) (p + length (ascii "(")) in
+  expr-yields sc uncalled (suc n) (binary o k a b) w t rest p =
+      let x = expr-yields sc uncalled n a k (t .1) (signTokens o (exprTokens called b (marks ")" rest))) (p + length (ascii "(")) in
       let s = binary-sign o (t .0 .0) (t .0 .1) (exprTokens called b (marks ")" rest)) (x .1) in
-      let y = expr-yields ws n b k (t .2) (marks ")" rest) (s .0) in (
+      let y = expr-yields sc uncalled n b k (t .2) (marks ")" rest) (s .0) in (
         (x .0, y .0),
         y .1 + length (ascii ")"),
         ap (λ (l : List Token). mark "(" ∷ l)
             (x .2 ∙ ap (λ (l : List Token). spellPrimary (primaryTree called a (x .0)) l)
             (s .1 ∙ ap (λ (l : List Token). terminal (binarySign (binaryOf o)) ∷ l) (y .2))),
       )
-  expr-yields ws (suc n) (conditional c a b) w t rest p =
+  expr-yields sc uncalled (suc n) (conditional c a b) w t rest p =
       let second = exprTokens called b (marks ")" rest) in
       let first = exprTokens called a (between ":" second) in
-      let x = expr-yields ws n c (t .0 .0) (t .0 .1) (between "?" first) (p + length (ascii "(")) in
+      let x = expr-yields sc uncalled n c (t .0 .0) (t .0 .1) (between "?" first) (p + length (ascii "(")) in
       let s = between-at "?" first (x .1) in
-      let y = expr-yields ws n a w (t .1) (between ":" second) (s .0) in
+      let y = expr-yields sc uncalled n a w (t .1) (between ":" second) (s .0) in
       let u = between-at ":" second (y .1) in
-      let z = expr-yields ws n b w (t .2) (marks ")" rest) (u .0) in (
+      let z = expr-yields sc uncalled n b w (t .2) (marks ")" rest) (u .0) in (
         (x .0, y .0, z .0),
         z .1 + length (ascii ")"),
         ap (λ (l : List Token). mark "(" ∷ l)
@@ -135,7 +135,7 @@ module _ (called : ℕ → List ℕ) where
             (y .2 ∙ ap (λ (l : List Token). spellPrimary (primaryTree called a (y .0)) l)
             (u .1 ∙ ap (λ (l : List Token). mark ":" ∷ l) (z .2))))),
       )
-  expr-yields ws (suc n) (call i k ys b) w t rest p = absurd t
+  expr-yields sc uncalled (suc n) (call i k ys b) w t rest p = absurd (omega (arith, uncalled, t .0))
 
   -- ---- waits
 
@@ -252,14 +252,14 @@ module _ (called : ℕ → List ℕ) where
       )
 
   -- A condition in parentheses and a block.
-  guarded : (ws : List ℕ) (e : Expr) (w : ℕ) → WellTyped ws 16 e w → (a : Stmt Expr) → Yields a → (n : ℕ) (rest : From) (p : ℕ)
+  guarded : (sc : Scope) → sc .declared ≡ 0 → (e : Expr) (w : ℕ) → WellTyped sc 16 e w → (a : Stmt Expr) → Yields a → (n : ℕ) (rest : From) (p : ℕ)
       → (d : InExpr e) × (f : InStmt a) × (q : ℕ)
       × (marks "(" (exprTokens called e (opened (stmtTokens called (n + 1) a (closed n rest)))) p
       ≡ spellCondition (exprTree called e d) (mark "begin" ∷ spellAll (within called a f) (rest q)))
   unfolding marks spellCondition spell
-  guarded ws e w t a h n rest p =
+  guarded sc uncalled e w t a h n rest p =
       let inner = stmtTokens called (n + 1) a (closed n rest) in
-      let x = expr-yields ws 16 e w t (opened inner) (p + length (ascii "(")) in
+      let x = expr-yields sc uncalled 16 e w t (opened inner) (p + length (ascii "(")) in
       let o = opened-at inner (x .1) in
       let y = in-block a h (n + 1) n rest (o .0) in (
         x .0,
@@ -271,13 +271,13 @@ module _ (called : ℕ → List ℕ) where
       )
 
   -- A target, its sign, and an expression.
-  assigned : (s : String) (ws : List ℕ) (e : Expr) (w : ℕ) → WellTyped ws 16 e w → (v : ℕ) (rest : From) (p : ℕ)
+  assigned : (s : String) (sc : Scope) → sc .declared ≡ 0 → (e : Expr) (w : ℕ) → WellTyped sc 16 e w → (v : ℕ) (rest : From) (p : ℕ)
       → (d : InExpr e) × (q : ℕ) × (names (called v) (between s (exprTokens called e (ended rest))) p
       ≡ name (nameAt called p v) ∷ mark s ∷ spellPrimary (primaryTree called e d) (mark ";" ∷ rest q))
   unfolding names
-  assigned s ws e w t v rest p =
+  assigned s sc uncalled e w t v rest p =
       let b = between-at s (exprTokens called e (ended rest)) (p + length (called v)) in
-      let x = expr-yields ws 16 e w t (ended rest) (b .0) in
+      let x = expr-yields sc uncalled 16 e w t (ended rest) (b .0) in
       let u = ended-at rest (x .1) in (
         x .0,
         u .0,
@@ -302,54 +302,54 @@ module _ (called : ℕ → List ℕ) where
             (x .2 ∙ ap (λ (l : List Token). spellEvent (termsTree called ts (x .0)) (mark ")" ∷ l)) (u .1)),
       )
 
-  stmt-yields : (c : Scope) (k : ℕ) (a : Stmt Expr) → WellBuilt c k a → Yields a
+  stmt-yields : (c : Scope) → c .declared ≡ 0 → (k : ℕ) (a : Stmt Expr) → WellBuilt c k a → Yields a
   unfolding WellBuilt IsAssignment Yields stmtTokens within spellSome spellStatement spellControl spellOrNull spellAll spell
       indented blanks closed
-  stmt-yields c zero a t n rest p = absurd t
-  stmt-yields c (suc k) empty t n rest p =
+  stmt-yields c uncalled zero a t n rest p = absurd t
+  stmt-yields c uncalled (suc k) empty t n rest p =
       let s = spaced-at "begin" (spaced "end" rest) (p + 2 * n) in
       let u = spaced-at "end" rest (s .0) in
       (tt, u .0, s .1 ∙ ap (λ (l : List Token). mark "begin" ∷ l) (u .1))
-  stmt-yields c (suc k) (assigns v e) t n rest p =
-      let x = assigned "=" (c .widths) e _ (t .1) v rest (p + 2 * n) in
+  stmt-yields c uncalled (suc k) (assigns v e) t n rest p =
+      let x = assigned "=" c uncalled e _ (t .1) v rest (p + 2 * n) in
       ((p + 2 * n, x .0), x .1, x .2)
-  stmt-yields c (suc k) (later v e) t n rest p =
-      let x = assigned "<=" (c .widths) e _ (t .1) v rest (p + 2 * n) in
+  stmt-yields c uncalled (suc k) (later v e) t n rest p =
+      let x = assigned "<=" c uncalled e _ (t .1) v rest (p + 2 * n) in
       ((p + 2 * n, x .0), x .1, x .2)
-  stmt-yields c (suc k) (sequence a b) t n rest p =
-      sequence-yields a b (wait-terms c k a (t .0)) (stmt-yields c k a (t .0)) (stmt-yields c k b (t .1)) n rest p
-  stmt-yields c (suc k) (ifThen e a) t n rest p =
+  stmt-yields c uncalled (suc k) (sequence a b) t n rest p =
+      sequence-yields a b (wait-terms c k a (t .0)) (stmt-yields c uncalled k a (t .0)) (stmt-yields c uncalled k b (t .1)) n rest p
+  stmt-yields c uncalled (suc k) (ifThen e a) t n rest p =
       let s = spaced-at "if" (marks "(" (exprTokens called e (opened (stmtTokens called (n + 1) a (closed n rest))))) (p + 2 * n) in
-      let x = guarded (c .widths) e (t .0 .0) (t .0 .1) a (stmt-yields c k a (t .1)) n rest (s .0) in
+      let x = guarded c uncalled e (t .0 .0) (t .0 .1) a (stmt-yields c uncalled k a (t .1)) n rest (s .0) in
       ((x .0, x .1), x .2, s .1 ∙ ap (λ (l : List Token). mark "if" ∷ l) (x .3))
-  stmt-yields c (suc k) (ifElse e a b) t n rest p =
+  stmt-yields c uncalled (suc k) (ifElse e a b) t n rest p =
       let last = stmtTokens called (n + 1) b (closed n rest) in
       let other = spaced "else" (spaced "begin" last) in
       let s = spaced-at "if" (marks "(" (exprTokens called e (opened (stmtTokens called (n + 1) a (closed n other))))) (p + 2 * n) in
-      let x = guarded (c .widths) e (t .0 .0) (t .0 .1) a (stmt-yields c k a (t .1)) n other (s .0) in
+      let x = guarded c uncalled e (t .0 .0) (t .0 .1) a (stmt-yields c uncalled k a (t .1)) n other (s .0) in
       let y = spaced-at "else" (spaced "begin" last) (x .2) in
       let z = spaced-at "begin" last (y .0) in
-      let u = in-block b (stmt-yields c k b (t .2)) (n + 1) n rest (z .0) in (
+      let u = in-block b (stmt-yields c uncalled k b (t .2)) (n + 1) n rest (z .0) in (
         (x .0, x .1, u .0),
         u .1,
         s .1 ∙ ap (λ (l : List Token). mark "if" ∷ l)
             (x .3 ∙ ap (λ (l : List Token). spellCondition (exprTree called e (x .0)) (mark "begin" ∷ spellAll (within called a (x .1)) l))
             (y .1 ∙ ap (λ (l : List Token). mark "else" ∷ l) (z .1 ∙ ap (λ (l : List Token). mark "begin" ∷ l) (u .2)))),
       )
-  stmt-yields c (suc k) (while e a) t n rest p =
+  stmt-yields c uncalled (suc k) (while e a) t n rest p =
       let s = spaced-at "while" (marks "(" (exprTokens called e (opened (stmtTokens called (n + 1) a (closed n rest))))) (p + 2 * n) in
-      let x = guarded (c .widths) e (t .0 .0) (t .0 .1) a (stmt-yields c k a (t .1)) n rest (s .0) in
+      let x = guarded c uncalled e (t .0 .0) (t .0 .1) a (stmt-yields c uncalled k a (t .1)) n rest (s .0) in
       ((x .0, x .1), x .2, s .1 ∙ ap (λ (l : List Token). mark "while" ∷ l) (x .3))
-  stmt-yields c (suc k) (forever a) t n rest p =
+  stmt-yields c uncalled (suc k) (forever a) t n rest p =
       let inner = stmtTokens called (n + 1) a (closed n rest) in
       let s = spaced-at "forever" (spaced "begin" inner) (p + 2 * n) in
       let u = spaced-at "begin" inner (s .0) in
-      let x = in-block a (stmt-yields c k a t) (n + 1) n rest (u .0) in (
+      let x = in-block a (stmt-yields c uncalled k a t) (n + 1) n rest (u .0) in (
         x .0,
         x .1,
         s .1 ∙ ap (λ (l : List Token). mark "forever" ∷ l) (u .1 ∙ ap (λ (l : List Token). mark "begin" ∷ l) (x .2)),
       )
-  stmt-yields c (suc k) (wait ts) t n rest p = wait-yields ts (t .0 .0) n rest p
+  stmt-yields c uncalled (suc k) (wait ts) t n rest p = wait-yields ts (t .0 .0) n rest p
 
   -- ---- ports
 
@@ -450,16 +450,16 @@ module _ (called : ℕ → List ℕ) where
 
   -- ---- wires
 
-  wires-yield : (us : List ℕ) (v : ℕ) (es : List Expr) → WiresFit us v es → (rest : From) (p : ℕ)
+  wires-yield : (us : Scope) → us .declared ≡ 0 → (v : ℕ) (es : List Expr) → WiresFit us v es → (rest : From) (p : ℕ)
       → (d : Each InWire es) × (q : ℕ) × ((xs : List Item) → rest q ≡ spellParts xs []
       → wiresTokens called v es rest p ≡ spellParts (wireTrees called v es d xs) [])
   unfolding WiresFit wiresTokens wireTrees spellParts spellPart spellListed spellNet spell indented blanks
-  wires-yield us v [] h rest p = (tt, p, λ xs e. e)
-  wires-yield us v (e ∷ es) h rest p =
+  wires-yield us uncalled v [] h rest p = (tt, p, λ xs e. e)
+  wires-yield us uncalled v (e ∷ es) h rest p =
       let after = wiresTokens called (v + 1) es rest in
       let s = spaced-at "assign" (names (called v) (between "=" (exprTokens called e (ended after)))) (p + 2 * 1) in
-      let x = assigned "=" us e _ (h .0) v after (s .0) in
-      let y = wires-yield us (v + 1) es (h .1) rest (x .1) in
+      let x = assigned "=" us uncalled e _ (h .0) v after (s .0) in
+      let y = wires-yield us uncalled (v + 1) es (h .1) rest (x .1) in
       let n = nameAt called (s .0) v in (
         ((s .0, x .0), y .0),
         y .1,
@@ -523,28 +523,28 @@ module _ (called : ℕ → List ℕ) where
       let x = waiting-yields ts b (w ts refl) k rest p in
       ((x .0, x .1), x .2, x .3)
 
-  thread-yields : (c : Scope) (k : ℕ) (a : Stmt Expr) → WellBuilt c (suc k) a → (rest : From) (p : ℕ)
+  thread-yields : (c : Scope) → c .declared ≡ 0 → (k : ℕ) (a : Stmt Expr) → WellBuilt c (suc k) a → (rest : From) (p : ℕ)
       → (d : InStmt a) × (q : ℕ) × (threadTokens called a rest p ≡ mark "always" ∷ spellStatement (threadTree called a d) (rest q))
   unfolding WellBuilt threadTokens openedTokens opening remainder threadTree spellStatement
-  thread-yields c k empty t rest p = block-yields empty (stmt-yields c (suc k) empty t) rest p
-  thread-yields c k (assigns v e) t rest p = block-yields (assigns v e) (stmt-yields c (suc k) (assigns v e) t) rest p
-  thread-yields c k (later v e) t rest p = block-yields (later v e) (stmt-yields c (suc k) (later v e) t) rest p
-  thread-yields c k (ifThen e a) t rest p = block-yields (ifThen e a) (stmt-yields c (suc k) (ifThen e a) t) rest p
-  thread-yields c k (ifElse e a b) t rest p = block-yields (ifElse e a b) (stmt-yields c (suc k) (ifElse e a b) t) rest p
-  thread-yields c k (while e a) t rest p = block-yields (while e a) (stmt-yields c (suc k) (while e a) t) rest p
-  thread-yields c k (forever a) t rest p = block-yields (forever a) (stmt-yields c (suc k) (forever a) t) rest p
-  thread-yields c k (wait ts) t rest p = block-yields (wait ts) (stmt-yields c (suc k) (wait ts) t) rest p
-  thread-yields c k (sequence a b) t rest p =
-      opened-yields a b (wait-terms c k a (t .0)) (stmt-yields c (suc k) (sequence a b) t) (stmt-yields c k b (t .1)) rest p
+  thread-yields c uncalled k empty t rest p = block-yields empty (stmt-yields c uncalled (suc k) empty t) rest p
+  thread-yields c uncalled k (assigns v e) t rest p = block-yields (assigns v e) (stmt-yields c uncalled (suc k) (assigns v e) t) rest p
+  thread-yields c uncalled k (later v e) t rest p = block-yields (later v e) (stmt-yields c uncalled (suc k) (later v e) t) rest p
+  thread-yields c uncalled k (ifThen e a) t rest p = block-yields (ifThen e a) (stmt-yields c uncalled (suc k) (ifThen e a) t) rest p
+  thread-yields c uncalled k (ifElse e a b) t rest p = block-yields (ifElse e a b) (stmt-yields c uncalled (suc k) (ifElse e a b) t) rest p
+  thread-yields c uncalled k (while e a) t rest p = block-yields (while e a) (stmt-yields c uncalled (suc k) (while e a) t) rest p
+  thread-yields c uncalled k (forever a) t rest p = block-yields (forever a) (stmt-yields c uncalled (suc k) (forever a) t) rest p
+  thread-yields c uncalled k (wait ts) t rest p = block-yields (wait ts) (stmt-yields c uncalled (suc k) (wait ts) t) rest p
+  thread-yields c uncalled k (sequence a b) t rest p =
+      opened-yields a b (wait-terms c k a (t .0)) (stmt-yields c uncalled (suc k) (sequence a b) t) (stmt-yields c uncalled k b (t .1)) rest p
 
-  threads-yield : (c : Scope) (bs : List (Stmt Expr)) → ThreadsFit c bs → (p : ℕ)
+  threads-yield : (c : Scope) → c .declared ≡ 0 → (bs : List (Stmt Expr)) → ThreadsFit c bs → (p : ℕ)
       → (d : Each InStmt bs) × (threadsTokens called bs (spaced "endmodule" nothing) p ≡ spellParts (threadTrees called bs d) [])
   unfolding ThreadsFit threadsTokens threadTrees spellParts spellPart nothing
-  threads-yield c [] h p = (tt, spaced-at "endmodule" nothing p .1)
-  threads-yield c (a ∷ bs) h p =
+  threads-yield c uncalled [] h p = (tt, spaced-at "endmodule" nothing p .1)
+  threads-yield c uncalled (a ∷ bs) h p =
       let after = threadsTokens called bs (spaced "endmodule" nothing) in
-      let x = thread-yields c 63 a (h .0) after p in
-      let y = threads-yield c bs (h .2) (x .1) in
+      let x = thread-yields c uncalled 63 a (h .0) after p in
+      let y = threads-yield c uncalled bs (h .2) (x .1) in
       ((x .0, y .0), x .2 ∙ ap (λ (l : List Token). mark "always" ∷ spellStatement (threadTree called a (x .0)) l) (y .1))
 
   -- ---- the module
@@ -553,6 +553,7 @@ module _ (called : ℕ → List ℕ) where
   unfolding moduleTokens names marks blanks treeOf yield
   module-yields m f =
       let c = m .scope in
+      let uncalled = f .plain .0 in
       let threads = threadsTokens called (m .threads) (spaced "endmodule" nothing) in
       let wires = wiresTokens called (c .inputs + c .registers) (m .wires) threads in
       let items = declarationsTokens called (c .inputs) (c .registers) 0 (c .widths) wires in
@@ -562,8 +563,8 @@ module _ (called : ℕ → List ℕ) where
       (s .0 + length (ascii "walbryts") + 1 + length (ascii "(")) in
       let u = ended-at items (x .1 + length (ascii ")")) in
       let a = declarations-yield (c .inputs) (c .registers) 0 (c .widths) (f .widths) wires (u .0) in
-      let b = wires-yield (c .widths) (c .inputs + c .registers) (m .wires) (f .wired) threads (a .1) in
-      let t = threads-yield c (m .threads) (f .threaded) (b .1) in
+      let b = wires-yield c uncalled (c .inputs + c .registers) (m .wires) (f .wired) threads (a .1) in
+      let t = threads-yield c uncalled (m .threads) (f .threaded) (b .1) in
       let e = a .2 _ (b .2 _ (t .1)) in (
         record { title = s .0; ports = x .0; widths = a .0; wires = b .0; threads = t .0 },
         s .1 ∙ ap (λ (l : List Token). mark "module" ∷ name (record { place = s .0; spelled = ascii "walbryts" }) ∷ mark "(" ∷ l)

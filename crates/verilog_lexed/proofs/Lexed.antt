@@ -11,8 +11,8 @@ use Rattle.values.specs.Values.{pick}
 use Rattle.values.specs.declared.Edge.{Edge}
 use Rattle.values.specs.declared.Edge.the-variants.{Change, Posedge, Negedge}
 use Rattle.sheet.specs.declared.EdgeTerm.{EdgeTerm}
-use Rattle.sheet.specs.Expression.{Expr, variable, constant, unknown, unary, binary, conditional, call}
-use Rattle.sheet.specs.Statement.{Stmt, empty, assign, later, sequence, ifThen, ifElse, while, forever, wait, Scope}
+use Rattle.sheet.specs.Expression.{Expr, variable, constant, unknown, unary, binary, conditional, call, Scope}
+use Rattle.sheet.specs.Statement.{Stmt, empty, assign, later, sequence, ifThen, ifElse, while, forever, wait}
 use Rattle.sheet.specs.Module.{Module}
 use Rattle.encoding.specs.WellFormed.{Between, WellTyped, IsAssignment, WellBuilt, AreWidths, WiresFit, ThreadsFit, WellFormed}
 use Rattle.encoding.proofs.Encoding.{read-encode}
@@ -20,7 +20,7 @@ use Rattle.writing.specs.Ascii.{ascii}
 use Rattle.writing.specs.Numbers.{decimal}
 use Rattle.naming.specs.Naming.{plainName}
 use Rattle.signs.specs.Signs.{sign, constantText, unknownText}
-use Rattle.verilog.specs.Verilog.{indent, before, edgeText, rangeText, directionText, Front, waiting, nesting, single, front, exprText, termText, termsText, sequenceText, stmtText, portText, portsText, wiresText, opening, remainder, openedText, threadText, threadsText, declarationText, declarationsText, moduleText, verilogText}
+use Rattle.verilog.specs.Verilog.{indent, before, edgeText, rangeText, directionText, Front, waiting, nesting, single, front, exprText, termText, termsText, sequenceText, stmtText, portText, portsText, wiresText, opening, remainder, openedText, threadText, threadsText, declarationText, declarationsText, functionsText, moduleText, verilogText}
 use Rattle.verilog_tokens.specs.declared.Class.the-variants.{Word, Decimal}
 use Rattle.verilog_tokens.specs.Characters.{span}
 use Rattle.verilog_lexed.specs.Lexed.{From, marks, counts, spaced, between, signTokens, orTokens, commaTokens, edgeTokens, rangeTokens, directionTokens, closed, exprTokens, termTokens, termsTokens, sequenceTokens, stmtTokens, portTokens, portsTokens, wiresTokens, openedTokens, threadTokens, threadsTokens, declarationTokens, declarationsTokens, moduleTokens, nothing, tokensOf}
@@ -132,36 +132,36 @@ small : (w v : ℕ) → Between 1 32 w → v < 2 ^ w → v < 2 ^ 64
 small w v b h = omega (arith, h, pow-mono {i = w} {j = 64} (omega (arith, b .1)))
 
 module _ (i r : ℕ) where
-  -- ---- expressions
+  -- ---- expressions: without functions there is no call
 
-  expr-reads : (ws : List ℕ) (d : ℕ) (e : Expr) (w : ℕ) → WellTyped ws d e w → {s : List ℕ} {k : From} → Words.Ends s → Reads s k
+  expr-reads : (sc : Scope) → sc .declared ≡ 0 → (d : ℕ) (e : Expr) (w : ℕ) → WellTyped sc d e w → {s : List ℕ} {k : From} → Words.Ends s → Reads s k
       → Reads (exprText (plainName i r) e ++ s) (exprTokens (plainName i r) e k)
   unfolding WellTyped exprText exprTokens constantText unknownText
-  expr-reads ws zero e w h g x = absurd h
-  expr-reads ws (suc d) (variable v) w h g x = name-reads i r v (g .word) x
-  expr-reads ws (suc d) (constant j v) w h g x =
+  expr-reads sc none zero e w h g x = absurd h
+  expr-reads sc none (suc d) (variable v) w h g x = name-reads i r v (g .word) x
+  expr-reads sc none (suc d) (constant j v) w h g x =
       reads-from (count-reads j (narrow j (h .0)) (value-stops _) (value-reads v (small j v (h .0) (h .1)) (g .decimal) x))
       (simp append-assoc)
-  expr-reads ws (suc d) (unknown j) w h g x =
+  expr-reads sc none (suc d) (unknown j) w h g x =
       reads-from (count-reads j (narrow j (h .0)) (unknown-stops _) (unknown-reads (g .binary) x)) (simp append-assoc)
-  expr-reads ws (suc d) (unary o j a) w h g x =
+  expr-reads sc none (suc d) (unary o j a) w h g x =
       reads-from
       (Words.open-reads (unary-reads _ _ o (h .0)
-      (expr-reads ws d a j (h .1) (close-ends _) (Words.close-reads x))))
+      (expr-reads sc none d a j (h .1) (close-ends _) (Words.close-reads x))))
       (simp append-assoc)
-  expr-reads ws (suc d) (binary o j a b) w h g x =
+  expr-reads sc none (suc d) (binary o j a b) w h g x =
       reads-from
-      (Words.open-reads (expr-reads ws d a j (h .1) (binary-ends _ o (h .0))
+      (Words.open-reads (expr-reads sc none d a j (h .1) (binary-ends _ o (h .0))
       (binary-reads _ _ o (h .0)
-      (expr-reads ws d b j (h .2) (close-ends _) (Words.close-reads x)))))
+      (expr-reads sc none d b j (h .2) (close-ends _) (Words.close-reads x)))))
       (simp append-assoc)
-  expr-reads ws (suc d) (conditional c a b) w h g x =
+  expr-reads sc none (suc d) (conditional c a b) w h g x =
       reads-from
-      (Words.open-reads (expr-reads ws d c (h .0 .0) (h .0 .1) (ask-ends _)
-      (Words.ask-reads (expr-reads ws d a w (h .1) (otherwise-ends _)
-      (Words.otherwise-reads (expr-reads ws d b w (h .2) (close-ends _) (Words.close-reads x)))))))
+      (Words.open-reads (expr-reads sc none d c (h .0 .0) (h .0 .1) (ask-ends _)
+      (Words.ask-reads (expr-reads sc none d a w (h .1) (otherwise-ends _)
+      (Words.otherwise-reads (expr-reads sc none d b w (h .2) (close-ends _) (Words.close-reads x)))))))
       (simp append-assoc)
-  expr-reads ws (suc d) (call n j ys b) w h g x = absurd h
+  expr-reads sc none (suc d) (call n j ys b) w h g x = absurd (omega (arith, none, h .0))
 
   -- ---- waits
 
@@ -219,42 +219,42 @@ module _ (i r : ℕ) where
       reads-from (Words.indent-reads n (Words.begin-line-reads (f (n + 1) _ _ (closed-reads n (g n s k h))))) (simp append-assoc)
   sequence-reads n single a b x y f g s k h = reads-from (f n _ _ (g n s k h)) (simp append-assoc)
 
-  stmt-reads : (c : Scope) (d : ℕ) (b : Stmt Expr) → WellBuilt c d b → (n : ℕ)
+  stmt-reads : (c : Scope) → c .declared ≡ 0 → (d : ℕ) (b : Stmt Expr) → WellBuilt c d b → (n : ℕ)
       → Prints (stmtText (plainName i r) n b) (stmtTokens (plainName i r) n b)
   unfolding WellBuilt IsAssignment stmtText stmtTokens
-  stmt-reads c zero b h n s k x = absurd h
-  stmt-reads c (suc d) empty h n s k x = reads-from (Words.indent-reads n (Words.empty-word x)) (simp append-assoc)
-  stmt-reads c (suc d) (assign t e) h n s k x =
+  stmt-reads c none zero b h n s k x = absurd h
+  stmt-reads c none (suc d) empty h n s k x = reads-from (Words.indent-reads n (Words.empty-word x)) (simp append-assoc)
+  stmt-reads c none (suc d) (assign t e) h n s k x =
       reads-from
       (Words.indent-reads n (name-reads i r t (becomes-ends _ .word) (Words.becomes-reads
-      (expr-reads (c .widths) 16 e _ (h .1) (semicolon-ends _) (Words.ended-word x)))))
+      (expr-reads c none 16 e _ (h .1) (semicolon-ends _) (Words.ended-word x)))))
       (simp append-assoc)
-  stmt-reads c (suc d) (later t e) h n s k x =
+  stmt-reads c none (suc d) (later t e) h n s k x =
       reads-from
       (Words.indent-reads n (name-reads i r t (later-ends _ .word) (Words.later-reads
-      (expr-reads (c .widths) 16 e _ (h .1) (semicolon-ends _) (Words.ended-word x)))))
+      (expr-reads c none 16 e _ (h .1) (semicolon-ends _) (Words.ended-word x)))))
       (simp append-assoc)
-  stmt-reads c (suc d) (sequence a b) h n s k x =
-      sequence-reads n (front a) _ _ _ _ (λ l. stmt-reads c d a (h .0) l) (λ l. stmt-reads c d b (h .1) l) s k x
-  stmt-reads c (suc d) (ifThen e a) h n s k x =
+  stmt-reads c none (suc d) (sequence a b) h n s k x =
+      sequence-reads n (front a) _ _ _ _ (λ l. stmt-reads c none d a (h .0) l) (λ l. stmt-reads c none d b (h .1) l) s k x
+  stmt-reads c none (suc d) (ifThen e a) h n s k x =
       reads-from
-      (Words.indent-reads n (Words.if-word (expr-reads (c .widths) 16 e (h .0 .0) (h .0 .1) (opened-ends _)
-      (Words.opened-word (stmt-reads c d a (h .1) (n + 1) _ _ (closed-reads n x))))))
+      (Words.indent-reads n (Words.if-word (expr-reads c none 16 e (h .0 .0) (h .0 .1) (opened-ends _)
+      (Words.opened-word (stmt-reads c none d a (h .1) (n + 1) _ _ (closed-reads n x))))))
       (simp append-assoc)
-  stmt-reads c (suc d) (ifElse e a b) h n s k x =
+  stmt-reads c none (suc d) (ifElse e a b) h n s k x =
       reads-from
-      (Words.indent-reads n (Words.if-word (expr-reads (c .widths) 16 e (h .0 .0) (h .0 .1) (opened-ends _)
-      (Words.opened-word (stmt-reads c d a (h .1) (n + 1) _ _ (Words.indent-reads n (Words.else-word
-      (stmt-reads c d b (h .2) (n + 1) _ _ (closed-reads n x)))))))))
+      (Words.indent-reads n (Words.if-word (expr-reads c none 16 e (h .0 .0) (h .0 .1) (opened-ends _)
+      (Words.opened-word (stmt-reads c none d a (h .1) (n + 1) _ _ (Words.indent-reads n (Words.else-word
+      (stmt-reads c none d b (h .2) (n + 1) _ _ (closed-reads n x)))))))))
       (simp append-assoc)
-  stmt-reads c (suc d) (while e a) h n s k x =
+  stmt-reads c none (suc d) (while e a) h n s k x =
       reads-from
-      (Words.indent-reads n (Words.while-word (expr-reads (c .widths) 16 e (h .0 .0) (h .0 .1) (opened-ends _)
-      (Words.opened-word (stmt-reads c d a (h .1) (n + 1) _ _ (closed-reads n x))))))
+      (Words.indent-reads n (Words.while-word (expr-reads c none 16 e (h .0 .0) (h .0 .1) (opened-ends _)
+      (Words.opened-word (stmt-reads c none d a (h .1) (n + 1) _ _ (closed-reads n x))))))
       (simp append-assoc)
-  stmt-reads c (suc d) (forever a) h n s k x =
-      reads-from (Words.indent-reads n (Words.forever-word (stmt-reads c d a h (n + 1) _ _ (closed-reads n x)))) (simp append-assoc)
-  stmt-reads c (suc d) (wait ts) h n s k x =
+  stmt-reads c none (suc d) (forever a) h n s k x =
+      reads-from (Words.indent-reads n (Words.forever-word (stmt-reads c none d a h (n + 1) _ _ (closed-reads n x)))) (simp append-assoc)
+  stmt-reads c none (suc d) (wait ts) h n s k x =
       reads-from (Words.indent-reads n (Words.at-word (terms-reads 0 ts (wait-ends _ .word) (Words.wait-word x)))) (simp append-assoc)
 
   -- ---- the module's parts
@@ -281,14 +281,14 @@ module _ (i r : ℕ) where
   ports-reads (suc n) v {s} h x =
       reads-from (comma-reads v (name-reads i r v (ports-stop n v s h) (ports-reads n (v + 1) h x))) (simp append-assoc)
 
-  wires-reads : (ws : List ℕ) (v : ℕ) (es : List Expr) → WiresFit ws v es
+  wires-reads : (sc : Scope) → sc .declared ≡ 0 → (v : ℕ) (es : List Expr) → WiresFit sc v es
       → Prints (wiresText (plainName i r) v es) (wiresTokens (plainName i r) v es)
   unfolding WiresFit wiresText wiresTokens
-  wires-reads ws v [] h s k x = x
-  wires-reads ws v (e ∷ es) h s k x =
+  wires-reads sc none v [] h s k x = x
+  wires-reads sc none v (e ∷ es) h s k x =
       reads-from
       (Words.assign-word (name-reads i r v (becomes-ends _ .word) (Words.becomes-reads
-      (expr-reads ws 16 e _ (h .0) (semicolon-ends _) (Words.ended-word (wires-reads ws (v + 1) es (h .1) s k x))))))
+      (expr-reads sc none 16 e _ (h .0) (semicolon-ends _) (Words.ended-word (wires-reads sc none (v + 1) es (h .1) s k x))))))
       (simp append-assoc)
 
   opened-reads : (f : Front) (a b : ℕ → List ℕ) (x y : ℕ → From → From) → Prints (a 2) (x 2) → Prints (b 2) (y 2)
@@ -313,16 +313,16 @@ module _ (i r : ℕ) where
   remainder-built c d (forever a) h = tt
   remainder-built c d (wait ts) h = tt
 
-  thread-reads : (c : Scope) (b : Stmt Expr) → WellBuilt c 64 b → Prints (threadText (plainName i r) b) (threadTokens (plainName i r) b)
+  thread-reads : (c : Scope) → c .declared ≡ 0 → (b : Stmt Expr) → WellBuilt c 64 b → Prints (threadText (plainName i r) b) (threadTokens (plainName i r) b)
   unfolding threadText threadTokens
-  thread-reads c b h =
-      opened-reads (opening b) _ _ _ _ (stmt-reads c 64 b h 2) (stmt-reads c 63 (remainder b) (remainder-built c 62 b h) 2)
+  thread-reads c none b h =
+      opened-reads (opening b) _ _ _ _ (stmt-reads c none 64 b h 2) (stmt-reads c none 63 (remainder b) (remainder-built c 62 b h) 2)
 
-  threads-reads : (c : Scope) (bs : List (Stmt Expr)) → ThreadsFit c bs
+  threads-reads : (c : Scope) → c .declared ≡ 0 → (bs : List (Stmt Expr)) → ThreadsFit c bs
       → Prints (threadsText (plainName i r) bs) (threadsTokens (plainName i r) bs)
   unfolding ThreadsFit threadsText threadsTokens
-  threads-reads c [] h s k x = x
-  threads-reads c (b ∷ bs) h s k x = reads-from (thread-reads c b (h .0) _ _ (threads-reads c bs (h .2) s k x)) (simp append-assoc)
+  threads-reads c none [] h s k x = x
+  threads-reads c none (b ∷ bs) h s k x = reads-from (thread-reads c none b (h .0) _ _ (threads-reads c none bs (h .2) s k x)) (simp append-assoc)
 
   direction-reads : (v : ℕ) {s : List ℕ} {k : From} → Reads s k → Reads (directionText i r v ++ s) (directionTokens i r v k)
   unfolding directionText directionTokens
@@ -360,18 +360,20 @@ module _ (i r : ℕ) where
 
 module-reads : (m : Module Expr) → WellFormed m
     → Reads (verilogText m) (moduleTokens (plainName (m .scope .inputs) (m .scope .registers)) m nothing)
-unfolding verilogText moduleText moduleTokens nothing
+unfolding verilogText functionsText moduleText moduleTokens nothing
 module-reads m h =
     let c = m .scope in
     let i = c .inputs in
     let r = c .registers in
-    reads-from
+    let none = h .plain .0 in
+    rw (h .plain .1)
+    (reads-from
     (Words.module-word (ports-reads i r i 0 (wait-ends _ .word) (Words.wait-word
     (declarations-reads i r 0 (c .widths) (h .widths) _ _
-    (wires-reads i r (c .widths) (i + r) (m .wires) (h .wired) _ _
-    (threads-reads i r c (m .threads) (h .threaded) _ _
+    (wires-reads i r c none (i + r) (m .wires) (h .wired) _ _
+    (threads-reads i r c none (m .threads) (h .threaded) _ _
     (Words.endmodule-reads reads-none)))))))
-    (simp append-nil)
+    (simp append-nil))
 
 pub printed-tokens : PrintedTokens
 unfolding PrintedTokens tokensOf

@@ -12,7 +12,7 @@ use Rattle.values.specs.Values.{pick}
 use Rattle.sheet.specs.Reading as Sheet
 use Rattle.sheet.specs.Expression.{located}
 use Rattle.sheet.specs.Module.{read}
-use Rattle.sheet.proofs.Sections.{sheet-long}
+use Rattle.sheet.proofs.Closed.{sheet-long}
 use Rattle.sheet.proofs.Trees.{mapRes, read-located}
 use Rattle.writing.specs.Buffer.{filled}
 use Rattle.verilog_tokens.specs.Tokens.{Token, Name, tokens}

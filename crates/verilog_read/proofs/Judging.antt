@@ -16,7 +16,7 @@ use Rattle.sheet.specs.Module as Mod
 use Rattle.sheet.specs.Module.{readSheet, read}
 use Rattle.sheet.specs.Answers.{sheetAnswer}
 use Rattle.sheet.proofs.Numbers.{numbered-no, located-numbered, sheet-numbered}
-use Rattle.sheet.proofs.Sections.{sheet-long}
+use Rattle.sheet.proofs.Closed.{sheet-long}
 use Rattle.sheet.proofs.Trees.{mapRes, trees, read-located}
 use Rattle.verilog_scan.specs.Scan.{stored, overwritten}
 use Rattle.verilog_scan.proofs.Filling.{stored-front}

@@ -12,7 +12,7 @@ use borrow.Author.Tests.{eq-eqb, ne-eqb, eqb-true, eqb-false, le-leb, lt-leb, le
 use Rattle.sheet.specs.Reading as Sheet
 use Rattle.sheet.specs.Expression.{Expr, tree}
 use Rattle.sheet.specs.Module.{Module, readSheet, read}
-use Rattle.sheet.proofs.Numbers.{Numbered, numbered-no, sheet-numbered, tree-numbered}
+use Rattle.sheet.proofs.Numbers.{Numbered, accepted as fine, refused as low, later-call, no-body, numbered-no, sheet-numbered, tree-numbered}
 use Rattle.encoding.proofs.Bytes.{all-bytes}
 use Rattle.encoding.proofs.Encoding.{read-encode}
 use Rattle.verilog_tokens.specs.Tokens.{Token, Name, tokens}
@@ -28,19 +28,26 @@ use Rattle.verilog_source.specs.Compiled.{Compiled, refused, accepted, u
 use Rattle.verilog_source.specs.Claims.{Derives, declaredBy, sheetBy, FirstTheLent, ThenTheLength, ThenTheGrammar, ThenTheNames, ThenTheSheet, OneSheet, LeftAlone, Accepted, OnlySheets}
 use Rattle.verilog_source.proofs.Bytes.{sheet-bytes}
 
--- ---- the sheet's own numbers are 1 to 11
+-- ---- the sheet's own numbers are 1 to 11, 44 and 45: none is 42 or 43
 
-own-number : (s : List ℕ) {n p : ℕ} → read s ≡ Sheet.no n p → (1 ≤ n) × (n ≤ 11)
+not-between : {A : Type 0} {x : Sheet.Res A} {n p : ℕ} → Numbered x → x ≡ Sheet.no n p → (b : ℕ) → 11 < b → b < 44 → n ≢ b
+not-between {n = n} (fine a) h b l m z = let z : _≡_ {A = ℕ} 0 1 = cc in absurd (omega arith)
+not-between {n = n} (low k q i j) h b l m z = let e : k ≡ n = cc in absurd (omega arith)
+not-between {n = n} (later-call q) h b l m z = let e : 44 ≡ n = cc in absurd (omega arith)
+not-between {n = n} (no-body q) h b l m z = let e : 45 ≡ n = cc in absurd (omega arith)
+
+own-number : (s : List ℕ) {n p : ℕ} → read s ≡ Sheet.no n p → (1 ≤ n) × ((b : ℕ) → 11 < b → b < 44 → n ≢ b)
 unfolding read
 own-number s {n} {p} h = by (readSheet (tree s) s) refl h
   where
     by : (r : Sheet.Res (Rattle.sheet.specs.Module.Sheet Expr)) → readSheet (tree s) s ≡ r
-        → Sheet._>>=_ r (λ x. Sheet.ok (x .contents)) ≡ Sheet.no n p → (1 ≤ n) × (n ≤ 11)
+        → Sheet._>>=_ r (λ x. Sheet.ok (x .contents)) ≡ Sheet.no n p → (1 ≤ n) × ((b : ℕ) → 11 < b → b < 44 → n ≢ b)
     by (Sheet.ok m) q j = let z : _≡_ {A = ℕ} 0 1 = cc in absurd (omega arith)
     by (Sheet.no k l) q j =
         let e : k ≡ n = cc in
-        let w = numbered-no (sheet-numbered (tree s) (tree-numbered s) s) q in
-        (omega arith, omega arith)
+        let f = sheet-numbered (tree s) (tree-numbered s) s in
+        let w = numbered-no f q in
+        (omega arith, λ b l m z. not-between f q b l m (e ∙ z))
 
 -- ---- the two lengths
 
@@ -76,15 +83,15 @@ sheet-by text m d = rw (read-by (numberOf (declaredBy m)) text m d) refl
 
 -- ---- 42
 
-judged-number : (lent s : List ℕ) (r : Sheet.Res (Module Expr)) → read s ≡ r → judged lent s r .answer .number ≤ 11
+judged-number : (lent s : List ℕ) (r : Sheet.Res (Module Expr)) → read s ≡ r → (b : ℕ) → 11 < b → b < 44 → judged lent s r .answer .number ≢ b
 unfolding judged accepted refused
-judged-number lent s (Sheet.ok m) h = omega arith
-judged-number lent s (Sheet.no n p) h = own-number s h .1
+judged-number lent s (Sheet.ok m) h b l k = λ e. absurd (omega arith)
+judged-number lent s (Sheet.no n p) h b l k = own-number s h .1 b l k
 
 not-42 : (lent : List ℕ) (ts : List Token) (ps : List Part) (fs : List Name) → named lent ts ps fs .answer .number ≢ 42
 unfolding named refused
 not-42 lent ts ps (n ∷ ns) = λ e. absurd (omega arith)
-not-42 lent ts ps [] = λ e. let z = judged-number lent (sheetOf ts ps) (read (sheetOf ts ps)) refl in absurd (omega arith)
+not-42 lent ts ps [] = judged-number lent (sheetOf ts ps) (read (sheetOf ts ps)) refl 42 (omega arith) (omega arith)
 
 underived : (text lent : List ℕ) (r : Res Source) → readModule unnumbered (tokens text) ≡ r → ((m : ModuleDeclaration) → Derives text m → ⊥)
     → derived text lent r .answer .number ≡ 42
@@ -111,7 +118,7 @@ faulty lent ts ps [] k = absurd (k refl)
 not-43 : (lent : List ℕ) (ts : List Token) (ps : List Part) (fs : List Name) → named lent ts ps fs .answer .number ≡ 43 → fs ≢ []
 unfolding named refused
 not-43 lent ts ps (n ∷ ns) e = λ q. let z : _≡_ {A = ℕ} 0 1 = cc in absurd (omega arith)
-not-43 lent ts ps [] e = let z = judged-number lent (sheetOf ts ps) (read (sheetOf ts ps)) refl in absurd (omega arith)
+not-43 lent ts ps [] e = absurd (judged-number lent (sheetOf ts ps) (read (sheetOf ts ps)) refl 43 (omega arith) (omega arith) e)
 
 pub then-the-names : ThenTheNames
 unfolding ThenTheNames
@@ -203,7 +210,7 @@ accepted-names text lent m [] f d e q = by (read (sheetBy m)) refl (rw (sheet-by
           encoded = w .1;
           stored = unfold judged accepted in rw (k, r) refl;
         }
-    by (Sheet.no n p) r j k = let z : n ≡ 0 = unfold judged refused in j in let y = own-number (sheetBy m) r in absurd (omega arith)
+    by (Sheet.no n p) r j k = let z : n ≡ 0 = unfold judged refused in j in let y = own-number (sheetBy m) r .0 in absurd (omega arith)
 
 accepted-derived : (text lent : List ℕ) (r : Res Source) → readModule unnumbered (tokens text) ≡ r → derived text lent r .answer .number ≡ 0
     → compiled text lent ≡ derived text lent r → Accepted text lent

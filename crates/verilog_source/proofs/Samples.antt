@@ -11,7 +11,8 @@ use Rattle.writing.specs.Ascii.{ascii}
 use Rattle.sheet.specs.Reading.{byteAt, within, word, wordOf, wordAt}
 use Rattle.sheet.specs.Expression.{kindOf, variableAt, node, readExpr, tree}
 use Rattle.sheet.specs.Statement.{size, isRegister, readTerms, narrow, narrowAll, formOf, assignment, form, readStmt}
-use Rattle.sheet.specs.Module.{readWidths, readHead, readWires, readThreads, readSheet, read}
+use Rattle.sheet.specs.Functions.{readWidths, readFunctions}
+use Rattle.sheet.specs.Module.{inputsOf, firstAt, functionCount, widthsAt, readHead, readWires, readThreads, wholeSheet, readSheet, read}
 use Rattle.encoding.specs.Encoding.{encodeWord, encodeExpr, encodeTerms}
 use Rattle.verilog_grammar.specs.Reader.{unsigned as unsignedReader, naught, constant, furtherListed, listed, list, bounds, range, declaration, netAssignment, continuousAssign, alwaysConstruct, moduleItem, moduleEnd, moduleMore, moduleItems, ended, readModule}
 use Rattle.verilog_tokens.specs.Table.{nameIn, namesIn, placeOf}
@@ -24,7 +25,8 @@ use Rattle.verilog_grammar.proofs.Samples.{sample}
 -- A text's tokens, with every definition open that makes a sheet of them.
 unfoldable pub opened : String → List Token
 unfolding sample places edgeOf edgeNumber unaryWidth binaryWidth byteAt within word wordOf wordAt kindOf variableAt node readExpr tree size
-    isRegister readTerms narrow narrowAll formOf assignment form readStmt readWidths readHead readWires readThreads readSheet read
+    isRegister readTerms narrow narrowAll formOf assignment form readStmt readWidths inputsOf firstAt functionCount
+    widthsAt readHead readFunctions readWires readThreads wholeSheet readSheet read
     encodeWord encodeExpr encodeTerms unsignedReader naught constant furtherListed listed list bounds range declaration netAssignment
     continuousAssign alwaysConstruct moduleItem moduleEnd moduleMore moduleItems ended readModule kindNumber ofWidth variables declared
     driven threads inOrder nameOf placeOf numberOf isAmongNames missing repeated nameIn namesIn used targetOf faults lower lowest

@@ -107,7 +107,8 @@ pub fn print_sheet(sheet: &[u8]) -> Outcome {
 // Where the waits stand, for the rows of the extraction. Gives how many there are.
 pub fn find_waits(sheet: &[u8], layout: Layout, heads: &mut [usize; 32]) -> usize {
     let mut code = [0u16; 4096];
-    let sizes = pseudocode::compile(sheet, layout.threads, layout.body, &mut code);
+    let definitions = layout.definitions;
+    let sizes = pseudocode::compile(sheet, &definitions, layout.threads, layout.body, &mut code);
     overview::fill_heads(sheet, &code, &sizes, layout.threads, heads)
 }
 
@@ -141,7 +142,8 @@ fn say_extraction(sheet: &[u8], names: &[u8; 2560], waits: usize) -> Outcome {
 // What the sheet declares, and what each thread holds.
 fn say_counts(sheet: &[u8], layout: Layout) -> Outcome {
     let mut code = [0u16; 4096];
-    let sizes = pseudocode::compile(sheet, layout.threads, layout.body, &mut code);
+    let definitions = layout.definitions;
+    let sizes = pseudocode::compile(sheet, &definitions, layout.threads, layout.body, &mut code);
     let mut text = [0u8; 65536];
     let p = overview::put_counts(sheet.len(), layout, &mut text, 0);
     let q = overview::put_threads(sheet, &code, &sizes, layout.threads, &mut text, p);

@@ -68,8 +68,8 @@ unfolding refuses
 fills-refuses {x} (the-rows.filled v) = let e = ap (λ (y : Filling). y .extent .nodes) (v .same) in le-ltb 4096 (x .extent .nodes) (omega (arith, v .room))
 fills-refuses {x} (spilled f) = lt-ltb 4096 (x .extent .nodes) (omega arith)
 
-module _ {s : List ℕ} {m : Module Expr} {starts sizes code readers : List ℕ} {watched : List Bool}
-    (z : Sound m) (h : Holding s m starts sizes code readers watched) (e : Expressions s m code) (places : List ℕ) (body : ℕ) where
+module _ {s ds : List ℕ} {m : Module Expr} {starts sizes code readers : List ℕ} {watched : List Bool}
+    (z : Sound m) (h : Holding s m starts sizes code readers watched) (e : Expressions s ds m code) (places : List ℕ) (body : ℕ) where
   abbrev threads : ℕ
   threads = length (m .threads)
 
@@ -80,10 +80,10 @@ module _ {s : List ℕ} {m : Module Expr} {starts sizes code readers : List ℕ}
   ls = laterBelow s code sizes (m .scope .inputs) (length (m .threads)) (replicate 8 0)
 
   abbrev reading : List ℕ
-  reading = readingBelow s code sizes (length (m .threads)) (replicate 80 0)
+  reading = readingBelow s ds code sizes (length (m .threads)) (replicate 80 0)
 
   abbrev l : Layout
-  l = shape m places body
+  l = shape m ds places body
 
   -- The places of a thread that are looked at.
   size-is : (i : ℕ) → i < threads → sizeOf sizes i ≡ length (codeOf m i)
@@ -123,7 +123,7 @@ module _ {s : List ℕ} {m : Module Expr} {starts sizes code readers : List ℕ}
       → byCode s l code sizes ps ls (ClockAt i) p ≡ readsAt 0 (instrAt (codeOf m i) p)
   unfolding byCode readsClock instrAt
   clock-at i p k n =
-      let x = instr-marks (m .scope .widths) s (few-widths z h e) 0 (omega arith) (e i p k n) (replicate 80 0) refl in
+      let x = instr-marks (m .scope) s ds (few-widths z h e) (e .counted) 0 (omega arith) (e .at i p k n) (replicate 80 0) refl in
       x .own 0 (omega arith)
       ∙ ap (λ t. t || readsAt 0 (getD (codeOf m i) p (go 0))) (any-none (bits 0) (any-bits 0 (omega arith)) 0)
 
@@ -184,7 +184,7 @@ module _ {s : List ℕ} {m : Module Expr} {starts sizes code readers : List ℕ}
 
   -- ---- 21
 
-  module _ (fetched : AllFetched s code m) (kept : manyWaits m ≡ false) where
+  module _ (fetched : AllFetched s code m) (none : m .scope .declared ≡ 0) (kept : manyWaits m ≡ false) where
     few : waitsBelow m (length (m .threads)) ≤ 32
     unfolding manyWaits
     few = ltb-false 32 (waitsBelow m threads) kept
@@ -200,7 +200,7 @@ module _ {s : List ℕ} {m : Module Expr} {starts sizes code readers : List ℕ}
         (r + waitsBefore (codeOf m i) n) (o >>= walksBelow m i n)
     then i k {r = r} (the-rows.filled {T = T} v) most n u =
         rw (v .same)
-        (below-filled m z s code fetched ps ls (plain-law z h (replicate 8 0) refl) (later-law z h (replicate 8 0) refl) i k T r (v .rows) (v .room) most n u)
+        (below-filled m z none s code fetched ps ls (plain-law z h (replicate 8 0) refl) (later-law z h (replicate 8 0) refl) i k T r (v .rows) (v .room) most n u)
     then i k {x} (spilled f) most n u =
         spilled (below-full s code (threadAt (m .scope .inputs) (m .scope .registers) ps ls i) (length (codeOf m i)) n x f)
 
@@ -218,7 +218,7 @@ module _ {s : List ℕ} {m : Module Expr} {starts sizes code readers : List ℕ}
         ∙ ap (λ (c : ℕ). ltb 4096 (walksBelowAt s code t c n x .extent .nodes)) (own-size i k)
         ∙ (fills-refuses
         (then i k
-        (threads-filled m z s code fetched ps ls (plain-law z h (replicate 8 0) refl) (later-law z h (replicate 8 0) refl) sizes own-size
+        (threads-filled m z none s code fetched ps ls (plain-law z h (replicate 8 0) refl) (later-law z h (replicate 8 0) refl) sizes own-size
         (m .scope .inputs + m .scope .registers + length (m .wires)) (z .variables) few i (omega arith))
         (omega (arith, few)) n u))
 

@@ -9,7 +9,7 @@ use lib.ListN.{length, getD, set, replicate}
 use Rattle.values.specs.Values.{pick}
 use Rattle.sheet.specs.declared.Layout.{Layout}
 use Rattle.sheet.specs.Expression.{Expr}
-use Rattle.sheet.specs.Module.{Module}
+use Rattle.sheet.specs.Module.{widthsAt, Module}
 use Rattle.masks.specs.Masks.{bits}
 use Rattle.soundness.specs.Soundness.{Sound}
 use Rattle.events.specs.Cycle.{anyBelow, wireExpr, wireVariable}
@@ -29,19 +29,22 @@ use Rattle.witness.specs.Seeking.{aWire, byMarks, doubleWrittenAt, writt
 use Rattle.witness.proofs.Lowest.{lowest-same, lowest-some, lowest-most, lowest-holds}
 
 -- A layout with the module's counts.
-abbrev pub shape : Module Expr → List ℕ → ℕ → Layout
-shape m places body =
+abbrev pub shape : Module Expr → List ℕ → List ℕ → ℕ → Layout
+shape m ds places body =
     record {
       inputs = m .scope .inputs;
       registers = m .scope .registers;
       wires = length (m .wires);
       threads = length (m .threads);
+      functions = m .scope .declared;
+      widths = widthsAt (m .scope .declared);
+      definitions = ds;
       starts = places;
       body = body;
     }
 
-module _ {s : List ℕ} {m : Module Expr} {starts sizes code readers : List ℕ} {watched : List Bool}
-    (z : Sound m) (h : Holding s m starts sizes code readers watched) (e : Expressions s m code) (places : List ℕ) (body : ℕ) where
+module _ {s ds : List ℕ} {m : Module Expr} {starts sizes code readers : List ℕ} {watched : List Bool}
+    (z : Sound m) (h : Holding s m starts sizes code readers watched) (e : Expressions s ds m code) (places : List ℕ) (body : ℕ) where
   abbrev inputs : ℕ
   inputs = m .scope .inputs
 
@@ -61,10 +64,10 @@ module _ {s : List ℕ} {m : Module Expr} {starts sizes code readers : List ℕ}
   ls = laterBelow s code sizes (m .scope .inputs) (length (m .threads)) (replicate 8 0)
 
   abbrev reading : List ℕ
-  reading = readingBelow s code sizes (length (m .threads)) (replicate 80 0)
+  reading = readingBelow s ds code sizes (length (m .threads)) (replicate 80 0)
 
   abbrev l : Layout
-  l = shape m places body
+  l = shape m ds places body
 
   near : (r : ℕ) → r ≤ registers → inputs + r < 80
   near r k = omega (arith, z .inputs-most, z .registers-most)

@@ -77,8 +77,8 @@ module _ (l : Layout) (readers ps ls reading : List ℕ) where
 -- ---- 15, 18, 20, 21: tests on a thread's code
 
 -- Does the instruction read the clock?
-unfoldable pub readsClock : List ℕ → Instruction → Bool
-readsClock s i = getD (bits (getD (markInstr s 0 i (replicate 80 0)) 0 0)) 0 false
+unfoldable pub readsClock : List ℕ → List ℕ → Instruction → Bool
+readsClock s ds i = getD (bits (getD (markInstr s ds 0 i (replicate 80 0)) 0 0)) 0 false
 
 -- Have the threads before thread i, and its first n instructions, over 32 waits? There are eight threads at most.
 unfoldable pub waitsOver : List ℕ → List ℕ → List ℕ → ℕ → ℕ → Bool
@@ -101,7 +101,7 @@ module _ (s : List ℕ) (l : Layout) (code sizes : List ℕ) where
     unfoldable pub byCode : CodeTest → ℕ → Bool
     byCode OtherWait k = otherWaitIn s code k (sizeOf sizes k)
     byCode (OtherWaitAt i) k = otherWaitOf (fetchAt s code i k)
-    byCode (ClockAt i) k = readsClock s (fetchAt s code i k)
+    byCode (ClockAt i) k = readsClock s (l .definitions) (fetchAt s code i k)
     byCode Waits k = waitsOver s code sizes k (sizeOf sizes k)
     byCode (WaitsAt i) k = waitsOver s code sizes i (k + 1)
     byCode Spills k = ltb 4096 (nodesAt ps ls k (sizeOf sizes k))
@@ -126,17 +126,17 @@ module _ (s : List ℕ) (l : Layout) (code sizes : List ℕ) where
         (aPlace 18 i (lowest (sizeOf sizes i) (byCode (ClockAt i))))
         (aWire 18 0 0 (lowest (l .wires) (byMarks l readers ps ls reading (WireReads 0))) 0)
 
--- ---- 16, 17: tests on the threads' statements, the first at `body`
+-- ---- 16, 17: tests on the threads' statements, the first at `body`; the functions' definitions stand at the places ds
 
-module _ (s : List ℕ) (body : ℕ) where
+module _ (s ds : List ℕ) (body : ℕ) where
   -- The place of thread i's statement.
   unfoldable pub bodyAt : ℕ → ℕ
   bodyAt zero = body
-  bodyAt (suc i) = walkAt 64 s (bodyAt i) .next
+  bodyAt (suc i) = walkAt 64 s ds (bodyAt i) .next
 
   unfoldable pub byBody : BodyTest → ℕ → Bool
-  byBody Running k = not (walkAt 64 s (bodyAt k) .starts)
-  byBody Away k = let w = walkAt 64 s (bodyAt k) in not (w .surely && w .loops)
+  byBody Running k = not (walkAt 64 s ds (bodyAt k) .starts)
+  byBody Away k = let w = walkAt 64 s ds (bodyAt k) in not (w .surely && w .loops)
 
 -- ---- the lowest rule that is broken
 
@@ -153,8 +153,8 @@ module _ (s : List ℕ) (l : Layout) (code sizes readers ps ls reading : List �
   unfoldable pub higherAt : Witness
   higherAt =
       pick (otherWaitBelow s code sizes (l .threads)) (oddWaitAt s l code sizes ps ls)
-      (pick (startsRunningFrom s (l .threads) (l .body)) (aPlace 16 (lowest (l .threads) (byBody s (l .body) Running)) 0)
-      (pick (runsAwayFrom s (l .threads) (l .body)) (aPlace 17 (lowest (l .threads) (byBody s (l .body) Away)) 0)
+      (pick (startsRunningFrom s (l .definitions) (l .threads) (l .body)) (aPlace 16 (lowest (l .threads) (byBody s (l .definitions) (l .body) Running)) 0)
+      (pick (runsAwayFrom s (l .definitions) (l .threads) (l .body)) (aPlace 17 (lowest (l .threads) (byBody s (l .definitions) (l .body) Away)) 0)
       lastAt))
 
   unfoldable pub witnessAt : Witness
@@ -171,4 +171,4 @@ filledAt s l code sizes readers =
     witnessAt s l code sizes readers
     (plainBelow s code sizes (l .inputs) (atMost 8 (l .threads)) (replicate 8 0))
     (laterBelow s code sizes (l .inputs) (atMost 8 (l .threads)) (replicate 8 0))
-    (readingBelow s code sizes (atMost 8 (l .threads)) (replicate 80 0))
+    (readingBelow s (l .definitions) code sizes (atMost 8 (l .threads)) (replicate 80 0))

@@ -21,11 +21,11 @@ ghost use Rattle.witness.specs.Witness.{lowest};
 ghost use Rattle.witness.specs.Seeking.{readsClock, waitsOver, nodesAt, byCode, oddWaitAt, surplusWaitAt, overflowingWalkAt, clockReaderAt};
 
 // Does an instruction read the clock?
-fn reads_clock(sheet: &[u8], i: Instruction) -> bool
-    ensures { λ b. ⌜ b ≡ readsClock (now (sheet .entry)) i ⌝ }
+fn reads_clock(sheet: &[u8], definitions: &[usize; 8], i: Instruction) -> bool
+    ensures { λ b. ⌜ b ≡ readsClock (now (sheet .entry)) (now (definitions .entry)) i ⌝ }
 {
     let mut reading = [0u32; 80];
-    rules::mark_instr(sheet, i, 0, &mut reading);
+    rules::mark_instr(sheet, definitions, i, 0, &mut reading);
     masks::has(reading[0], 0)
 }
 
@@ -152,7 +152,10 @@ fn by_code(
     match test {
         CodeTest::OtherWait => rules::other_wait_in(sheet, code, k, rules::size_of(sizes, k)),
         CodeTest::OtherWaitAt(i) => rules::other_wait_of(pseudocode::fetch(sheet, code, i, k)),
-        CodeTest::ClockAt(i) => reads_clock(sheet, pseudocode::fetch(sheet, code, i, k)),
+        CodeTest::ClockAt(i) => {
+            let x = pseudocode::fetch(sheet, code, i, k);
+            reads_clock(sheet, &layout.definitions, x)
+        }
         CodeTest::Waits => waits_over(sheet, code, sizes, k, rules::size_of(sizes, k)),
         CodeTest::WaitsAt(i) => waits_over(sheet, code, sizes, i, k + 1),
         CodeTest::Spills => 4096

@@ -213,12 +213,24 @@ fn higher(
     if rules::other_wait(sheet, code, sizes, threads) {
         return odd_wait(sheet, layout, code, sizes, plain, later);
     }
-    if rules::starts_running(sheet, layout.threads, layout.body) {
-        let i = first_body(sheet, layout.body, BodyTest::Running, threads);
+    if rules::starts_running(sheet, &layout.definitions, layout.threads, layout.body) {
+        let i = first_body(
+            sheet,
+            &layout.definitions,
+            layout.body,
+            BodyTest::Running,
+            threads,
+        );
         return a_place(16, i, 0);
     }
-    if rules::runs_away(sheet, layout.threads, layout.body) {
-        let i = first_body(sheet, layout.body, BodyTest::Away, threads);
+    if rules::runs_away(sheet, &layout.definitions, layout.threads, layout.body) {
+        let i = first_body(
+            sheet,
+            &layout.definitions,
+            layout.body,
+            BodyTest::Away,
+            threads,
+        );
         return a_place(17, i, 0);
     }
     last(sheet, layout, code, sizes, readers, plain, later, reading)
@@ -280,7 +292,14 @@ fn filled(
         &mut plain,
         &mut later,
     );
-    rules::thread_readers(sheet, code, sizes, layout.threads, &mut reading);
+    rules::thread_readers(
+        sheet,
+        &layout.definitions,
+        code,
+        sizes,
+        layout.threads,
+        &mut reading,
+    );
     judged(
         sheet,
         layout,
@@ -302,9 +321,16 @@ pub fn witness_of(sheet: &[u8]) -> Witness
         return bare(read.number);
     }
     let layout = read.layout;
+    let definitions = layout.definitions;
     let mut code = [0u16; 4096];
     let mut readers = [0u32; 80];
-    let sizes = pseudocode::compile(sheet, layout.threads, layout.body, &mut code);
-    tables::fill_readers(sheet, &layout.starts, layout.wires, &mut readers);
+    let sizes = pseudocode::compile(sheet, &definitions, layout.threads, layout.body, &mut code);
+    tables::fill_readers(
+        sheet,
+        &definitions,
+        &layout.starts,
+        layout.wires,
+        &mut readers,
+    );
     filled(sheet, layout, &code, &sizes, &readers)
 }

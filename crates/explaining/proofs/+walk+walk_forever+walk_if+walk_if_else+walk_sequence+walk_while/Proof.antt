@@ -44,59 +44,59 @@ use Rattle.explaining.proofs.Printing.{deeper-most}
 use Rattle.explaining.proofs.Walking.{sequence-path, forever-once, forever-again, if-path, if-else-path, while-once, while-again}
 use Rattle.explaining.proofs.Walking.{stmt-deep, stmt-far, stmt-form, stmt-other}
 
-abbrev μ-walk : Measures 3 walk-kinds.ps ℕ
-μ-walk κs a = a .1 .1 .0 * 4
+abbrev μ-walk : Measures 4 walk-kinds.ps ℕ
+μ-walk κs a = a .1 .1 .1 .0 * 4
 
-abbrev μ-walk-forever : Measures 3 walk-forever-kinds.ps ℕ
-μ-walk-forever κs a = a .1 .1 .0 * 4 + 1
+abbrev μ-walk-forever : Measures 4 walk-forever-kinds.ps ℕ
+μ-walk-forever κs a = a .1 .1 .1 .0 * 4 + 1
 
-abbrev μ-walk-if : Measures 3 walk-if-kinds.ps ℕ
-μ-walk-if κs a = a .1 .1 .0 * 4 + 1
+abbrev μ-walk-if : Measures 4 walk-if-kinds.ps ℕ
+μ-walk-if κs a = a .1 .1 .1 .0 * 4 + 1
 
-abbrev μ-walk-if-else : Measures 3 walk-if-else-kinds.ps ℕ
-μ-walk-if-else κs a = a .1 .1 .0 * 4 + 1
+abbrev μ-walk-if-else : Measures 4 walk-if-else-kinds.ps ℕ
+μ-walk-if-else κs a = a .1 .1 .1 .0 * 4 + 1
 
-abbrev μ-walk-sequence : Measures 3 walk-sequence-kinds.ps ℕ
-μ-walk-sequence κs a = a .1 .1 .0 * 4 + 1
+abbrev μ-walk-sequence : Measures 4 walk-sequence-kinds.ps ℕ
+μ-walk-sequence κs a = a .1 .1 .1 .0 * 4 + 1
 
-abbrev μ-walk-while : Measures 3 walk-while-kinds.ps ℕ
-μ-walk-while κs a = a .1 .1 .0 * 4 + 2
+abbrev μ-walk-while : Measures 4 walk-while-kinds.ps ℕ
+μ-walk-while κs a = a .1 .1 .1 .0 * 4 + 2
 
-abbrev walk-at : ℕ → In 3 walk-kinds.ps
-walk-at t = and 3 walk-kinds.ps (is 3 walk-kinds.ps μ-walk t) walk.Pre
+abbrev walk-at : ℕ → In 4 walk-kinds.ps
+walk-at t = and 4 walk-kinds.ps (is 4 walk-kinds.ps μ-walk t) walk.Pre
 
-abbrev walk-below : ℕ → In 3 walk-kinds.ps
-walk-below t = and 3 walk-kinds.ps (falls 3 walk-kinds.ps _<_ μ-walk t) walk.Pre
+abbrev walk-below : ℕ → In 4 walk-kinds.ps
+walk-below t = and 4 walk-kinds.ps (falls 4 walk-kinds.ps _<_ μ-walk t) walk.Pre
 
-abbrev walk-forever-at : ℕ → In 3 walk-forever-kinds.ps
-walk-forever-at t = and 3 walk-forever-kinds.ps (is 3 walk-forever-kinds.ps μ-walk-forever t) walk-forever.Pre
+abbrev walk-forever-at : ℕ → In 4 walk-forever-kinds.ps
+walk-forever-at t = and 4 walk-forever-kinds.ps (is 4 walk-forever-kinds.ps μ-walk-forever t) walk-forever.Pre
 
-abbrev walk-forever-below : ℕ → In 3 walk-forever-kinds.ps
-walk-forever-below t = and 3 walk-forever-kinds.ps (falls 3 walk-forever-kinds.ps _<_ μ-walk-forever t) walk-forever.Pre
+abbrev walk-forever-below : ℕ → In 4 walk-forever-kinds.ps
+walk-forever-below t = and 4 walk-forever-kinds.ps (falls 4 walk-forever-kinds.ps _<_ μ-walk-forever t) walk-forever.Pre
 
-abbrev walk-if-at : ℕ → In 3 walk-if-kinds.ps
-walk-if-at t = and 3 walk-if-kinds.ps (is 3 walk-if-kinds.ps μ-walk-if t) walk-if.Pre
+abbrev walk-if-at : ℕ → In 4 walk-if-kinds.ps
+walk-if-at t = and 4 walk-if-kinds.ps (is 4 walk-if-kinds.ps μ-walk-if t) walk-if.Pre
 
-abbrev walk-if-below : ℕ → In 3 walk-if-kinds.ps
-walk-if-below t = and 3 walk-if-kinds.ps (falls 3 walk-if-kinds.ps _<_ μ-walk-if t) walk-if.Pre
+abbrev walk-if-below : ℕ → In 4 walk-if-kinds.ps
+walk-if-below t = and 4 walk-if-kinds.ps (falls 4 walk-if-kinds.ps _<_ μ-walk-if t) walk-if.Pre
 
-abbrev walk-if-else-at : ℕ → In 3 walk-if-else-kinds.ps
-walk-if-else-at t = and 3 walk-if-else-kinds.ps (is 3 walk-if-else-kinds.ps μ-walk-if-else t) walk-if-else.Pre
+abbrev walk-if-else-at : ℕ → In 4 walk-if-else-kinds.ps
+walk-if-else-at t = and 4 walk-if-else-kinds.ps (is 4 walk-if-else-kinds.ps μ-walk-if-else t) walk-if-else.Pre
 
-abbrev walk-if-else-below : ℕ → In 3 walk-if-else-kinds.ps
-walk-if-else-below t = and 3 walk-if-else-kinds.ps (falls 3 walk-if-else-kinds.ps _<_ μ-walk-if-else t) walk-if-else.Pre
+abbrev walk-if-else-below : ℕ → In 4 walk-if-else-kinds.ps
+walk-if-else-below t = and 4 walk-if-else-kinds.ps (falls 4 walk-if-else-kinds.ps _<_ μ-walk-if-else t) walk-if-else.Pre
 
-abbrev walk-sequence-at : ℕ → In 3 walk-sequence-kinds.ps
-walk-sequence-at t = and 3 walk-sequence-kinds.ps (is 3 walk-sequence-kinds.ps μ-walk-sequence t) walk-sequence.Pre
+abbrev walk-sequence-at : ℕ → In 4 walk-sequence-kinds.ps
+walk-sequence-at t = and 4 walk-sequence-kinds.ps (is 4 walk-sequence-kinds.ps μ-walk-sequence t) walk-sequence.Pre
 
-abbrev walk-sequence-below : ℕ → In 3 walk-sequence-kinds.ps
-walk-sequence-below t = and 3 walk-sequence-kinds.ps (falls 3 walk-sequence-kinds.ps _<_ μ-walk-sequence t) walk-sequence.Pre
+abbrev walk-sequence-below : ℕ → In 4 walk-sequence-kinds.ps
+walk-sequence-below t = and 4 walk-sequence-kinds.ps (falls 4 walk-sequence-kinds.ps _<_ μ-walk-sequence t) walk-sequence.Pre
 
-abbrev walk-while-at : ℕ → In 3 walk-while-kinds.ps
-walk-while-at t = and 3 walk-while-kinds.ps (is 3 walk-while-kinds.ps μ-walk-while t) walk-while.Pre
+abbrev walk-while-at : ℕ → In 4 walk-while-kinds.ps
+walk-while-at t = and 4 walk-while-kinds.ps (is 4 walk-while-kinds.ps μ-walk-while t) walk-while.Pre
 
-abbrev walk-while-below : ℕ → In 3 walk-while-kinds.ps
-walk-while-below t = and 3 walk-while-kinds.ps (falls 3 walk-while-kinds.ps _<_ μ-walk-while t) walk-while.Pre
+abbrev walk-while-below : ℕ → In 4 walk-while-kinds.ps
+walk-while-below t = and 4 walk-while-kinds.ps (falls 4 walk-while-kinds.ps _<_ μ-walk-while t) walk-while.Pre
 
 -- What walk calls.
 abbrev walk-calls : ℕ → walk-lts.Claims
@@ -182,16 +182,16 @@ Mapped t = walk-lts.After-byte-at (walk-calls t) (walk-at t) walk.Post
 form-at : (t : ℕ) (f : Form) (c : Mapped t) → c .byte-at .result ≡ formMap f
     → let a = c .before .before .before .before .args in
     let n = nameOf (a .names .now) in
-    stmtAt n (a .sheet .now) (a .k) (a .depth) (a .level) (told (a .w) (a .text .now))
-    ≡ formAt n (a .sheet .now) (a .k) (stmtAt n (a .sheet .now) (a .k) (a .depth - 1)) (a .level) (told (a .w) (a .text .now)) (ok f)
+    stmtAt n (a .sheet .now) (a .definitions .now) (a .k) (a .depth) (a .level) (told (a .w) (a .text .now))
+    ≡ formAt n (a .sheet .now) (a .definitions .now) (a .k) (stmtAt n (a .sheet .now) (a .definitions .now) (a .k) (a .depth - 1)) (a .level) (told (a .w) (a .text .now)) (ok f)
 form-at t f c e =
-    stmt-form _ _ _ _ _ _ f (c .before .before .if1 .left) (c .before .if2 .left) (sym (c .byte-at .ensures) ∙ e)
+    stmt-form _ _ _ _ _ _ _ f (c .before .before .if1 .left) (c .before .if2 .left) (sym (c .byte-at .ensures) ∙ e)
 
 walk-returns : (t : ℕ) → walk-lts.Need-returns (walk-calls t) (walk-at t) walk.Post
-walk-returns t c = sym (stmt-deep _ _ _ _ _ _ (c .if1 .taken))
+walk-returns t c = sym (stmt-deep _ _ _ _ _ _ _ (c .if1 .taken))
 
 walk-returns-2 : (t : ℕ) → walk-lts.Need-returns-2 (walk-calls t) (walk-at t) walk.Post
-walk-returns-2 t c = sym (stmt-far _ _ _ _ _ _ (c .if2 .taken))
+walk-returns-2 t c = sym (stmt-far _ _ _ _ _ _ _ (c .if2 .taken))
 
 walk-returns-3 : (t : ℕ) → walk-lts.Need-returns-3 (walk-calls t) (walk-at t) walk.Post
 unfolding formAt inside formMap
@@ -237,7 +237,7 @@ walk-returns-12 t c =
     let at = v .before .before .before .args .w .next in
     let r = c .match .rest in
     sym
-    (stmt-other _ _ _ _ _ _ (v .before .if1 .left) (v .if2 .left)
+    (stmt-other _ _ _ _ _ _ _ (v .before .if1 .left) (v .if2 .left)
     (ap (λ (m : ℕ). formOf m at) (sym (c .before .byte-at .ensures))
     ∙ no-form _ at (r .0 .0 .0 .0 .0 .0 .0 .0 .1) (r .0 .0 .0 .0 .0 .0 .0 .1) (r .0 .0 .0 .0 .0 .0 .1)
     (r .0 .0 .0 .0 .0 .1) (r .0 .0 .0 .0 .1) (r .0 .0 .0 .1) (r .0 .0 .1) (r .0 .1) (r .1)))

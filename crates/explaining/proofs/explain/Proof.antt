@@ -17,20 +17,22 @@ returns-2 c =
 
 returns-3 : tie.Need-returns-3
 returns-3 c =
-    let u = c .before .before .before .before in
+    let x = c .before .before .before .before in
+    let u = x .before .before .before in
     let v = u .before .before .before in
     explain-away _ _ _ _ _ (v .before .read .ensures) (v .if1 .left) (omega (arith, u .before .wide .ensures, u .if2 .left))
-    (c .before .before .before .body-at .ensures) (c .before .before .walk .ensures)
+    (x .body-at .ensures) (c .before .before .walk .ensures)
     (sym (c .before .both .ensures) ∙ not-true (c .before .both .result) (c .if3 .taken))
 
 returns-4 : tie.Need-returns-4
 returns-4 c =
-    let x = c .before .before in
-    let u = x .before .before .before .before in
+    let y = c .before .before .before in
+    let x = y .before .before .before .before in
+    let u = x .before .before .before in
     let v = u .before .before .before in
     explain-read _ _ _ _ _ (v .before .read .ensures) (v .if1 .left) (omega (arith, u .before .wide .ensures, u .if2 .left))
-    (x .before .before .before .body-at .ensures) (x .before .before .walk .ensures)
-    (sym (x .before .both .ensures) ∙ not-false (x .before .both .result) (x .if3 .left)) (c .print-thread .ensures)
+    (x .body-at .ensures) (y .before .before .walk .ensures)
+    (sym (y .before .both .ensures) ∙ not-false (y .before .both .result) (y .if3 .left)) (c .print-thread .ensures)
 
 pub explain-spec : {M : Type 1} → statement M
 explain-spec =

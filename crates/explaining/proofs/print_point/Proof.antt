@@ -6,7 +6,7 @@ use Rattle.explaining.proofs.print_point.Statement.{statement}
 use Rattle.explaining.proofs.print_point.Tie as tie
 
 returns : tie.Need-returns
-returns c = point-path _ _ _ _ _ (c .before .before .put-heading .ensures) refl (c .walk-forever .ensures)
+returns c = point-path _ _ _ _ _ _ (c .before .before .put-heading .ensures) refl (c .walk-forever .ensures)
 
 pub print-point-spec : {M : Type 1} → statement M
 print-point-spec =

@@ -8,7 +8,7 @@ use Rattle.explaining.proofs.print_thread.Tie as tie
 returns : tie.Need-returns
 unfolding ascii
 returns c =
-    thread-path _ _ _ _ _ (c .before .before .before .before .before .before .before .before .before .put-word .ensures)
+    thread-path _ _ _ _ _ _ (c .before .before .before .before .before .before .before .before .before .put-word .ensures)
     (c .before .before .before .before .before .before .before .put-decimal .ensures)
     (c .before .before .before .before .put-word2 .ensures)
     (c .before .before .print-point .ensures) (c .print-points .ensures)

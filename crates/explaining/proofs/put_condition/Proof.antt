@@ -8,7 +8,7 @@ use Rattle.explaining.proofs.put_condition.Tie as tie
 returns : tie.Need-returns
 unfolding ascii
 returns c =
-    condition-path _ _ _ _ _ (c .before .before .before .before .before .before .before .before .put-indent .ensures)
+    condition-path _ _ _ _ _ _ (c .before .before .before .before .before .before .before .before .put-indent .ensures)
     (c .before .before .before .before .before .put-word .ensures) (c .before .before .before .print-expr .ensures)
     (c .put-word2 .ensures)
 

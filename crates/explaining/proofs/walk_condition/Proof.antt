@@ -5,7 +5,7 @@ use Rattle.explaining.proofs.walk_condition.Statement.{statement}
 use Rattle.explaining.proofs.walk_condition.Tie as tie
 
 returns : tie.Need-returns
-returns c = condition-walk _ _ _ _ (c .before .before .skip-expr .ensures) (c .say-condition .ensures)
+returns c = condition-walk _ _ _ _ _ (c .before .before .skip-expr .ensures) (c .say-condition .ensures)
 
 pub walk-condition-spec : {M : Type 1} → statement M
 walk-condition-spec =

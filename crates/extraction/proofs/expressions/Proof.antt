@@ -10,8 +10,8 @@ returns c = answer-refused _ _ (c .before .before .read .ensures) _ _ (c .if1 .t
 returns-2 : tie.Need-returns-2
 returns-2 c =
     let b1 = c .before .before .before .before .before in
-    let b2 = b1 .before .before .before .before in
-    let b3 = b2 .before .before .before in
+    let b2 = b1 .before .before .before .before .before in
+    let b3 = b2 .before .before .before .before .before in
     let b4 = b3 .before .before in
     answer-broken _ _ (b4 .read .ensures) (b3 .if1 .left) _ _ _ _ (b2 .compile .ensures .1) (b2 .compile .ensures .0)
     (b1 .fill-readers .ensures) (c .before .rule .ensures) _ _ (c .if2 .taken)
@@ -22,8 +22,8 @@ returns-3 c =
     let b2 = b1 .before .before .before .before .before in
     let b3 = b2 .before in
     let b4 = b3 .before .before .before .before in
-    let b5 = b4 .before .before .before .before in
-    let b6 = b5 .before .before .before in
+    let b5 = b4 .before .before .before .before .before in
+    let b6 = b5 .before .before .before .before .before in
     let b7 = b6 .before .before in
     let b8 = b7 .before .before in
     let p = b8 .pre in
@@ -36,8 +36,8 @@ returns-4 c =
     let b2 = b1 .before .before .before .before .before in
     let b3 = b2 .before in
     let b4 = b3 .before .before .before .before in
-    let b5 = b4 .before .before .before .before in
-    let b6 = b5 .before .before .before in
+    let b5 = b4 .before .before .before .before .before in
+    let b6 = b5 .before .before .before .before .before in
     let b7 = b6 .before .before in
     let b8 = b7 .before .before in
     let p = b8 .pre in

@@ -13,7 +13,7 @@ returns c =
 
 returns-2 : tie.Need-returns-2
 returns-2 c =
-    let at-if = c .before .before .before in
+    let at-if = c .before .before .before .before .before in
     let at-read = at-if .before in
     let a = at-read .before .before .args in
     list-read (a .sheet .now) (at-read .read .result) (at-read .read .ensures) (at-if .if1 .left) (a .text .now) (c .print-listing .ensures)

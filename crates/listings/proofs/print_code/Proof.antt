@@ -16,25 +16,25 @@ use Rattle.pseudocode.proofs.fetch.Reads as fetch-reads
 use Rattle.text.proofs.print_line.Reads as print-line-reads
 
 abbrev Inv-loop : tie.InvT-loop
-Inv-loop sheet code thread size text₀ pos p₀ place₀ text p place =
-    (place ≤ size) × (puts (filled text p) (codeLines sheet code thread (size - place) place) ≡ puts (filled text₀ pos) (codeLines sheet code thread size 0))
+Inv-loop sheet definitions code thread size text₀ pos p₀ place₀ text p place =
+    (place ≤ size) × (puts (filled text p) (codeLines sheet definitions code thread (size - place) place) ≡ puts (filled text₀ pos) (codeLines sheet definitions code thread size 0))
 
 abbrev μ-loop : tie.MeasureT-loop
-μ-loop sheet code thread size text₀ pos p₀ place₀ text p place = size - place
+μ-loop sheet definitions code thread size text₀ pos p₀ place₀ text p place = size - place
 
 loop-holds : tie.Need-loop-holds Inv-loop μ-loop
 loop-holds c =
     let a = c .before .args in
-    (search needs, ap (λ n. puts (filled (a .text .now) (a .pos)) (codeLines (a .sheet .now) (a .code .now) (a .thread) n 0)) (sub-zero (a .size)))
+    (search needs, ap (λ n. puts (filled (a .text .now) (a .pos)) (codeLines (a .sheet .now) (a .definitions .now) (a .code .now) (a .thread) n 0)) (sub-zero (a .size)))
 
 loop-again : tie.Need-loop-again Inv-loop μ-loop
 loop-again c =
     let l = c .before .before .before .before .loop in
     let a = c .before .before .before .before .before .before .args in
-    let line = showLine (textAt (a .sheet .now)) (a .thread) (l .place) in
+    let line = showLine (textAt (a .sheet .now) (a .definitions .now)) (a .thread) (l .place) in
     let e = c .print-line .ensures ∙ ap (λ i. puts (filled (l .text) (l .p)) (line (instrOf i))) (c .before .before .fetch .ensures) in (
       search needs,
-      code-turn (a .sheet .now) (a .code .now) (a .thread) (a .size) (l .place) (filled (l .text) (l .p)) _ (c .before .before .before .loop-test .taken) e
+      code-turn (a .sheet .now) (a .definitions .now) (a .code .now) (a .thread) (a .size) (l .place) (filled (l .text) (l .p)) _ (c .before .before .before .loop-test .taken) e
           ∙ l .inv .1,
     )
 
@@ -42,7 +42,7 @@ returns : tie.Need-returns Inv-loop μ-loop
 returns c =
     let l = c .before .loop in
     let a = c .before .before .before .args in
-    let e = code-end (a .sheet .now) (a .code .now) (a .thread) (a .size) (l .place) (c .loop-test .left) in
+    let e = code-end (a .sheet .now) (a .definitions .now) (a .code .now) (a .thread) (a .size) (l .place) (c .loop-test .left) in
     sym (puts-nil _) ∙ ap (λ x. puts (filled (l .text) (l .p)) x) (sym e) ∙ l .inv .1
 
 pub print-code-spec : {M : Type 1} → statement M

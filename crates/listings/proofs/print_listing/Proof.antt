@@ -14,7 +14,7 @@ use Rattle.text.proofs.print_head.Reads as print-head-reads
 returns : tie.Need-returns
 returns c =
     let a = c .before .before .before .before .before .before .before .before .args in
-    listing-path (a .sheet .now) (a .threads) (a .body) (filled (a .text .now) 0) _ _ (c .before .before .before .before .before .compile .ensures .0) (c .before .before .before .before .before .compile .ensures .1) (c .before .before .before .print-head .ensures) (c .print-threads .ensures)
+    listing-path (a .sheet .now) (a .definitions .now) (a .threads) (a .body) (filled (a .text .now) 0) _ _ (c .before .before .before .before .before .compile .ensures .0) (c .before .before .before .before .before .compile .ensures .1) (c .before .before .before .print-head .ensures) (c .print-threads .ensures)
 
 pub print-listing-spec : {M : Type 1} → statement M
 print-listing-spec = tie.close (tie.spec (λ c κs. search needs) (λ c κs. search needs) (λ c κs. search needs) returns)

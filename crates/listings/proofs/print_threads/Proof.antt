@@ -14,24 +14,24 @@ use Rattle.listings.proofs.print_code.Reads as print-code-reads
 use Rattle.listings.proofs.size_at.Reads as size-at-reads
 
 abbrev Inv-loop : tie.InvT-loop
-Inv-loop sheet code sizes threads text₀ pos p₀ thread₀ text p thread =
-    (thread ≤ threads) × (puts (filled text p) (threadLines sheet code sizes (threads - thread) thread) ≡ puts (filled text₀ pos) (threadLines sheet code sizes threads 0))
+Inv-loop sheet definitions code sizes threads text₀ pos p₀ thread₀ text p thread =
+    (thread ≤ threads) × (puts (filled text p) (threadLines sheet definitions code sizes (threads - thread) thread) ≡ puts (filled text₀ pos) (threadLines sheet definitions code sizes threads 0))
 
 abbrev μ-loop : tie.MeasureT-loop
-μ-loop sheet code sizes threads text₀ pos p₀ thread₀ text p thread = threads - thread
+μ-loop sheet definitions code sizes threads text₀ pos p₀ thread₀ text p thread = threads - thread
 
 loop-holds : tie.Need-loop-holds Inv-loop μ-loop
 loop-holds c =
     let a = c .before .args in
-    (search needs, ap (λ n. puts (filled (a .text .now) (a .pos)) (threadLines (a .sheet .now) (a .code .now) (a .sizes) n 0)) (sub-zero (a .threads)))
+    (search needs, ap (λ n. puts (filled (a .text .now) (a .pos)) (threadLines (a .sheet .now) (a .definitions .now) (a .code .now) (a .sizes) n 0)) (sub-zero (a .threads)))
 
 loop-again : tie.Need-loop-again Inv-loop μ-loop
 loop-again c =
     let l = c .before .before .before .before .loop in
     let a = c .before .before .before .before .before .before .args in
-    let e = c .print-code .ensures ∙ ap (λ n. puts (filled (l .text) (l .p)) (codeLines (a .sheet .now) (a .code .now) (l .thread) n 0)) (c .before .before .size-at .ensures) in (
+    let e = c .print-code .ensures ∙ ap (λ n. puts (filled (l .text) (l .p)) (codeLines (a .sheet .now) (a .definitions .now) (a .code .now) (l .thread) n 0)) (c .before .before .size-at .ensures) in (
       search needs,
-      thread-turn (a .sheet .now) (a .code .now) (a .sizes) (a .threads) (l .thread) (filled (l .text) (l .p)) _ (c .before .before .before .loop-test .taken) e
+      thread-turn (a .sheet .now) (a .definitions .now) (a .code .now) (a .sizes) (a .threads) (l .thread) (filled (l .text) (l .p)) _ (c .before .before .before .loop-test .taken) e
           ∙ l .inv .1,
     )
 
@@ -39,7 +39,7 @@ returns : tie.Need-returns Inv-loop μ-loop
 returns c =
     let l = c .before .loop in
     let a = c .before .before .before .args in
-    let e = thread-end (a .sheet .now) (a .code .now) (a .sizes) (a .threads) (l .thread) (c .loop-test .left) in
+    let e = thread-end (a .sheet .now) (a .definitions .now) (a .code .now) (a .sizes) (a .threads) (l .thread) (c .loop-test .left) in
     sym (puts-nil _) ∙ ap (λ x. puts (filled (l .text) (l .p)) x) (sym e) ∙ l .inv .1
 
 pub print-threads-spec : {M : Type 1} → statement M

@@ -40,7 +40,7 @@ returns c =
     let at-at-most = at-fill-counts .before .before in
     let at-wide = at-at-most .before in
     let at-compile = at-wide .before in
-    let a = at-compile .before .before .before .args in
+    let a = at-compile .before .before .before .before .before .args in
     plan-filled (a .sheet .now) (a .t2) (a .plan .now) (at-compile .compile .ensures .1) (at-compile .compile .ensures .0)
     (at-at-most .at-most .ensures ∙ ap (atMost 8) (at-wide .wide .ensures))
     (at-fill-watchers .fill-watchers .ensures

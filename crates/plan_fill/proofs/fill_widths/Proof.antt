@@ -1,31 +1,26 @@
 -- `plan_fill::fill_widths` meets its contract. Assumes nothing.
 use borrow.Author.Needs.{needs}
-use native.Mathlib.Omega.{arith}
 use Rattle.tables.proofs.Readers.{atMost-most}
 use Rattle.plan_fill.specs.Filling.{withWidths}
-use Prim.Native.Nat.{_+_}
 use Rattle.plan_fill.proofs.fill_widths.Statement.{statement}
 use Rattle.plan_fill.proofs.fill_widths.Tie as tie
 
 put-widths-requires : tie.Need-put-widths-requires
 put-widths-requires c κs =
-    let at-wide2 = c .before .before .before in
-    let at-wide = at-wide2 .before in
-    omega (
-      arith,
-      atMost-most 80 (at-wide .wide .result + at-wide2 .wide2 .result + c .before .before .wide3 .result),
-      c .before .at-most .ensures,
-    )
+    let at-at-most = c .before .before in
+    (rw (at-at-most .at-most .ensures) (atMost-most 5 _), rw (c .before .at-most2 .ensures) (atMost-most 80 _))
 
 returns : tie.Need-returns
 unfolding withWidths
 returns c =
-    let at-wide3 = c .before .before .before in
+    let at-at-most = c .before .before .before in
+    let at-wide3 = at-at-most .before in
     let at-wide2 = at-wide3 .before in
     let at-wide = at-wide2 .before in
     rw (
       c .put-widths .ensures,
-      c .before .before .at-most .ensures,
+      c .before .before .at-most2 .ensures,
+      at-at-most .at-most .ensures,
       at-wide .wide .ensures,
       at-wide2 .wide2 .ensures,
       at-wide3 .wide3 .ensures,
@@ -40,6 +35,7 @@ fill-widths-spec =
     (λ c. search needs)
     (λ c κs. search needs)
     (λ c. search needs)
+    (λ c κs. search needs)
     (λ c κs. search needs)
     put-widths-requires
     returns)

@@ -9,14 +9,14 @@ use Rattle.plan_fill.proofs.put_widths.Statement.{statement}
 use Rattle.plan_fill.proofs.put_widths.Tie as tie
 
 abbrev Inv-loop : tie.InvT-loop
-Inv-loop sheet n plan₀ v₀ plan v = (v ≤ n) × (plan ≡ upTo (putWidth sheet) v plan₀)
+Inv-loop sheet at n plan₀ v₀ plan v = (v ≤ n) × (plan ≡ upTo (putWidth sheet at) v plan₀)
 
 abbrev μ-loop : tie.MeasureT-loop
-μ-loop sheet n plan₀ v₀ plan v = n - v
+μ-loop sheet at n plan₀ v₀ plan v = n - v
 
 loop-holds : tie.Need-loop-holds Inv-loop μ-loop
 loop-holds c =
-    (search needs, up-none (putWidth (c .before .args .sheet .now)) (c .before .args .plan .now))
+    (search needs, up-none (putWidth (c .before .args .sheet .now) (c .before .args .at)) (c .before .args .plan .now))
 
 loop-again : tie.Need-loop-again Inv-loop μ-loop
 loop-again c =
@@ -24,14 +24,14 @@ loop-again c =
     let a = at-loop .before .before .args in
     let l = at-loop .loop in (
       omega arith,
-      up-turn (putWidth (a .sheet .now)) (a .plan .now) (l .v) (l .inv .1)
-          (width-put (a .sheet .now) (l .plan) (l .v) (c .widen .ensures ∙ c .before .byte-at .ensures)),
+      up-turn (putWidth (a .sheet .now) (a .at)) (a .plan .now) (l .v) (l .inv .1)
+          (width-put (a .sheet .now) (a .at) (l .plan) (l .v) (c .widen .ensures ∙ c .before .byte-at .ensures)),
     )
 
 returns : tie.Need-returns Inv-loop μ-loop
 returns c =
     let at-args = c .before .before .before in
-    up-end (putWidth (at-args .args .sheet .now)) (at-args .args .plan .now) (c .before .loop .inv .1) (omega arith)
+    up-end (putWidth (at-args .args .sheet .now) (at-args .args .at)) (at-args .args .plan .now) (c .before .loop .inv .1) (omega arith)
 
 pub put-widths-spec : {M : Type 1} → statement M
 put-widths-spec =

@@ -42,59 +42,59 @@ use Rattle.sheet.proofs.Statements.{formMap}
 use Rattle.pseudocode.specs.Filling.{filling, emit, setKind, laterKind, waitKind, fillAssign, fillForm, fillAt}
 use Rattle.pseudocode.proofs.Filling.{no-form, fill-none, fill-far, fill-full, fill-form, fill-other, sequence-path, if-path, if-else-path, while-path, forever-path}
 
-abbrev μ-fill-forever : Measures 2 fill-forever-kinds.ps ℕ
-μ-fill-forever κs a = a .1 .1 .0 + a .1 .1 .0 + 1
+abbrev μ-fill-forever : Measures 3 fill-forever-kinds.ps ℕ
+μ-fill-forever κs a = a .1 .1 .1 .0 + a .1 .1 .1 .0 + 1
 
-abbrev μ-fill-if : Measures 2 fill-if-kinds.ps ℕ
-μ-fill-if κs a = a .1 .1 .0 + a .1 .1 .0 + 1
+abbrev μ-fill-if : Measures 3 fill-if-kinds.ps ℕ
+μ-fill-if κs a = a .1 .1 .1 .0 + a .1 .1 .1 .0 + 1
 
-abbrev μ-fill-if-else : Measures 2 fill-if-else-kinds.ps ℕ
-μ-fill-if-else κs a = a .1 .1 .0 + a .1 .1 .0 + 1
+abbrev μ-fill-if-else : Measures 3 fill-if-else-kinds.ps ℕ
+μ-fill-if-else κs a = a .1 .1 .1 .0 + a .1 .1 .1 .0 + 1
 
-abbrev μ-fill-sequence : Measures 2 fill-sequence-kinds.ps ℕ
-μ-fill-sequence κs a = a .1 .1 .0 + a .1 .1 .0 + 1
+abbrev μ-fill-sequence : Measures 3 fill-sequence-kinds.ps ℕ
+μ-fill-sequence κs a = a .1 .1 .1 .0 + a .1 .1 .1 .0 + 1
 
-abbrev μ-fill-stmt : Measures 2 fill-stmt-kinds.ps ℕ
-μ-fill-stmt κs a = a .1 .1 .0 + a .1 .1 .0
+abbrev μ-fill-stmt : Measures 3 fill-stmt-kinds.ps ℕ
+μ-fill-stmt κs a = a .1 .1 .1 .0 + a .1 .1 .1 .0
 
-abbrev μ-fill-while : Measures 2 fill-while-kinds.ps ℕ
-μ-fill-while κs a = a .1 .1 .0 + a .1 .1 .0 + 1
+abbrev μ-fill-while : Measures 3 fill-while-kinds.ps ℕ
+μ-fill-while κs a = a .1 .1 .1 .0 + a .1 .1 .1 .0 + 1
 
-abbrev fill-forever-at : ℕ → In 2 fill-forever-kinds.ps
-fill-forever-at t = and 2 fill-forever-kinds.ps (is 2 fill-forever-kinds.ps μ-fill-forever t) fill-forever.Pre
+abbrev fill-forever-at : ℕ → In 3 fill-forever-kinds.ps
+fill-forever-at t = and 3 fill-forever-kinds.ps (is 3 fill-forever-kinds.ps μ-fill-forever t) fill-forever.Pre
 
-abbrev fill-forever-below : ℕ → In 2 fill-forever-kinds.ps
-fill-forever-below t = and 2 fill-forever-kinds.ps (falls 2 fill-forever-kinds.ps _<_ μ-fill-forever t) fill-forever.Pre
+abbrev fill-forever-below : ℕ → In 3 fill-forever-kinds.ps
+fill-forever-below t = and 3 fill-forever-kinds.ps (falls 3 fill-forever-kinds.ps _<_ μ-fill-forever t) fill-forever.Pre
 
-abbrev fill-if-at : ℕ → In 2 fill-if-kinds.ps
-fill-if-at t = and 2 fill-if-kinds.ps (is 2 fill-if-kinds.ps μ-fill-if t) fill-if.Pre
+abbrev fill-if-at : ℕ → In 3 fill-if-kinds.ps
+fill-if-at t = and 3 fill-if-kinds.ps (is 3 fill-if-kinds.ps μ-fill-if t) fill-if.Pre
 
-abbrev fill-if-below : ℕ → In 2 fill-if-kinds.ps
-fill-if-below t = and 2 fill-if-kinds.ps (falls 2 fill-if-kinds.ps _<_ μ-fill-if t) fill-if.Pre
+abbrev fill-if-below : ℕ → In 3 fill-if-kinds.ps
+fill-if-below t = and 3 fill-if-kinds.ps (falls 3 fill-if-kinds.ps _<_ μ-fill-if t) fill-if.Pre
 
-abbrev fill-if-else-at : ℕ → In 2 fill-if-else-kinds.ps
-fill-if-else-at t = and 2 fill-if-else-kinds.ps (is 2 fill-if-else-kinds.ps μ-fill-if-else t) fill-if-else.Pre
+abbrev fill-if-else-at : ℕ → In 3 fill-if-else-kinds.ps
+fill-if-else-at t = and 3 fill-if-else-kinds.ps (is 3 fill-if-else-kinds.ps μ-fill-if-else t) fill-if-else.Pre
 
-abbrev fill-if-else-below : ℕ → In 2 fill-if-else-kinds.ps
-fill-if-else-below t = and 2 fill-if-else-kinds.ps (falls 2 fill-if-else-kinds.ps _<_ μ-fill-if-else t) fill-if-else.Pre
+abbrev fill-if-else-below : ℕ → In 3 fill-if-else-kinds.ps
+fill-if-else-below t = and 3 fill-if-else-kinds.ps (falls 3 fill-if-else-kinds.ps _<_ μ-fill-if-else t) fill-if-else.Pre
 
-abbrev fill-sequence-at : ℕ → In 2 fill-sequence-kinds.ps
-fill-sequence-at t = and 2 fill-sequence-kinds.ps (is 2 fill-sequence-kinds.ps μ-fill-sequence t) fill-sequence.Pre
+abbrev fill-sequence-at : ℕ → In 3 fill-sequence-kinds.ps
+fill-sequence-at t = and 3 fill-sequence-kinds.ps (is 3 fill-sequence-kinds.ps μ-fill-sequence t) fill-sequence.Pre
 
-abbrev fill-sequence-below : ℕ → In 2 fill-sequence-kinds.ps
-fill-sequence-below t = and 2 fill-sequence-kinds.ps (falls 2 fill-sequence-kinds.ps _<_ μ-fill-sequence t) fill-sequence.Pre
+abbrev fill-sequence-below : ℕ → In 3 fill-sequence-kinds.ps
+fill-sequence-below t = and 3 fill-sequence-kinds.ps (falls 3 fill-sequence-kinds.ps _<_ μ-fill-sequence t) fill-sequence.Pre
 
-abbrev fill-stmt-at : ℕ → In 2 fill-stmt-kinds.ps
-fill-stmt-at t = and 2 fill-stmt-kinds.ps (is 2 fill-stmt-kinds.ps μ-fill-stmt t) fill-stmt.Pre
+abbrev fill-stmt-at : ℕ → In 3 fill-stmt-kinds.ps
+fill-stmt-at t = and 3 fill-stmt-kinds.ps (is 3 fill-stmt-kinds.ps μ-fill-stmt t) fill-stmt.Pre
 
-abbrev fill-stmt-below : ℕ → In 2 fill-stmt-kinds.ps
-fill-stmt-below t = and 2 fill-stmt-kinds.ps (falls 2 fill-stmt-kinds.ps _<_ μ-fill-stmt t) fill-stmt.Pre
+abbrev fill-stmt-below : ℕ → In 3 fill-stmt-kinds.ps
+fill-stmt-below t = and 3 fill-stmt-kinds.ps (falls 3 fill-stmt-kinds.ps _<_ μ-fill-stmt t) fill-stmt.Pre
 
-abbrev fill-while-at : ℕ → In 2 fill-while-kinds.ps
-fill-while-at t = and 2 fill-while-kinds.ps (is 2 fill-while-kinds.ps μ-fill-while t) fill-while.Pre
+abbrev fill-while-at : ℕ → In 3 fill-while-kinds.ps
+fill-while-at t = and 3 fill-while-kinds.ps (is 3 fill-while-kinds.ps μ-fill-while t) fill-while.Pre
 
-abbrev fill-while-below : ℕ → In 2 fill-while-kinds.ps
-fill-while-below t = and 2 fill-while-kinds.ps (falls 2 fill-while-kinds.ps _<_ μ-fill-while t) fill-while.Pre
+abbrev fill-while-below : ℕ → In 3 fill-while-kinds.ps
+fill-while-below t = and 3 fill-while-kinds.ps (falls 3 fill-while-kinds.ps _<_ μ-fill-while t) fill-while.Pre
 
 -- What fill_forever calls.
 abbrev fill-forever-calls : ℕ → fill-forever-lts.Claims
@@ -184,40 +184,40 @@ Mapped t = fill-stmt-lts.After-byte-at2 (fill-stmt-calls t) (fill-stmt-at t) fil
 form-at : (t : ℕ) (k : Form) (c : Mapped t) → c .before .byte-at .result ≡ formMap k
     → let a = c .before .before .before .before .before .before .args in
     let f = filling (a .at) (a .place) (a .code .now) in
-    fillAt (a .sheet .now) (a .thread) (a .depth) f
-    ≡ fillForm (a .sheet .now) (a .thread) (fillAt (a .sheet .now) (a .thread) (a .depth - 1)) f (ok k)
+    fillAt (a .sheet .now) (a .definitions .now) (a .thread) (a .depth) f
+    ≡ fillForm (a .sheet .now) (a .definitions .now) (a .thread) (fillAt (a .sheet .now) (a .definitions .now) (a .thread) (a .depth - 1)) f (ok k)
 form-at t k c e =
     let v = c .before .before in
-    fill-form _ _ _ _ k (v .before .before .if1 .left) (v .before .if2 .left) (v .if3 .left) (sym (c .before .byte-at .ensures) ∙ e)
+    fill-form _ _ _ _ _ k (v .before .before .if1 .left) (v .before .if2 .left) (v .if3 .left) (sym (c .before .byte-at .ensures) ∙ e)
 
 fill-forever-returns : (t : ℕ) → fill-forever-lts.Need-returns (fill-forever-calls t) (fill-forever-at t) fill-forever.Post
 unfolding emit
-fill-forever-returns t c = forever-path _ _ _ _ _ (c .before .before .fill-stmt .ensures) (c .emit .ensures)
+fill-forever-returns t c = forever-path _ _ _ _ _ _ (c .before .before .fill-stmt .ensures) (c .emit .ensures)
 
 fill-if-returns : (t : ℕ) → fill-if-lts.Need-returns (fill-if-calls t) (fill-if-at t) fill-if.Post
 fill-if-returns t c =
     let v = c .before .before in
-    if-path _ _ _ _ _ (v .before .before .before .skip-expr .ensures) (v .before .before .after .ensures) (v .fill-stmt .ensures)
+    if-path _ _ _ _ _ _ (v .before .before .before .skip-expr .ensures) (v .before .before .after .ensures) (v .fill-stmt .ensures)
     (c .store .ensures)
 
 fill-if-else-returns : (t : ℕ) → fill-if-else-lts.Need-returns (fill-if-else-calls t) (fill-if-else-at t) fill-if-else.Post
 fill-if-else-returns t c =
     let w = c .before .before .before .before in
     let v = w .before .before .before in
-    if-else-path _ _ _ _ _ (v .before .before .before .skip-expr .ensures) (v .before .before .after .ensures) (v .fill-stmt .ensures)
+    if-else-path _ _ _ _ _ _ (v .before .before .before .skip-expr .ensures) (v .before .before .after .ensures) (v .fill-stmt .ensures)
     (w .before .before .after2 .ensures) (w .fill-stmt2 .ensures) (c .before .before .store .ensures) (c .store2 .ensures)
 
 fill-sequence-returns : (t : ℕ) → fill-sequence-lts.Need-returns (fill-sequence-calls t) (fill-sequence-at t) fill-sequence.Post
-fill-sequence-returns t c = sequence-path _ _ _ _ _ (c .before .before .fill-stmt .ensures) (c .fill-stmt2 .ensures)
+fill-sequence-returns t c = sequence-path _ _ _ _ _ _ (c .before .before .fill-stmt .ensures) (c .fill-stmt2 .ensures)
 
 fill-stmt-returns : (t : ℕ) → fill-stmt-lts.Need-returns (fill-stmt-calls t) (fill-stmt-at t) fill-stmt.Post
-fill-stmt-returns t c = sym (fill-none _ _ _ _ (c .if1 .taken))
+fill-stmt-returns t c = sym (fill-none _ _ _ _ _ (c .if1 .taken))
 
 fill-stmt-returns-2 : (t : ℕ) → fill-stmt-lts.Need-returns-2 (fill-stmt-calls t) (fill-stmt-at t) fill-stmt.Post
-fill-stmt-returns-2 t c = sym (fill-far _ _ _ _ (c .if2 .taken))
+fill-stmt-returns-2 t c = sym (fill-far _ _ _ _ _ (c .if2 .taken))
 
 fill-stmt-returns-3 : (t : ℕ) → fill-stmt-lts.Need-returns-3 (fill-stmt-calls t) (fill-stmt-at t) fill-stmt.Post
-fill-stmt-returns-3 t c = sym (fill-full _ _ _ _ (c .before .if2 .left) (c .if3 .taken))
+fill-stmt-returns-3 t c = sym (fill-full _ _ _ _ _ (c .before .if2 .left) (c .if3 .taken))
 
 fill-stmt-returns-4 : (t : ℕ) → fill-stmt-lts.Need-returns-4 (fill-stmt-calls t) (fill-stmt-at t) fill-stmt.Post
 unfolding fillForm formMap
@@ -230,7 +230,7 @@ fill-stmt-returns-5 t c =
     let a = v .before .before .before .before .before .before .args in
     let f = filling (a .at) (a .place) (a .code .now) in
     c .fill-assign .ensures
-    ∙ ap (λ (g : ℕ). fillAssign (a .sheet .now) (a .thread) setKind g (a .at + 2) f) (v .byte-at2 .ensures)
+    ∙ ap (λ (g : ℕ). fillAssign (a .sheet .now) (a .definitions .now) (a .thread) setKind g (a .at + 2) f) (v .byte-at2 .ensures)
     ∙ sym (form-at t anAssign v (c .before .before .match .keys2))
 
 fill-stmt-returns-6 : (t : ℕ) → fill-stmt-lts.Need-returns-6 (fill-stmt-calls t) (fill-stmt-at t) fill-stmt.Post
@@ -240,7 +240,7 @@ fill-stmt-returns-6 t c =
     let a = v .before .before .before .before .before .before .args in
     let f = filling (a .at) (a .place) (a .code .now) in
     c .fill-assign2 .ensures
-    ∙ ap (λ (g : ℕ). fillAssign (a .sheet .now) (a .thread) laterKind g (a .at + 2) f) (v .byte-at2 .ensures)
+    ∙ ap (λ (g : ℕ). fillAssign (a .sheet .now) (a .definitions .now) (a .thread) laterKind g (a .at + 2) f) (v .byte-at2 .ensures)
     ∙ sym (form-at t aLater v (c .before .before .match .keys3))
 
 fill-stmt-returns-7 : (t : ℕ) → fill-stmt-lts.Need-returns-7 (fill-stmt-calls t) (fill-stmt-at t) fill-stmt.Post
@@ -279,7 +279,7 @@ fill-stmt-returns-13 t c =
     let at = v .before .before .before .before .args .at in
     let r = c .match .rest in
     sym
-    (fill-other _ _ _ _ (v .before .before .if1 .left) (v .before .if2 .left) (v .if3 .left)
+    (fill-other _ _ _ _ _ (v .before .before .if1 .left) (v .before .if2 .left) (v .if3 .left)
     (ap (λ (m : ℕ). formOf m at) (sym (c .before .before .byte-at .ensures))
     ∙ no-form _ at (r .0 .0 .0 .0 .0 .0 .0 .0 .1) (r .0 .0 .0 .0 .0 .0 .0 .1) (r .0 .0 .0 .0 .0 .0 .1)
     (r .0 .0 .0 .0 .0 .1) (r .0 .0 .0 .0 .1) (r .0 .0 .0 .1) (r .0 .0 .1) (r .0 .1) (r .1)))
@@ -289,7 +289,7 @@ unfolding emit
 fill-while-returns t c =
     let w = c .before .before in
     let v = w .before .before in
-    while-path _ _ _ _ _ (v .before .before .before .skip-expr .ensures) (v .before .before .after .ensures) (v .fill-stmt .ensures)
+    while-path _ _ _ _ _ _ (v .before .before .before .skip-expr .ensures) (v .before .before .after .ensures) (v .fill-stmt .ensures)
     (w .emit .ensures) (c .store .ensures)
 
 pub +fill-forever+fill-if+fill-if-else+fill-sequence+fill-stmt+fill-while-spec : {M : Type 1} → statement M

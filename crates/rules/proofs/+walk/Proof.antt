@@ -14,7 +14,7 @@ use Rattle.rules.proofs.in_while.Reads as in-while-reads
 use Rattle.rules.proofs.running.Reads as running-reads
 use Rattle.rules.proofs.waits.Reads as waits-reads
 use Rattle.rules.proofs.wide.Reads as wide-reads
-use Rattle.sheet.proofs.byte_at.Reads as byte-at-reads
+use Rattle.sheet.proofs.bytes.byte_at.Reads as byte-at-reads
 use Rattle.rules.proofs.+walk.{statement}
 use Rattle.rules.proofs.+walk.Tie.{close}
 use borrow.Author.Needs.{needs}
@@ -24,14 +24,14 @@ use Rattle.pseudocode.proofs.Filling.{no-form}
 use Rattle.rules.proofs.Walking.{walk-none, walk-far, walk-other, at-empty, at-assign, at-later, at-sequence}
 use Rattle.rules.proofs.Walking.{at-if, at-if-else, at-while, at-forever, at-wait}
 
-abbrev μ-walk : Measures 1 walk-kinds.ps ℕ
-μ-walk κs a = a .1 .1 .0
+abbrev μ-walk : Measures 2 walk-kinds.ps ℕ
+μ-walk κs a = a .1 .1 .1 .0
 
-abbrev walk-at : ℕ → In 1 walk-kinds.ps
-walk-at t = and 1 walk-kinds.ps (is 1 walk-kinds.ps μ-walk t) walk.Pre
+abbrev walk-at : ℕ → In 2 walk-kinds.ps
+walk-at t = and 2 walk-kinds.ps (is 2 walk-kinds.ps μ-walk t) walk.Pre
 
-abbrev walk-below : ℕ → In 1 walk-kinds.ps
-walk-below t = and 1 walk-kinds.ps (falls 1 walk-kinds.ps _<_ μ-walk t) walk.Pre
+abbrev walk-below : ℕ → In 2 walk-kinds.ps
+walk-below t = and 2 walk-kinds.ps (falls 2 walk-kinds.ps _<_ μ-walk t) walk.Pre
 
 -- What walk calls.
 abbrev walk-calls : ℕ → walk-lts.Claims
@@ -62,73 +62,73 @@ walk-calls t = (
 
 walk-returns : (t : ℕ) → walk-lts.Need-returns (walk-calls t) (walk-at t) walk.Post
 walk-returns t c =
-    walk-none _ _ _ (c .before .if1 .taken) (c .running .ensures)
+    walk-none _ _ _ _ (c .before .if1 .taken) (c .running .ensures)
 
 walk-returns-2 : (t : ℕ) → walk-lts.Need-returns-2 (walk-calls t) (walk-at t) walk.Post
 walk-returns-2 t c =
-    walk-far _ _ _ (c .before .if2 .taken) (c .running2 .ensures)
+    walk-far _ _ _ _ (c .before .if2 .taken) (c .running2 .ensures)
 
 walk-returns-3 : (t : ℕ) → walk-lts.Need-returns-3 (walk-calls t) (walk-at t) walk.Post
 walk-returns-3 t c =
     let v = c .before in
     let g = v .before in
-    at-empty _ _ _ (g .before .before .if1 .left) (g .before .if2 .left) (sym (g .byte-at .ensures) ∙ v .match .keys1)
+    at-empty _ _ _ _ (g .before .before .if1 .left) (g .before .if2 .left) (sym (g .byte-at .ensures) ∙ v .match .keys1)
     (c .running3 .ensures)
 
 walk-returns-4 : (t : ℕ) → walk-lts.Need-returns-4 (walk-calls t) (walk-at t) walk.Post
 walk-returns-4 t c =
     let v = c .before .before in
     let g = v .before in
-    at-assign _ _ _ (g .before .before .if1 .left) (g .before .if2 .left) (sym (g .byte-at .ensures) ∙ v .match .keys2)
+    at-assign _ _ _ _ (g .before .before .if1 .left) (g .before .if2 .left) (sym (g .byte-at .ensures) ∙ v .match .keys2)
     (c .before .skip-expr .ensures) (c .running4 .ensures)
 
 walk-returns-5 : (t : ℕ) → walk-lts.Need-returns-5 (walk-calls t) (walk-at t) walk.Post
 walk-returns-5 t c =
     let v = c .before .before in
     let g = v .before in
-    at-later _ _ _ (g .before .before .if1 .left) (g .before .if2 .left) (sym (g .byte-at .ensures) ∙ v .match .keys3)
+    at-later _ _ _ _ (g .before .before .if1 .left) (g .before .if2 .left) (sym (g .byte-at .ensures) ∙ v .match .keys3)
     (c .before .skip-expr2 .ensures) (c .running5 .ensures)
 
 walk-returns-6 : (t : ℕ) → walk-lts.Need-returns-6 (walk-calls t) (walk-at t) walk.Post
 walk-returns-6 t c =
     let v = c .before .before .before in
     let g = v .before in
-    at-sequence _ _ _ (g .before .before .if1 .left) (g .before .if2 .left) (sym (g .byte-at .ensures) ∙ v .match .keys4)
+    at-sequence _ _ _ _ (g .before .before .if1 .left) (g .before .if2 .left) (sym (g .byte-at .ensures) ∙ v .match .keys4)
     (c .before .before .walk .ensures) (c .before .walk2 .ensures) (c .in-sequence .ensures)
 
 walk-returns-7 : (t : ℕ) → walk-lts.Need-returns-7 (walk-calls t) (walk-at t) walk.Post
 walk-returns-7 t c =
     let v = c .before .before .before in
     let g = v .before in
-    at-if _ _ _ (g .before .before .if1 .left) (g .before .if2 .left) (sym (g .byte-at .ensures) ∙ v .match .keys5)
+    at-if _ _ _ _ (g .before .before .if1 .left) (g .before .if2 .left) (sym (g .byte-at .ensures) ∙ v .match .keys5)
     (c .before .before .skip-expr3 .ensures) (c .before .walk3 .ensures) (c .in-if .ensures)
 
 walk-returns-8 : (t : ℕ) → walk-lts.Need-returns-8 (walk-calls t) (walk-at t) walk.Post
 walk-returns-8 t c =
     let v = c .before .before .before .before in
     let g = v .before in
-    at-if-else _ _ _ (g .before .before .if1 .left) (g .before .if2 .left) (sym (g .byte-at .ensures) ∙ v .match .keys6)
+    at-if-else _ _ _ _ (g .before .before .if1 .left) (g .before .if2 .left) (sym (g .byte-at .ensures) ∙ v .match .keys6)
     (c .before .before .before .skip-expr4 .ensures) (c .before .before .walk4 .ensures) (c .before .walk5 .ensures) (c .in-if-else .ensures)
 
 walk-returns-9 : (t : ℕ) → walk-lts.Need-returns-9 (walk-calls t) (walk-at t) walk.Post
 walk-returns-9 t c =
     let v = c .before .before .before in
     let g = v .before in
-    at-while _ _ _ (g .before .before .if1 .left) (g .before .if2 .left) (sym (g .byte-at .ensures) ∙ v .match .keys7)
+    at-while _ _ _ _ (g .before .before .if1 .left) (g .before .if2 .left) (sym (g .byte-at .ensures) ∙ v .match .keys7)
     (c .before .before .skip-expr5 .ensures) (c .before .walk6 .ensures) (c .in-while .ensures)
 
 walk-returns-10 : (t : ℕ) → walk-lts.Need-returns-10 (walk-calls t) (walk-at t) walk.Post
 walk-returns-10 t c =
     let v = c .before .before in
     let g = v .before in
-    at-forever _ _ _ (g .before .before .if1 .left) (g .before .if2 .left) (sym (g .byte-at .ensures) ∙ v .match .keys8)
+    at-forever _ _ _ _ (g .before .before .if1 .left) (g .before .if2 .left) (sym (g .byte-at .ensures) ∙ v .match .keys8)
     (c .before .walk7 .ensures) (c .in-forever .ensures)
 
 walk-returns-11 : (t : ℕ) → walk-lts.Need-returns-11 (walk-calls t) (walk-at t) walk.Post
 walk-returns-11 t c =
     let v = c .before .before .before in
     let g = v .before in
-    at-wait _ _ _ (g .before .before .if1 .left) (g .before .if2 .left) (sym (g .byte-at .ensures) ∙ v .match .keys9)
+    at-wait _ _ _ _ (g .before .before .if1 .left) (g .before .if2 .left) (sym (g .byte-at .ensures) ∙ v .match .keys9)
     (c .before .before .byte-at2 .ensures) (c .before .wide .ensures) (c .waits .ensures)
 
 walk-returns-12 : (t : ℕ) → walk-lts.Need-returns-12 (walk-calls t) (walk-at t) walk.Post
@@ -137,7 +137,7 @@ walk-returns-12 t c =
     let g = v .before in
     let at = g .before .before .before .before .args .at in
     let r = v .match .rest in
-    walk-other _ at _ (g .before .before .if1 .left) (g .before .if2 .left)
+    walk-other _ _ at _ (g .before .before .if1 .left) (g .before .if2 .left)
     (ap (λ (m : ℕ). formOf m at) (sym (g .byte-at .ensures))
     ∙ no-form _ at (r .0 .0 .0 .0 .0 .0 .0 .0 .1) (r .0 .0 .0 .0 .0 .0 .0 .1) (r .0 .0 .0 .0 .0 .0 .1) (r .0 .0 .0 .0 .0 .1) (r .0 .0 .0 .0 .1)
     (r .0 .0 .0 .1) (r .0 .0 .1) (r .0 .1) (r .1))

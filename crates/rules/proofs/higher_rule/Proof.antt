@@ -13,7 +13,7 @@ returns c =
 returns-2 : tie.Need-returns-2
 unfolding higherRule
 returns-2 c =
-    let v1 = c .before .before in
+    let v1 = c .before .before .before .before in
     rw (
       sym (v1 .before .other-wait .ensures) ∙ v1 .if1 .left,
       sym (c .before .starts-running .ensures) ∙ c .if2 .taken,
@@ -22,8 +22,8 @@ returns-2 c =
 returns-3 : tie.Need-returns-3
 unfolding higherRule
 returns-3 c =
-    let v2 = c .before .before in
-    let v1 = v2 .before .before in
+    let v2 = c .before .before .before .before in
+    let v1 = v2 .before .before .before .before in
     rw (
       sym (v1 .before .other-wait .ensures) ∙ v1 .if1 .left,
       sym (v2 .before .starts-running .ensures) ∙ v2 .if2 .left,
@@ -34,8 +34,8 @@ returns-4 : tie.Need-returns-4
 unfolding higherRule
 returns-4 c =
     let v3 = c .before .before in
-    let v2 = v3 .before .before in
-    let v1 = v2 .before .before in
+    let v2 = v3 .before .before .before .before in
+    let v1 = v2 .before .before .before .before in
     rw (
       sym (v1 .before .other-wait .ensures) ∙ v1 .if1 .left,
       sym (v2 .before .starts-running .ensures) ∙ v2 .if2 .left,
@@ -48,8 +48,8 @@ unfolding higherRule
 returns-5 c =
     let v4 = c .before .before in
     let v3 = v4 .before .before in
-    let v2 = v3 .before .before in
-    let v1 = v2 .before .before in
+    let v2 = v3 .before .before .before .before in
+    let v1 = v2 .before .before .before .before in
     rw (
       sym (v1 .before .other-wait .ensures) ∙ v1 .if1 .left,
       sym (v2 .before .starts-running .ensures) ∙ v2 .if2 .left,
@@ -64,8 +64,8 @@ returns-6 c =
     let v5 = c .before .before in
     let v4 = v5 .before .before in
     let v3 = v4 .before .before in
-    let v2 = v3 .before .before in
-    let v1 = v2 .before .before in
+    let v2 = v3 .before .before .before .before in
+    let v1 = v2 .before .before .before .before in
     rw (
       sym (v1 .before .other-wait .ensures) ∙ v1 .if1 .left,
       sym (v2 .before .starts-running .ensures) ∙ v2 .if2 .left,
@@ -81,8 +81,8 @@ returns-7 c =
     let v5 = c .before .before in
     let v4 = v5 .before .before in
     let v3 = v4 .before .before in
-    let v2 = v3 .before .before in
-    let v1 = v2 .before .before in
+    let v2 = v3 .before .before .before .before in
+    let v1 = v2 .before .before .before .before in
     rw (
       sym (v1 .before .other-wait .ensures) ∙ v1 .if1 .left,
       sym (v2 .before .starts-running .ensures) ∙ v2 .if2 .left,

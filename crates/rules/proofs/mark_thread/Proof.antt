@@ -10,15 +10,15 @@ use Rattle.rules.proofs.mark_thread.Statement.{statement}
 use Rattle.rules.proofs.mark_thread.Tie as tie
 
 abbrev Inv-loop : tie.InvT-loop
-Inv-loop sheet code thread n reading₀ p₀ reading p = (p ≤ n) × (reading ≡ markThread sheet code thread p reading₀)
+Inv-loop sheet definitions code thread n reading₀ p₀ reading p = (p ≤ n) × (reading ≡ markThread sheet definitions code thread p reading₀)
 
 abbrev μ-loop : tie.MeasureT-loop
-μ-loop sheet code thread n reading₀ p₀ reading p = n - p
+μ-loop sheet definitions code thread n reading₀ p₀ reading p = n - p
 
 loop-holds : tie.Need-loop-holds Inv-loop μ-loop
 loop-holds c =
     let a = c .before .args in
-    (search needs, thread-none (a .sheet .now) (a .code .now) (a .thread) (a .reading .now))
+    (search needs, thread-none (a .sheet .now) (a .definitions .now) (a .code .now) (a .thread) (a .reading .now))
 
 loop-again : tie.Need-loop-again Inv-loop μ-loop
 loop-again c =
@@ -26,7 +26,7 @@ loop-again c =
     let u = v .before .before in
     let a = u .args in
     let l = v .loop in
-    (omega arith, thread-turn (a .sheet .now) (a .code .now) (a .thread) (l .p) (a .reading .now) (l .inv .1) (c .before .before .fetch .ensures) (c .mark-instr .ensures))
+    (omega arith, thread-turn (a .sheet .now) (a .definitions .now) (a .code .now) (a .thread) (l .p) (a .reading .now) (l .inv .1) (c .before .before .fetch .ensures) (c .mark-instr .ensures))
 
 returns : tie.Need-returns Inv-loop μ-loop
 returns c =
@@ -34,7 +34,7 @@ returns c =
     let a = v .args in
     let l = c .before .loop in
     let e : l .p ≡ a .n = omega arith in
-    l .inv .1 ∙ ap (λ (n : ℕ). markThread (a .sheet .now) (a .code .now) (a .thread) n (a .reading .now)) e
+    l .inv .1 ∙ ap (λ (n : ℕ). markThread (a .sheet .now) (a .definitions .now) (a .code .now) (a .thread) n (a .reading .now)) e
 
 pub mark-thread-spec : {M : Type 1} → statement M
 mark-thread-spec =

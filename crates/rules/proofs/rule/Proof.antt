@@ -7,7 +7,7 @@ use Rattle.rules.proofs.rule.Tie as tie
 returns : tie.Need-returns
 returns c =
     let v = c .before .before .before .before in
-    let u = v .before .before in
+    let u = v .before .before .before .before in
     let w = u .writers .ensures in
     rule-path _ _ _ _ _ (w .0) (w .1) (v .thread-readers .ensures) (c .lowest-rule .ensures)
 

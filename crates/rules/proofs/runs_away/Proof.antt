@@ -9,10 +9,10 @@ use Rattle.rules.proofs.runs_away.Statement.{statement}
 use Rattle.rules.proofs.runs_away.Tie as tie
 
 abbrev Inv-loop : tie.InvT-loop
-Inv-loop sheet threads body left₀ next₀ left next = runsAwayFrom sheet threads body ≡ runsAwayFrom sheet left next
+Inv-loop sheet definitions threads body left₀ next₀ left next = runsAwayFrom sheet definitions threads body ≡ runsAwayFrom sheet definitions left next
 
 abbrev μ-loop : tie.MeasureT-loop
-μ-loop sheet threads body left₀ next₀ left next = left
+μ-loop sheet definitions threads body left₀ next₀ left next = left
 
 loop-holds : tie.Need-loop-holds Inv-loop μ-loop
 loop-holds c = refl
@@ -23,7 +23,7 @@ returns c =
     let u = v .before .before in
     let l = v .loop in
     let e = sym (c .before .both .ensures) ∙ not-true (c .before .both .result) (c .if1 .taken) in
-    sym (l .inv ∙ away-found (u .args .sheet .now) (l .left) (l .next) (λ e. omega arith) (c .before .before .walk .ensures) e)
+    sym (l .inv ∙ away-found (u .args .sheet .now) (u .args .definitions .now) (l .left) (l .next) (λ e. omega arith) (c .before .before .walk .ensures) e)
 
 loop-again : tie.Need-loop-again Inv-loop μ-loop
 loop-again c =
@@ -31,13 +31,13 @@ loop-again c =
     let u = v .before .before in
     let l = v .loop in
     let e = sym (c .before .both .ensures) ∙ not-false (c .before .both .result) (c .if1 .left) in
-    l .inv ∙ away-turn (u .args .sheet .now) (l .left) (l .next) (λ e. omega arith) (c .before .before .walk .ensures) e
+    l .inv ∙ away-turn (u .args .sheet .now) (u .args .definitions .now) (l .left) (l .next) (λ e. omega arith) (c .before .before .walk .ensures) e
 
 returns-2 : tie.Need-returns-2 Inv-loop μ-loop
 returns-2 c =
     let v = c .before .before .before in
     let l = c .before .loop in
-    sym (l .inv ∙ away-end (v .args .sheet .now) (l .left) (l .next) (omega arith))
+    sym (l .inv ∙ away-end (v .args .sheet .now) (v .args .definitions .now) (l .left) (l .next) (omega arith))
 
 pub runs-away-spec : {M : Type 1} → statement M
 runs-away-spec =

@@ -9,10 +9,10 @@ use Rattle.rules.proofs.starts_running.Statement.{statement}
 use Rattle.rules.proofs.starts_running.Tie as tie
 
 abbrev Inv-loop : tie.InvT-loop
-Inv-loop sheet threads body left₀ next₀ left next = startsRunningFrom sheet threads body ≡ startsRunningFrom sheet left next
+Inv-loop sheet definitions threads body left₀ next₀ left next = startsRunningFrom sheet definitions threads body ≡ startsRunningFrom sheet definitions left next
 
 abbrev μ-loop : tie.MeasureT-loop
-μ-loop sheet threads body left₀ next₀ left next = left
+μ-loop sheet definitions threads body left₀ next₀ left next = left
 
 loop-holds : tie.Need-loop-holds Inv-loop μ-loop
 loop-holds c = refl
@@ -22,20 +22,20 @@ returns c =
     let v = c .before .before .before .before in
     let u = v .before .before in
     let l = v .loop in
-    sym (l .inv ∙ starts-found (u .args .sheet .now) (l .left) (l .next) (λ e. omega arith) (c .before .before .walk .ensures) (not-true (c .before .before .walk .result .starts) (c .if1 .taken)))
+    sym (l .inv ∙ starts-found (u .args .sheet .now) (u .args .definitions .now) (l .left) (l .next) (λ e. omega arith) (c .before .before .walk .ensures) (not-true (c .before .before .walk .result .starts) (c .if1 .taken)))
 
 loop-again : tie.Need-loop-again Inv-loop μ-loop
 loop-again c =
     let v = c .before .before .before .before in
     let u = v .before .before in
     let l = v .loop in
-    l .inv ∙ starts-turn (u .args .sheet .now) (l .left) (l .next) (λ e. omega arith) (c .before .before .walk .ensures) (not-false (c .before .before .walk .result .starts) (c .if1 .left))
+    l .inv ∙ starts-turn (u .args .sheet .now) (u .args .definitions .now) (l .left) (l .next) (λ e. omega arith) (c .before .before .walk .ensures) (not-false (c .before .before .walk .result .starts) (c .if1 .left))
 
 returns-2 : tie.Need-returns-2 Inv-loop μ-loop
 returns-2 c =
     let v = c .before .before .before in
     let l = c .before .loop in
-    sym (l .inv ∙ starts-end (v .args .sheet .now) (l .left) (l .next) (omega arith))
+    sym (l .inv ∙ starts-end (v .args .sheet .now) (v .args .definitions .now) (l .left) (l .next) (omega arith))
 
 pub starts-running-spec : {M : Type 1} → statement M
 starts-running-spec =

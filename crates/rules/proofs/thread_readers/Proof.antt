@@ -11,16 +11,16 @@ use Rattle.rules.proofs.thread_readers.Statement.{statement}
 use Rattle.rules.proofs.thread_readers.Tie as tie
 
 abbrev Inv-loop : tie.InvT-loop
-Inv-loop sheet code sizes threads reading₀ count i₀ reading i = (i ≤ count) × (reading ≡ readingBelow sheet code sizes i reading₀)
+Inv-loop sheet definitions code sizes threads reading₀ count i₀ reading i = (i ≤ count) × (reading ≡ readingBelow sheet definitions code sizes i reading₀)
 
 abbrev μ-loop : tie.MeasureT-loop
-μ-loop sheet code sizes threads reading₀ count i₀ reading i = count - i
+μ-loop sheet definitions code sizes threads reading₀ count i₀ reading i = count - i
 
 loop-holds : tie.Need-loop-holds Inv-loop μ-loop
 loop-holds c =
     let v = c .before .before .before in
     let a = v .args in
-    (search needs, reading-none (a .sheet .now) (a .code .now) (a .sizes .now) (a .reading .now))
+    (search needs, reading-none (a .sheet .now) (a .definitions .now) (a .code .now) (a .sizes .now) (a .reading .now))
 
 mul-at-most : tie.Need-mul-at-most Inv-loop μ-loop
 mul-at-most c =
@@ -39,7 +39,7 @@ loop-again c =
     let a = u .args in
     let l = v .loop in
     let n = c .before .before .at-most2 .ensures in
-    (omega arith, reading-turn (a .sheet .now) (a .code .now) (a .sizes .now) (l .i) (a .reading .now) (l .inv .1) n (c .mark-thread .ensures))
+    (omega arith, reading-turn (a .sheet .now) (a .definitions .now) (a .code .now) (a .sizes .now) (l .i) (a .reading .now) (l .inv .1) n (c .mark-thread .ensures))
 
 returns : tie.Need-returns Inv-loop μ-loop
 returns c =
@@ -49,7 +49,7 @@ returns c =
     let l = c .before .loop in
     let e : l .i ≡ c .before .before .at-most .result = omega arith in
     l .inv .1
-    ∙ ap (λ (n : ℕ). readingBelow (a .sheet .now) (a .code .now) (a .sizes .now) n (a .reading .now))
+    ∙ ap (λ (n : ℕ). readingBelow (a .sheet .now) (a .definitions .now) (a .code .now) (a .sizes .now) n (a .reading .now))
     (e ∙ c .before .before .at-most .ensures ∙ ap (atMost 8) (v .wide .ensures))
 
 pub thread-readers-spec : {M : Type 1} → statement M

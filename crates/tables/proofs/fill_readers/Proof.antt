@@ -9,15 +9,15 @@ use Rattle.tables.proofs.fill_readers.Statement.{statement}
 use Rattle.tables.proofs.fill_readers.Tie as tie
 
 abbrev Inv-loop : tie.InvT-loop
-Inv-loop sheet starts wires readers₀ count k₀ readers k = (k ≤ count) × (readers ≡ readersBelow sheet starts k readers₀)
+Inv-loop sheet definitions starts wires readers₀ count k₀ readers k = (k ≤ count) × (readers ≡ readersBelow sheet definitions starts k readers₀)
 
 abbrev μ-loop : tie.MeasureT-loop
-μ-loop sheet starts wires readers₀ count k₀ readers k = count - k
+μ-loop sheet definitions starts wires readers₀ count k₀ readers k = count - k
 
 loop-holds : tie.Need-loop-holds Inv-loop μ-loop
 loop-holds c =
     let a = c .before .before .before .args in
-    (search needs, readers-none (a .sheet .now) (a .starts .now) (a .readers .now))
+    (search needs, readers-none (a .sheet .now) (a .definitions .now) (a .starts .now) (a .readers .now))
 
 mul-mark-expr : tie.Need-mul-mark-expr Inv-loop μ-loop
 mul-mark-expr c = omega (arith, atMost-most 32 (c .before .before .before .wide .result), c .before .before .at-most .ensures)
@@ -30,7 +30,7 @@ loop-again c =
     let v = c .before .before .before .before in
     let a = v .before .before .before .before .args in
     let l = v .loop in
-    (omega arith, readers-turn (a .sheet .now) (a .starts .now) (l .k) (a .readers .now) (l .inv .1) (c .mark-expr .ensures))
+    (omega arith, readers-turn (a .sheet .now) (a .definitions .now) (a .starts .now) (l .k) (a .readers .now) (l .inv .1) (c .mark-expr .ensures))
 
 returns : tie.Need-returns Inv-loop μ-loop
 returns c =
@@ -38,7 +38,7 @@ returns c =
     let l = c .before .loop in
     let e : l .k ≡ c .before .before .at-most .result = omega arith in
     l .inv .1
-    ∙ ap (λ (n : ℕ). readersBelow (a .sheet .now) (a .starts .now) n (a .readers .now))
+    ∙ ap (λ (n : ℕ). readersBelow (a .sheet .now) (a .definitions .now) (a .starts .now) n (a .readers .now))
     (e ∙ c .before .before .at-most .ensures ∙ ap (atMost 32) (c .before .before .before .wide .ensures))
 
 pub fill-readers-spec : {M : Type 1} → statement M

@@ -1,5 +1,6 @@
 -- `text::operands_of` meets its contract. Assumes nothing.
 use borrow.Author.Tests.{ne-eqb}
+use borrow.Author.Needs.{needs}
 use Rattle.text.specs.Printing.{operandsOf}
 use Rattle.text.proofs.operands_of.Statement.{statement}
 use Rattle.text.proofs.operands_of.Tie as tie
@@ -18,14 +19,20 @@ returns-3 c = rw (c .match .keys3)
 
 returns-4 : tie.Need-returns-4
 unfolding operandsOf
-returns-4 c =
+returns-4 c = rw (c .before .match .keys4) (c .argument-count .ensures)
+
+returns-5 : tie.Need-returns-5
+unfolding operandsOf
+returns-5 c =
     let r = c .match .rest in
-    simp (ne-eqb _ _ (r .0 .0 .1), ne-eqb _ _ (r .0 .1), ne-eqb _ _ (r .1))
+    simp (ne-eqb _ _ (r .0 .0 .0 .1), ne-eqb _ _ (r .0 .0 .1), ne-eqb _ _ (r .0 .1), ne-eqb _ _ (r .1))
 
 pub operands-of-spec : {M : Type 1} → statement M
 operands-of-spec =
     tie.close (tie.spec
+    (λ c κs. search needs)
     returns
     returns-2
     returns-3
-    returns-4)
+    returns-4
+    returns-5)

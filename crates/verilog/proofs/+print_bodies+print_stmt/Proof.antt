@@ -25,23 +25,23 @@ use Rattle.verilog.proofs.Printing
 use Rattle.verilog.proofs.+print_bodies+print_stmt.{statement}
 use Rattle.verilog.proofs.+print_bodies+print_stmt.Tie.{close}
 
-abbrev μ-print-bodies : Measures 3 print-bodies-kinds.ps ℕ
-μ-print-bodies κs a = a .1 .1 .0 * 256 + a .1 .1 .1 .0 + 1
+abbrev μ-print-bodies : Measures 4 print-bodies-kinds.ps ℕ
+μ-print-bodies κs a = a .1 .1 .1 .0 * 256 + a .1 .1 .1 .1 .0 .left + 1
 
-abbrev μ-print-stmt : Measures 3 print-stmt-kinds.ps ℕ
-μ-print-stmt κs a = a .1 .1 .0 * 256
+abbrev μ-print-stmt : Measures 4 print-stmt-kinds.ps ℕ
+μ-print-stmt κs a = a .1 .1 .1 .0 * 256
 
-abbrev print-bodies-at : ℕ → In 3 print-bodies-kinds.ps
-print-bodies-at t = and 3 print-bodies-kinds.ps (is 3 print-bodies-kinds.ps μ-print-bodies t) print-bodies.Pre
+abbrev print-bodies-at : ℕ → In 4 print-bodies-kinds.ps
+print-bodies-at t = and 4 print-bodies-kinds.ps (is 4 print-bodies-kinds.ps μ-print-bodies t) print-bodies.Pre
 
-abbrev print-bodies-below : ℕ → In 3 print-bodies-kinds.ps
-print-bodies-below t = and 3 print-bodies-kinds.ps (falls 3 print-bodies-kinds.ps _<_ μ-print-bodies t) print-bodies.Pre
+abbrev print-bodies-below : ℕ → In 4 print-bodies-kinds.ps
+print-bodies-below t = and 4 print-bodies-kinds.ps (falls 4 print-bodies-kinds.ps _<_ μ-print-bodies t) print-bodies.Pre
 
-abbrev print-stmt-at : ℕ → In 3 print-stmt-kinds.ps
-print-stmt-at t = and 3 print-stmt-kinds.ps (is 3 print-stmt-kinds.ps μ-print-stmt t) print-stmt.Pre
+abbrev print-stmt-at : ℕ → In 4 print-stmt-kinds.ps
+print-stmt-at t = and 4 print-stmt-kinds.ps (is 4 print-stmt-kinds.ps μ-print-stmt t) print-stmt.Pre
 
-abbrev print-stmt-below : ℕ → In 3 print-stmt-kinds.ps
-print-stmt-below t = and 3 print-stmt-kinds.ps (falls 3 print-stmt-kinds.ps _<_ μ-print-stmt t) print-stmt.Pre
+abbrev print-stmt-below : ℕ → In 4 print-stmt-kinds.ps
+print-stmt-below t = and 4 print-stmt-kinds.ps (falls 4 print-stmt-kinds.ps _<_ μ-print-stmt t) print-stmt.Pre
 
 -- What print_bodies calls.
 abbrev print-bodies-calls : ℕ → print-bodies-lts.Claims
@@ -74,14 +74,14 @@ print-stmt-calls t = (
 print-bodies-returns : (t : ℕ) → print-bodies-lts.Need-returns (print-bodies-calls t) (print-bodies-at t) print-bodies.Post
 print-bodies-returns t c =
     let a = c .before .before .args in
-    let o = stmtAt (nameOf (a .names .now)) (a .sheet .now) (a .depth) in
-    Printing.leaves-none _ _ (Printing.bodies-none o (a .shape) (a .level) (a .k) (a .at) (c .if1 .taken))
+    let o = stmtAt (nameOf (a .names .now)) (a .sheet .now) (a .definitions .now) (a .depth) in
+    Printing.leaves-none _ _ (Printing.bodies-none o (a .rest .shape) (a .rest .level) (a .rest .left) (a .at) (c .if1 .taken))
 
 print-bodies-print-stmt-requires : (t : ℕ)
     → print-bodies-lts.Need-print-stmt-requires (print-bodies-calls t) (print-bodies-at t) print-bodies.Post
 print-bodies-print-stmt-requires t c κs =
     let a = c .before .before .before .before .args in
-    (search needs, omega (arith, c .before .inner-level .ensures, Printing.inner-most (a .shape) (a .k) (a .level)))
+    (search needs, omega (arith, c .before .inner-level .ensures, Printing.inner-most (a .rest .shape) (a .rest .left) (a .rest .level)))
 
 print-bodies-print-bodies-requires : (t : ℕ)
     → print-bodies-lts.Need-print-bodies-requires (print-bodies-calls t) (print-bodies-at t) print-bodies.Post
@@ -91,23 +91,23 @@ print-bodies-returns-2 : (t : ℕ) → print-bodies-lts.Need-returns-2 (print-bo
 print-bodies-returns-2 t c =
     let c1 = c .before .before .before .before .before .before in
     let a = c1 .before .before .before .args in
-    let o = stmtAt (nameOf (a .names .now)) (a .sheet .now) (a .depth) in
+    let o = stmtAt (nameOf (a .names .now)) (a .sheet .now) (a .definitions .now) (a .depth) in
     let x = c .before .before .before .before .print-stmt .ensures in
     Printing.leaves-behind _ _ _ _ _
-    (Printing.bodies-more o (a .shape) (a .level) (a .k) (a .at) _ (c1 .before .if1 .left) (c1 .inner-level .ensures))
+    (Printing.bodies-more o (a .rest .shape) (a .rest .level) (a .rest .left) (a .at) _ (c1 .before .if1 .left) (c1 .inner-level .ensures))
     (both _ _ _ _ _ (Printing.leaves-puts _ _ _ x) (c .before .before .put-closing .ensures))
     (rw (← Printing.leaves-next _ _ _ x) (c .print-bodies .ensures))
 
 print-stmt-returns : (t : ℕ) → print-stmt-lts.Need-returns (print-stmt-calls t) (print-stmt-at t) print-stmt.Post
 print-stmt-returns t c =
     let a = c .before .before .args in
-    Printing.leaves-none _ _ (Printing.stmt-deep (nameOf (a .names .now)) (a .sheet .now) (a .depth) (a .level) (a .at)
+    Printing.leaves-none _ _ (Printing.stmt-deep (nameOf (a .names .now)) (a .sheet .now) (a .definitions .now) (a .depth) (a .level) (a .at)
     (c .if1 .taken))
 
 print-stmt-returns-2 : (t : ℕ) → print-stmt-lts.Need-returns-2 (print-stmt-calls t) (print-stmt-at t) print-stmt.Post
 print-stmt-returns-2 t c =
     let a = c .before .before .before .args in
-    Printing.leaves-none _ _ (Printing.stmt-end (nameOf (a .names .now)) (a .sheet .now) (a .depth) (a .level) (a .at)
+    Printing.leaves-none _ _ (Printing.stmt-end (nameOf (a .names .now)) (a .sheet .now) (a .definitions .now) (a .depth) (a .level) (a .at)
     (c .if2 .taken))
 
 print-stmt-print-bodies-requires : (t : ℕ)
@@ -127,7 +127,7 @@ print-stmt-returns-3 t c =
     let c1 = c .before .before .before .before .before in
     let m = c1 .before .before .byte-at .ensures in
     let f = c1 .before .byte-at2 .ensures in
-    Printing.form-path _ _ _ _ _ _ _ _ (c1 .before .before .before .before .if1 .left) (c1 .before .before .before .if2 .left)
+    Printing.form-path _ _ _ _ _ _ _ _ _ (c1 .before .before .before .before .if1 .left) (c1 .before .before .before .if2 .left)
     (c1 .shape-of .ensures ∙ (λ j. shapeOf (m j) (f j))) (c .before .before .bodies-of .ensures)
     (c .before .before .before .print-heading .ensures) (c .print-bodies .ensures)
 

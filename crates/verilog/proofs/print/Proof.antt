@@ -1,6 +1,6 @@
 -- `verilog::print` meets its contract. Assumes nothing.
 use borrow.Author.Needs.{needs}
-use Rattle.verilog.proofs.Reading.{print-refused, print-read}
+use Rattle.verilog.proofs.Reading.{print-refused, print-read, widths-small}
 use Rattle.verilog.proofs.print.Statement.{statement}
 use Rattle.verilog.proofs.print.Tie as tie
 
@@ -12,11 +12,14 @@ returns-2 c =
     print-read _ _ _ _ (c .before .before .before .before .read .ensures) (c .before .before .before .if1 .left)
     (c .print-module .ensures)
 
+print-module-requires : tie.Need-print-module-requires
+print-module-requires c κs = widths-small _ (c .before .before .before .read .ensures)
+
 pub print-spec : {M : Type 1} → statement M
 print-spec =
     tie.close
     (tie.spec
     (λ c κs. search needs)
     returns
-    (λ c κs. search needs)
+    print-module-requires
     returns-2)

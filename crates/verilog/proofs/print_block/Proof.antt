@@ -8,7 +8,7 @@ use Rattle.verilog.proofs.print_block.Tie as tie
 returns : tie.Need-returns
 unfolding ascii
 returns c =
-    block-path _ _ _ _ (c .before .before .before .before .before .put-word .ensures)
+    block-path _ _ _ _ _ (c .before .before .before .before .before .put-word .ensures)
     (c .before .before .before .print-stmt .ensures) (c .put-word2 .ensures)
 
 pub print-block-spec : {M : Type 1} → statement M

@@ -9,7 +9,7 @@ returns : tie.Need-returns
 unfolding ascii
 returns c =
     let c1 = c .before .before .before .before .before .before .before in
-    condition-path _ _ _ _ _ _ (c1 .put-indent .ensures) (c .before .before .before .before .before .put-word .ensures)
+    condition-path _ _ _ _ _ _ _ (c1 .put-indent .ensures) (c .before .before .before .before .before .put-word .ensures)
     (c .before .before .before .print-expr .ensures) (c .put-word2 .ensures)
 
 pub print-condition-spec : {M : Type 1} → statement M

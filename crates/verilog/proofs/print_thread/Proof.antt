@@ -15,12 +15,12 @@ returns : tie.Need-returns
 returns c =
     let at-then = c .before .before in
     c .print-waiting .ensures
-    ∙ ap (leaves _) (sym (thread-waiting _ _ _ (sym (at-then .before .opens .ensures) ∙ at-then .if1 .taken)))
+    ∙ ap (leaves _) (sym (thread-waiting _ _ _ _ (sym (at-then .before .opens .ensures) ∙ at-then .if1 .taken)))
 
 returns-2 : tie.Need-returns-2
 returns-2 c =
     let at-else = c .before .before in
-    c .print-block .ensures ∙ ap (leaves _) (sym (thread-block _ _ _ (sym (at-else .before .opens .ensures) ∙ at-else .if1 .left)))
+    c .print-block .ensures ∙ ap (leaves _) (sym (thread-block _ _ _ _ (sym (at-else .before .opens .ensures) ∙ at-else .if1 .left)))
 
 pub print-thread-spec : {M : Type 1} → statement M
 print-thread-spec =

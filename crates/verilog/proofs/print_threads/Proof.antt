@@ -10,19 +10,19 @@ use Rattle.verilog.proofs.print_threads.Statement.{statement}
 use Rattle.verilog.proofs.print_threads.Tie as tie
 
 abbrev Inv-loop : tie.InvT-loop
-Inv-loop sheet at n names text₀ pos next₀ p₀ k₀ text next p k =
+Inv-loop sheet definitions at n names text₀ pos next₀ p₀ k₀ text next p k =
     (k ≤ n)
-    × (leaves (filled text p) (threadsAt (nameOf names) sheet (n - k) next) ≡ leaves (filled text₀ pos)
-    (threadsAt (nameOf names) sheet n at))
+    × (leaves (filled text p) (threadsAt (nameOf names) sheet definitions (n - k) next) ≡ leaves (filled text₀ pos)
+    (threadsAt (nameOf names) sheet definitions n at))
 
 abbrev μ-loop : tie.MeasureT-loop
-μ-loop sheet at n names text₀ pos next₀ p₀ k₀ text next p k = n - k
+μ-loop sheet definitions at n names text₀ pos next₀ p₀ k₀ text next p k = n - k
 
 loop-holds : tie.Need-loop-holds Inv-loop μ-loop
 loop-holds c =
     let a = c .before .args in (
       search needs,
-      threads-start (nameOf (a .names .now)) (a .sheet .now) (a .n) (a .at)
+      threads-start (nameOf (a .names .now)) (a .sheet .now) (a .definitions .now) (a .n) (a .at)
           (filled (a .text .now) (a .pos)),
     )
 
@@ -31,7 +31,7 @@ loop-again c =
     let a = c .before .before .before .before .before .args in
     let l = c .before .before .before .loop in (
       search needs,
-      threads-turn (nameOf (a .names .now)) (a .sheet .now) (a .n) (l .k) (l .next) (filled (l .text) (l .p))
+      threads-turn (nameOf (a .names .now)) (a .sheet .now) (a .definitions .now) (a .n) (l .k) (l .next) (filled (l .text) (l .p))
           (c .before .before .loop-test .taken) (c .print-thread .ensures)
           ∙ l .inv .1,
     )
@@ -40,7 +40,7 @@ returns : tie.Need-returns Inv-loop μ-loop
 returns c =
     let a = c .before .before .before .args in
     let l = c .before .loop in
-    threads-end (nameOf (a .names .now)) (a .sheet .now) (a .n) (l .k) (l .next) (filled (l .text) (l .p)) (c .loop-test .left)
+    threads-end (nameOf (a .names .now)) (a .sheet .now) (a .definitions .now) (a .n) (l .k) (l .next) (filled (l .text) (l .p)) (c .loop-test .left)
     ∙ l .inv .1
 
 pub print-threads-spec : {M : Type 1} → statement M

@@ -11,7 +11,7 @@ returns c =
     let at-stmt = c .before .before .before in
     let at-wait = at-stmt .before .before in
     let at-word = at-wait .before .before .before in
-    waiting-path _ _ _ _ (at-word .put-word .ensures) (at-wait .print-wait .ensures) (at-stmt .print-stmt .ensures)
+    waiting-path _ _ _ _ _ (at-word .put-word .ensures) (at-wait .print-wait .ensures) (at-stmt .print-stmt .ensures)
     (c .put-word2 .ensures)
 
 pub print-waiting-spec : {M : Type 1} → statement M

@@ -9,7 +9,7 @@ returns : tie.Need-returns
 unfolding ascii
 returns c =
     let c1 = c .before .before .before .before .before .before .before .before in
-    wire-path _ _ _ _ _ (c1 .before .before .put-word .ensures) (c1 .put-name .ensures)
+    wire-path _ _ _ _ _ _ (c1 .before .before .put-word .ensures) (c1 .put-name .ensures)
     (c .before .before .before .before .before .put-word2 .ensures) (c .before .before .before .print-expr .ensures)
     (c .put-word3 .ensures)
 

@@ -10,19 +10,19 @@ use Rattle.verilog.proofs.print_wires.Statement.{statement}
 use Rattle.verilog.proofs.print_wires.Tie as tie
 
 abbrev Inv-loop : tie.InvT-loop
-Inv-loop sheet at n first names text₀ pos next₀ p₀ k₀ text next p k =
+Inv-loop sheet definitions at n first names text₀ pos next₀ p₀ k₀ text next p k =
     (k ≤ n)
-    × (leaves (filled text p) (wiresAt (nameOf names) sheet (n - k) (first + k) next) ≡ leaves (filled text₀ pos)
-    (wiresAt (nameOf names) sheet n first at))
+    × (leaves (filled text p) (wiresAt (nameOf names) sheet definitions (n - k) (first + k) next) ≡ leaves (filled text₀ pos)
+    (wiresAt (nameOf names) sheet definitions n first at))
 
 abbrev μ-loop : tie.MeasureT-loop
-μ-loop sheet at n first names text₀ pos next₀ p₀ k₀ text next p k = n - k
+μ-loop sheet definitions at n first names text₀ pos next₀ p₀ k₀ text next p k = n - k
 
 loop-holds : tie.Need-loop-holds Inv-loop μ-loop
 loop-holds c =
     let a = c .before .args in (
       search needs,
-      wires-start (nameOf (a .names .now)) (a .sheet .now) (a .n) (a .first) (a .at)
+      wires-start (nameOf (a .names .now)) (a .sheet .now) (a .definitions .now) (a .n) (a .first) (a .at)
           (filled (a .text .now) (a .pos)),
     )
 
@@ -31,7 +31,7 @@ loop-again c =
     let a = c .before .before .before .before .before .args in
     let l = c .before .before .before .loop in (
       search needs,
-      wires-turn (nameOf (a .names .now)) (a .sheet .now) (a .n) (l .k) (a .first) (l .next) (filled (l .text) (l .p))
+      wires-turn (nameOf (a .names .now)) (a .sheet .now) (a .definitions .now) (a .n) (l .k) (a .first) (l .next) (filled (l .text) (l .p))
           (c .before .before .loop-test .taken) (c .print-wire .ensures)
           ∙ l .inv .1,
     )
@@ -40,7 +40,7 @@ returns : tie.Need-returns Inv-loop μ-loop
 returns c =
     let a = c .before .before .before .args in
     let l = c .before .loop in
-    wires-end (nameOf (a .names .now)) (a .sheet .now) (a .n) (l .k) (a .first + l .k) (l .next) (filled (l .text) (l .p))
+    wires-end (nameOf (a .names .now)) (a .sheet .now) (a .definitions .now) (a .n) (l .k) (a .first + l .k) (l .next) (filled (l .text) (l .p))
     (c .loop-test .left)
     ∙ l .inv .1
 

@@ -12,13 +12,13 @@ use Rattle.verilog.proofs.put_declarations.Statement.{statement}
 use Rattle.verilog.proofs.put_declarations.Tie as tie
 
 abbrev Inv-loop : tie.InvT-loop
-Inv-loop sheet n names inputs registers text₀ pos p₀ v₀ text p v =
+Inv-loop sheet first n names inputs registers text₀ pos p₀ v₀ text p v =
     (v ≤ n)
-    × (puts (filled text p) (declarationsAt (nameOf names) sheet inputs registers (n - v) v) ≡ puts (filled text₀ pos)
-    (declarationsAt (nameOf names) sheet inputs registers n 0))
+    × (puts (filled text p) (declarationsAt (nameOf names) sheet inputs registers first (n - v) v) ≡ puts (filled text₀ pos)
+    (declarationsAt (nameOf names) sheet inputs registers first n 0))
 
 abbrev μ-loop : tie.MeasureT-loop
-μ-loop sheet n names inputs registers text₀ pos p₀ v₀ text p v = n - v
+μ-loop sheet first n names inputs registers text₀ pos p₀ v₀ text p v = n - v
 
 loop-holds : tie.Need-loop-holds Inv-loop μ-loop
 loop-holds c =
@@ -26,7 +26,7 @@ loop-holds c =
     let whole : a .n - 0 ≡ a .n = omega arith in (
       search needs,
       ap (λ m. puts (filled (a .text .now) (a .pos))
-          (declarationsAt (nameOf (a .names .now)) (a .sheet .now) (a .inputs) (a .registers) m 0)) whole,
+          (declarationsAt (nameOf (a .names .now)) (a .sheet .now) (a .inputs) (a .registers) (a .first) m 0)) whole,
     )
 
 loop-again : tie.Need-loop-again Inv-loop μ-loop
@@ -35,7 +35,7 @@ loop-again c =
     let a = c1 .args in
     let l = c .before .before .before .before .loop in (
       search needs,
-      declarations-turn (nameOf (a .names .now)) (a .sheet .now) (a .inputs) (a .registers) (a .n) (l .v) _ (filled (l .text) (l .p)) _
+      declarations-turn (nameOf (a .names .now)) (a .sheet .now) (a .inputs) (a .registers) (a .first) (a .n) (l .v) _ (filled (l .text) (l .p)) _
           (c .before .before .before .loop-test .taken) (c .before .before .byte-at .ensures) (c .put-declaration .ensures)
           ∙ l .inv .1,
     )
@@ -44,7 +44,7 @@ returns : tie.Need-returns Inv-loop μ-loop
 returns c =
     let a = c .before .before .before .args in
     let l = c .before .loop in
-    let e = declarations-end (nameOf (a .names .now)) (a .sheet .now) (a .inputs) (a .registers) (a .n) (l .v) (c .loop-test .left) in
+    let e = declarations-end (nameOf (a .names .now)) (a .sheet .now) (a .inputs) (a .registers) (a .first) (a .n) (l .v) (c .loop-test .left) in
     sym (puts-nil _) ∙ ap (λ x. puts (filled (l .text) (l .p)) x) (sym e) ∙ l .inv .1
 
 pub put-declarations-spec : {M : Type 1} → statement M

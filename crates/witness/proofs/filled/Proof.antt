@@ -7,7 +7,7 @@ use Rattle.witness.proofs.filled.Tie as tie
 returns : tie.Need-returns
 returns c =
     let v = c .before .before .before .before in
-    let u = v .before .before in
+    let u = v .before .before .before .before in
     let w = u .writers .ensures in
     filled-path _ _ _ _ _ (w .0) (w .1) (v .thread-readers .ensures) (c .judged .ensures)
 

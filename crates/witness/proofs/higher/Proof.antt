@@ -21,8 +21,8 @@ returns-2 : tie.Need-returns-2
 unfolding higherAt
 returns-2 c =
     let i = c .before in
-    let v2 = i .before in
-    let v1 = v2 .before .before in
+    let v2 = i .before .before .before in
+    let v1 = v2 .before .before .before .before in
     let t = v1 .before .before in
     let a = t .before .before .args in
     rw (
@@ -31,15 +31,15 @@ returns-2 c =
     )
     (c .a-place .ensures
     ∙ ap (λ (j : ℕ). aPlace 16 j 0)
-    (i .first-body .ensures ∙ ap (λ (n : ℕ). lowest n (byBody (a .sheet .now) (a .layout .body) Running)) (t .wide .ensures)))
+    (i .first-body .ensures ∙ ap (λ (n : ℕ). lowest n (byBody (a .sheet .now) (a .t2 .definitions) (a .t2 .body) Running)) (t .wide .ensures)))
 
 returns-3 : tie.Need-returns-3
 unfolding higherAt
 returns-3 c =
     let i = c .before in
-    let v3 = i .before in
-    let v2 = v3 .before .before in
-    let v1 = v2 .before .before in
+    let v3 = i .before .before .before in
+    let v2 = v3 .before .before .before .before in
+    let v1 = v2 .before .before .before .before in
     let t = v1 .before .before in
     let a = t .before .before .args in
     rw (
@@ -49,14 +49,14 @@ returns-3 c =
     )
     (c .a-place2 .ensures
     ∙ ap (λ (j : ℕ). aPlace 17 j 0)
-    (i .first-body2 .ensures ∙ ap (λ (n : ℕ). lowest n (byBody (a .sheet .now) (a .layout .body) Away)) (t .wide .ensures)))
+    (i .first-body2 .ensures ∙ ap (λ (n : ℕ). lowest n (byBody (a .sheet .now) (a .t2 .definitions) (a .t2 .body) Away)) (t .wide .ensures)))
 
 returns-4 : tie.Need-returns-4
 unfolding higherAt
 returns-4 c =
     let v3 = c .before in
-    let v2 = v3 .before .before in
-    let v1 = v2 .before .before in
+    let v2 = v3 .before .before .before .before in
+    let v1 = v2 .before .before .before .before in
     let t = v1 .before .before in
     let a = t .before .before .args in
     rw (

@@ -12,8 +12,8 @@ returns c =
 returns-2 : tie.Need-returns-2
 returns-2 c =
     let b1 = c .before .before .before .before in
-    let b2 = b1 .before .before .before .before in
-    let b3 = b2 .before .before .before in
+    let b2 = b1 .before .before .before .before .before in
+    let b3 = b2 .before .before .before .before .before in
     let b4 = b3 .before .before in
     witness-read _ _ (b4 .read .ensures) (b3 .if1 .left) _ _ _ (b2 .compile .ensures .1) (b2 .compile .ensures .0) (b1 .fill-readers .ensures)
     (c .filled .ensures)

@@ -24,7 +24,7 @@ use Rattle.extraction.proofs.express.held_node.Reads as held-node-reads
 use Rattle.extraction.proofs.express.make.Reads as make-reads
 use Rattle.extraction.proofs.express.unmade.Reads as unmade-reads
 use Rattle.extraction.proofs.express.word.Reads as word-reads
-use Rattle.sheet.proofs.byte_at.Reads as byte-at-reads
+use Rattle.sheet.proofs.bytes.byte_at.Reads as byte-at-reads
 use Rattle.extraction.proofs.express.+express+express_binary+express_conditional+express_unary.{statement}
 use Rattle.extraction.proofs.express.+express+express_binary+express_conditional+express_unary.Tie.{close}
 use borrow.Author.Needs.{needs}

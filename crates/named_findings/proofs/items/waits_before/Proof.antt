@@ -7,7 +7,7 @@ use Rattle.named_findings.proofs.items.waits_before.Tie as tie
 returns : tie.Need-returns
 returns c =
     let at-compile = c .before .before .before in
-    waits-whole _ _ _ (at-compile .before .before .before .read .ensures) (at-compile .compile .ensures .0) (at-compile .compile .ensures .1)
+    waits-whole _ _ _ (at-compile .before .before .before .before .before .read .ensures) (at-compile .compile .ensures .0) (at-compile .compile .ensures .1)
     (c .waits-with .ensures)
 
 pub waits-before-spec : {M : Type 1} → statement M

@@ -2,7 +2,7 @@
 use mathlib.Core.Path.{sym, _∙_}
 use borrow.Author.Needs.{needs}
 use Rattle.saved.specs.Older.{taken}
-use Rattle.saved.proofs.Ways.{over-refused, over-saved, over-older}
+use Rattle.saved.proofs.Ways.{widths-near, over-refused, over-saved, over-older}
 use Rattle.saved.proofs.bringing.bring_over.Statement.{statement}
 use Rattle.saved.proofs.bringing.bring_over.Tie as tie
 
@@ -32,6 +32,25 @@ returns-3 c =
     ∙ over-older (p .sheet .now) _ (r .read .ensures) (p .bytes .now) (p .allowances) _ _ (i .before .before .if1 .left) t
     (w .before .variable-widths .ensures) (w .register-widths .ensures)
 
+-- The widths' place is near the sheet's beginning.
+variable-widths-requires : tie.Need-variable-widths-requires
+variable-widths-requires c κs =
+    let r = c .before .before .before .before .before .before .before in
+    let near = widths-near (r .before .before .before .args .sheet .now) (r .read .result) (r .read .ensures) in
+    search (needs, near)
+
+add-register-widths : tie.Need-add-register-widths
+add-register-widths c =
+    let r = c .before .before .before .before .before .before .before .before in
+    let near = widths-near (r .before .before .before .args .sheet .now) (r .read .result) (r .read .ensures) in
+    search (needs, near)
+
+register-widths-requires : tie.Need-register-widths-requires
+register-widths-requires c κs =
+    let r = c .before .before .before .before .before .before .before .before in
+    let near = widths-near (r .before .before .before .args .sheet .now) (r .read .result) (r .read .ensures) in
+    search (needs, near)
+
 pub bring-over-spec : {M : Type 1} → statement M
 bring-over-spec =
     tie.close
@@ -47,8 +66,8 @@ bring-over-spec =
     (λ c. search needs)
     (λ c. search needs)
     (λ c. search needs)
-    (λ c κs. search needs)
-    (λ c. search needs)
-    (λ c κs. search needs)
+    variable-widths-requires
+    add-register-widths
+    register-widths-requires
     (λ c κs. search needs)
     returns-3)

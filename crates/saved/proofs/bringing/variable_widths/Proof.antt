@@ -11,10 +11,10 @@ use Rattle.saved.proofs.bringing.variable_widths.Statement.{statement}
 use Rattle.saved.proofs.bringing.variable_widths.Tie as tie
 
 abbrev Inv-loop : tie.InvT-loop
-Inv-loop sheet n a₀ v₀ a v = (v ≤ 80) × (a ≡ sets a₀ 0 (listOf v (widthIn sheet 4 n)))
+Inv-loop sheet first n a₀ v₀ a v = (v ≤ 80) × (a ≡ sets a₀ 0 (listOf v (widthIn sheet first n)))
 
 abbrev μ-loop : tie.MeasureT-loop
-μ-loop sheet n a₀ v₀ a v = 80 - v
+μ-loop sheet first n a₀ v₀ a v = 80 - v
 
 loop-holds : tie.Need-loop-holds Inv-loop μ-loop
 unfolding listOf
@@ -24,16 +24,18 @@ loop-again : tie.Need-loop-again Inv-loop μ-loop
 loop-again c =
     let l = c .before .before .loop in
     let sheet = c .before .before .before .before .args .sheet .now in
+    let first = c .before .before .before .before .args .first in
     let n = c .before .before .before .before .args .n in
-    (search needs, rw (c .width-in .ensures, l .inv .1) (listOf-step (widthIn sheet 4 n) _ (l .v)))
+    (search needs, rw (c .width-in .ensures, l .inv .1) (listOf-step (widthIn sheet first n) _ (l .v)))
 
 returns : tie.Need-returns Inv-loop μ-loop
 returns c =
     let l = c .before .loop in
     let sheet = c .before .before .before .args .sheet .now in
+    let first = c .before .before .before .args .first in
     let n = c .before .before .before .args .n in
     let e : l .v ≡ 80 = omega arith in
-    rw e at (l .inv .1) ∙ listOf-whole (widthIn sheet 4 n) _ 80 refl
+    rw e at (l .inv .1) ∙ listOf-whole (widthIn sheet first n) _ 80 refl
 
 pub variable-widths-spec : {M : Type 1} → statement M
 variable-widths-spec =

@@ -6,19 +6,19 @@ use native.Mathlib.Nat.{sub-zero}
 use native.Mathlib.Omega.{arith}
 use Rattle.sheet.specs.Expression.{located}
 use Rattle.sheet.specs.Module.{readThreads}
-use Rattle.sheet.specs.Parts.{scopeOf, placeAnswer}
+use Rattle.sheet.specs.Parts.{scopeOf, outlines, placeAnswer}
 use Rattle.sheet.proofs.Answers.{stmt-read, stmt-refused}
 use Rattle.sheet.proofs.Sections.{threads-done, threads-stmt, threads-long, threads-more}
 use Rattle.sheet.proofs.body.read_threads.Statement.{statement}
 use Rattle.sheet.proofs.body.read_threads.Tie as tie
 
 abbrev Inv-loop : tie.InvT-loop
-Inv-loop sheet widths inputs registers count at k₀ place₀ k place =
-    placeAnswer (readThreads (located sheet) (scopeOf inputs registers widths) sheet count at)
-    ≡ placeAnswer (readThreads (located sheet) (scopeOf inputs registers widths) sheet (count - k) place)
+Inv-loop sheet widths definitions declared inputs registers count at k₀ place₀ k place =
+    placeAnswer (readThreads (located sheet) (scopeOf inputs registers widths declared (outlines sheet definitions declared)) sheet count at)
+    ≡ placeAnswer (readThreads (located sheet) (scopeOf inputs registers widths declared (outlines sheet definitions declared)) sheet (count - k) place)
 
 abbrev μ-loop : tie.MeasureT-loop
-μ-loop sheet widths inputs registers count at k₀ place₀ k place = count - k
+μ-loop sheet widths definitions declared inputs registers count at k₀ place₀ k place = count - k
 
 loop-holds : tie.Need-loop-holds Inv-loop μ-loop
 loop-holds c = rw sub-zero
@@ -39,7 +39,7 @@ loop-again c =
 
 returns-3 : tie.Need-returns-3 Inv-loop μ-loop
 returns-3 c =
-    threads-done (located (c .before .before .before .before .args .sheet .now)) (scopeOf (c .before .before .before .before .args .inputs) (c .before .before .before .before .args .registers) (c .before .before .before .before .args .widths .now)) (c .before .before .before .before .args .sheet .now) (c .before .before .before .before .args .count) (c .before .loop .k) (c .before .loop .place) (c .loop-test .left) ∙ sym (c .before .loop .inv)
+    threads-done (located (c .before .before .before .before .args .sheet .now)) (scopeOf (c .before .before .before .before .args .inputs) (c .before .before .before .before .args .registers) (c .before .before .before .before .args .widths .now) (c .before .before .before .before .args .declared) (outlines (c .before .before .before .before .args .sheet .now) (c .before .before .before .before .args .definitions .now) (c .before .before .before .before .args .declared))) (c .before .before .before .before .args .sheet .now) (c .before .before .before .before .args .count) (c .before .loop .k) (c .before .loop .place) (c .loop-test .left) ∙ sym (c .before .loop .inv)
 
 pub read-threads-spec : {M : Type 1} → statement M
 read-threads-spec =

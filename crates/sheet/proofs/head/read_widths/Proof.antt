@@ -2,7 +2,7 @@
 use borrow.Author.Needs.{needs}
 use mathlib.Core.Path.{_≡_, refl, sym, _∙_}
 use Prim.Native.Nat.{_-_}
-use Rattle.sheet.specs.Module.{readWidths}
+use Rattle.sheet.specs.Functions.{readWidths}
 use Rattle.sheet.specs.Parts.{widthsAnswer}
 use Rattle.sheet.proofs.Answers.{byte-read, byte-refused}
 use Rattle.sheet.proofs.Sections.{widths-done, widths-refused, widths-more}

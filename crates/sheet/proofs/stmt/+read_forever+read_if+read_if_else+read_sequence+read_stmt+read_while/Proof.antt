@@ -3,14 +3,13 @@
 -- levels left, and one more in a form. Assumes nothing.
 use borrow.Author.Needs.{needs}
 use mathlib.Core.Path.{refl, sym, ap, _∙_}
-use Prim.Native.Nat.{_+_, _*_}
+use Prim.Native.Nat.{ℕ, _+_, _*_, _<_}
 use native.Mathlib.Omega.{arith}
 use Rattle.sheet.specs.Statement.{size, form, anEmpty, aSequence, anIf, anIfElse, aWhile, aForever, aWait}
 use Rattle.sheet.specs.Answers.{stmtAnswer}
 use Rattle.sheet.proofs.Answers.{expr-read, expr-refused, stmt-read, stmt-refused, answer-stmt, answer-stmt-refused}
 use Rattle.sheet.proofs.Nodes.{located-kept}
 use Rattle.sheet.proofs.Forms
-use Prim.Native.Nat.{ℕ, _<_}
 use borrow.Fn.Kinds.{In}
 use borrow.Fn.PlainCycle.{Measures, is, falls, and}
 use Rattle.sheet.proofs.stmt.read_forever.Reads as read-forever
@@ -34,66 +33,62 @@ use Rattle.sheet.proofs.stmt.+read_forever+read_if+read_if_else+read_se
 use Rattle.sheet.proofs.expr.located.Reads as located-reads
 use Rattle.sheet.proofs.stmt.read_assignment.Reads as read-assignment-reads
 use Rattle.sheet.proofs.stmt.read_wait.Reads as read-wait-reads
-use Rattle.sheet.proofs.stmt.+read_forever+read_if+read_if_else+read_sequence+read_stmt+read_while.{
-  statement,
-}
-use Rattle.sheet.proofs.stmt.+read_forever+read_if+read_if_else+read_sequence+read_stmt+read_while.Tie.{
-  close,
-}
+use Rattle.sheet.proofs.stmt.+read_forever+read_if+read_if_else+read_sequence+read_stmt+read_while.{statement}
+use Rattle.sheet.proofs.stmt.+read_forever+read_if+read_if_else+read_sequence+read_stmt+read_while.Tie.{close}
 
-abbrev μ-read-forever : Measures 2 read-forever-kinds.ps ℕ
-μ-read-forever κs a = 2 * a .1 .1 .1 .1 .1 .0 + 1
+abbrev μ-read-forever : Measures 3 read-forever-kinds.ps ℕ
+μ-read-forever κs a = 2 * a .1 .1 .1 .1 .1 .1 .1 .0 + 1
 
-abbrev μ-read-if : Measures 2 read-if-kinds.ps ℕ
-μ-read-if κs a = 2 * a .1 .1 .1 .1 .1 .0 + 1
+abbrev μ-read-if : Measures 3 read-if-kinds.ps ℕ
+μ-read-if κs a = 2 * a .1 .1 .1 .1 .1 .1 .1 .0 + 1
 
-abbrev μ-read-if-else : Measures 2 read-if-else-kinds.ps ℕ
-μ-read-if-else κs a = 2 * a .1 .1 .1 .1 .1 .0 + 1
+abbrev μ-read-if-else : Measures 3 read-if-else-kinds.ps ℕ
+μ-read-if-else κs a = 2 * a .1 .1 .1 .1 .1 .1 .1 .0 + 1
 
-abbrev μ-read-sequence : Measures 2 read-sequence-kinds.ps ℕ
-μ-read-sequence κs a = 2 * a .1 .1 .1 .1 .1 .0 + 1
+abbrev μ-read-sequence : Measures 3 read-sequence-kinds.ps ℕ
+μ-read-sequence κs a = 2 * a .1 .1 .1 .1 .1 .1 .1 .0 + 1
 
-abbrev μ-read-stmt : Measures 2 read-stmt-kinds.ps ℕ
-μ-read-stmt κs a = 2 * a .1 .1 .1 .1 .1 .0
+abbrev μ-read-stmt : Measures 3 read-stmt-kinds.ps ℕ
+μ-read-stmt κs a = 2 * a .1 .1 .1 .1 .1 .1 .1 .0
 
-abbrev μ-read-while : Measures 2 read-while-kinds.ps ℕ
-μ-read-while κs a = 2 * a .1 .1 .1 .1 .1 .0 + 1
+abbrev μ-read-while : Measures 3 read-while-kinds.ps ℕ
+μ-read-while κs a = 2 * a .1 .1 .1 .1 .1 .1 .1 .0 + 1
 
-abbrev read-forever-at : ℕ → In 2 read-forever-kinds.ps
-read-forever-at t = and 2 read-forever-kinds.ps (is 2 read-forever-kinds.ps μ-read-forever t) read-forever.Pre
+abbrev read-forever-at : ℕ → In 3 read-forever-kinds.ps
+read-forever-at t = and 3 read-forever-kinds.ps (is 3 read-forever-kinds.ps μ-read-forever t) read-forever.Pre
 
-abbrev read-forever-below : ℕ → In 2 read-forever-kinds.ps
-read-forever-below t = and 2 read-forever-kinds.ps (falls 2 read-forever-kinds.ps _<_ μ-read-forever t) read-forever.Pre
+abbrev read-forever-below : ℕ → In 3 read-forever-kinds.ps
+read-forever-below t = and 3 read-forever-kinds.ps (falls 3 read-forever-kinds.ps _<_ μ-read-forever t) read-forever.Pre
 
-abbrev read-if-at : ℕ → In 2 read-if-kinds.ps
-read-if-at t = and 2 read-if-kinds.ps (is 2 read-if-kinds.ps μ-read-if t) read-if.Pre
+abbrev read-if-at : ℕ → In 3 read-if-kinds.ps
+read-if-at t = and 3 read-if-kinds.ps (is 3 read-if-kinds.ps μ-read-if t) read-if.Pre
 
-abbrev read-if-below : ℕ → In 2 read-if-kinds.ps
-read-if-below t = and 2 read-if-kinds.ps (falls 2 read-if-kinds.ps _<_ μ-read-if t) read-if.Pre
+abbrev read-if-below : ℕ → In 3 read-if-kinds.ps
+read-if-below t = and 3 read-if-kinds.ps (falls 3 read-if-kinds.ps _<_ μ-read-if t) read-if.Pre
 
-abbrev read-if-else-at : ℕ → In 2 read-if-else-kinds.ps
-read-if-else-at t = and 2 read-if-else-kinds.ps (is 2 read-if-else-kinds.ps μ-read-if-else t) read-if-else.Pre
+abbrev read-if-else-at : ℕ → In 3 read-if-else-kinds.ps
+read-if-else-at t = and 3 read-if-else-kinds.ps (is 3 read-if-else-kinds.ps μ-read-if-else t) read-if-else.Pre
 
-abbrev read-if-else-below : ℕ → In 2 read-if-else-kinds.ps
-read-if-else-below t = and 2 read-if-else-kinds.ps (falls 2 read-if-else-kinds.ps _<_ μ-read-if-else t) read-if-else.Pre
+abbrev read-if-else-below : ℕ → In 3 read-if-else-kinds.ps
+read-if-else-below t = and 3 read-if-else-kinds.ps (falls 3 read-if-else-kinds.ps _<_ μ-read-if-else t) read-if-else.Pre
 
-abbrev read-sequence-at : ℕ → In 2 read-sequence-kinds.ps
-read-sequence-at t = and 2 read-sequence-kinds.ps (is 2 read-sequence-kinds.ps μ-read-sequence t) read-sequence.Pre
+abbrev read-sequence-at : ℕ → In 3 read-sequence-kinds.ps
+read-sequence-at t = and 3 read-sequence-kinds.ps (is 3 read-sequence-kinds.ps μ-read-sequence t) read-sequence.Pre
 
-abbrev read-sequence-below : ℕ → In 2 read-sequence-kinds.ps
-read-sequence-below t = and 2 read-sequence-kinds.ps (falls 2 read-sequence-kinds.ps _<_ μ-read-sequence t) read-sequence.Pre
+abbrev read-sequence-below : ℕ → In 3 read-sequence-kinds.ps
+read-sequence-below t = and 3 read-sequence-kinds.ps (falls 3 read-sequence-kinds.ps _<_ μ-read-sequence t) read-sequence.Pre
 
-abbrev read-stmt-at : ℕ → In 2 read-stmt-kinds.ps
-read-stmt-at t = and 2 read-stmt-kinds.ps (is 2 read-stmt-kinds.ps μ-read-stmt t) read-stmt.Pre
+abbrev read-stmt-at : ℕ → In 3 read-stmt-kinds.ps
+read-stmt-at t = and 3 read-stmt-kinds.ps (is 3 read-stmt-kinds.ps μ-read-stmt t) read-stmt.Pre
 
-abbrev read-stmt-below : ℕ → In 2 read-stmt-kinds.ps
-read-stmt-below t = and 2 read-stmt-kinds.ps (falls 2 read-stmt-kinds.ps _<_ μ-read-stmt t) read-stmt.Pre
+abbrev read-stmt-below : ℕ → In 3 read-stmt-kinds.ps
+read-stmt-below t = and 3 read-stmt-kinds.ps (falls 3 read-stmt-kinds.ps _<_ μ-read-stmt t) read-stmt.Pre
 
-abbrev read-while-at : ℕ → In 2 read-while-kinds.ps
-read-while-at t = and 2 read-while-kinds.ps (is 2 read-while-kinds.ps μ-read-while t) read-while.Pre
+abbrev read-while-at : ℕ → In 3 read-while-kinds.ps
+read-while-at t = and 3 read-while-kinds.ps (is 3 read-while-kinds.ps μ-read-while t) read-while.Pre
 
-abbrev read-while-below : ℕ → In 2 read-while-kinds.ps
-read-while-below t = and 2 read-while-kinds.ps (falls 2 read-while-kinds.ps _<_ μ-read-while t) read-while.Pre
+abbrev read-while-below : ℕ → In 3 read-while-kinds.ps
+read-while-below t = and 3 read-while-kinds.ps (falls 3 read-while-kinds.ps _<_ μ-read-while t) read-while.Pre
 
 -- what read-forever calls
 abbrev read-forever-calls : ℕ → read-forever-lts.Claims
@@ -160,8 +155,8 @@ read-forever-returns t c =
     let told = c .enum-told .given .1 in
     told ∙ answer-stmt-refused (Forms.forever-body _ _ _ _ _ (stmt-refused (c .before .before .read-stmt .ensures) told))
 
-read-forever-add-t10 : (t : ℕ) → read-forever-lts.Need-add-t10 (read-forever-calls t) (read-forever-at t) read-forever.Post
-read-forever-add-t10 t c =
+read-forever-add-t12 : (t : ℕ) → read-forever-lts.Need-add-t12 (read-forever-calls t) (read-forever-at t) read-forever.Post
+read-forever-add-t12 t c =
     let a = stmt-read (c .before .before .before .read-stmt .ensures) (c .before .a .given .1) in
     let x = Forms.read-ended _ _ _ _ (a .read) in
     omega arith
@@ -174,16 +169,16 @@ read-forever-returns-2 t c =
 
 read-if-returns : (t : ℕ) → read-if-lts.Need-returns (read-if-calls t) (read-if-at t) read-if.Post
 read-if-returns t c =
-    answer-stmt-refused (Forms.if-test _ _ _ _ _ (expr-refused (c .before .before .before .located .ensures) (c .before .e2 .given .1)))
+    answer-stmt-refused (Forms.if-test _ _ _ _ _ (expr-refused (c .before .before .before .located .ensures _ _) (c .before .e2 .given .1)))
 
 read-if-returns-2 : (t : ℕ) → read-if-lts.Need-returns-2 (read-if-calls t) (read-if-at t) read-if.Post
 read-if-returns-2 t c =
-    let e = expr-read (c .before .before .before .before .before .before .located .ensures) (c .before .before .before .before .e .given .1) .1 in
+    let e = expr-read (c .before .before .before .before .before .before .located .ensures (c .before .before .before .before .before .before .before .before .before .args .inputs) (c .before .before .before .before .before .before .before .before .before .args .registers)) (c .before .before .before .before .e .given .1) .1 in
     let told = c .enum-told .given .1 in
     told ∙ answer-stmt-refused (Forms.if-body _ _ _ _ _ e (stmt-refused (c .before .before .read-stmt .ensures) told))
 
-read-if-add-t15 : (t : ℕ) → read-if-lts.Need-add-t15 (read-if-calls t) (read-if-at t) read-if.Post
-read-if-add-t15 t c =
+read-if-add-t17 : (t : ℕ) → read-if-lts.Need-add-t17 (read-if-calls t) (read-if-at t) read-if.Post
+read-if-add-t17 t c =
     let a = stmt-read (c .before .before .before .read-stmt .ensures) (c .before .a .given .1) in
     let x = Forms.read-ended _ _ _ _ (a .read) in
     omega arith
@@ -191,34 +186,26 @@ read-if-add-t15 t c =
 read-if-returns-3 : (t : ℕ) → read-if-lts.Need-returns-3 (read-if-calls t) (read-if-at t) read-if.Post
 unfolding size
 read-if-returns-3 t c =
-    let e = expr-read (c .before .before .before .before .before .before .before .located .ensures) (c .before .before .before .before .before .e .given .1) .1 in
+    let e = expr-read (c .before .before .before .before .before .before .before .located .ensures (c .before .before .before .before .before .before .before .before .before .before .args .inputs) (c .before .before .before .before .before .before .before .before .before .before .args .registers)) (c .before .before .before .before .before .e .given .1) .1 in
     let a = stmt-read (c .before .before .before .read-stmt .ensures) (c .before .a .given .1) in
     answer-stmt (Forms.if-made _ _ _ _ _ e (a .read)) (ap (λ (z : ℕ). z + 1) (a .size-is))
 
 read-if-else-returns : (t : ℕ) → read-if-else-lts.Need-returns (read-if-else-calls t) (read-if-else-at t) read-if-else.Post
 read-if-else-returns t c =
-    answer-stmt-refused (Forms.else-test _ _ _ _ _ (expr-refused (c .before .before .before .located .ensures) (c .before .e2 .given .1)))
+    answer-stmt-refused (Forms.else-test _ _ _ _ _ (expr-refused (c .before .before .before .located .ensures _ _) (c .before .e2 .given .1)))
 
 read-if-else-returns-2 : (t : ℕ) → read-if-else-lts.Need-returns-2 (read-if-else-calls t) (read-if-else-at t) read-if-else.Post
 read-if-else-returns-2 t c =
-    let e = expr-read (c .before .before .before .before .before .before .located .ensures) (c .before .before .before .before .e .given .1) .1 in
+    let e = expr-read (c .before .before .before .before .before .before .located .ensures (c .before .before .before .before .before .before .before .before .before .args .inputs) (c .before .before .before .before .before .before .before .before .before .args .registers)) (c .before .before .before .before .e .given .1) .1 in
     let told = c .enum-told .given .1 in
     told ∙ answer-stmt-refused (Forms.else-first _ _ _ _ _ e (stmt-refused (c .before .before .read-stmt .ensures) told))
 
 read-if-else-returns-3 : (t : ℕ) → read-if-else-lts.Need-returns-3 (read-if-else-calls t) (read-if-else-at t) read-if-else.Post
 read-if-else-returns-3 t c =
-    let e = expr-read (c .before .before .before .before .before .before .before .before .before .before .located .ensures) (c .before .before .before .before .before .before .before .before .e .given .1) .1 in
+    let e = expr-read (c .before .before .before .before .before .before .before .before .before .before .located .ensures (c .before .before .before .before .before .before .before .before .before .before .before .before .before .args .inputs) (c .before .before .before .before .before .before .before .before .before .before .before .before .before .args .registers)) (c .before .before .before .before .before .before .before .before .e .given .1) .1 in
     let a = stmt-read (c .before .before .before .before .before .before .read-stmt .ensures) (c .before .before .before .before .a .given .1) in
     let told = c .enum-told2 .given .1 in
     told ∙ answer-stmt-refused (Forms.else-second _ _ _ _ _ e (a .read) (stmt-refused (c .before .before .read-stmt2 .ensures) told))
-
-read-if-else-add-t18 : (t : ℕ) → read-if-else-lts.Need-add-t18 (read-if-else-calls t) (read-if-else-at t) read-if-else.Post
-read-if-else-add-t18 t c =
-    let a = stmt-read (c .before .before .before .before .before .before .before .read-stmt .ensures) (c .before .before .before .before .before .a .given .1) in
-    let b = stmt-read (c .before .before .before .read-stmt2 .ensures) (c .before .b .given .1) in
-    let x = Forms.read-ended _ _ _ _ (a .read) in
-    let y = Forms.read-ended _ _ _ _ (b .read) in
-    omega arith
 
 read-if-else-add-t20 : (t : ℕ) → read-if-else-lts.Need-add-t20 (read-if-else-calls t) (read-if-else-at t) read-if-else.Post
 read-if-else-add-t20 t c =
@@ -228,10 +215,18 @@ read-if-else-add-t20 t c =
     let y = Forms.read-ended _ _ _ _ (b .read) in
     omega arith
 
+read-if-else-add-t22 : (t : ℕ) → read-if-else-lts.Need-add-t22 (read-if-else-calls t) (read-if-else-at t) read-if-else.Post
+read-if-else-add-t22 t c =
+    let a = stmt-read (c .before .before .before .before .before .before .before .read-stmt .ensures) (c .before .before .before .before .before .a .given .1) in
+    let b = stmt-read (c .before .before .before .read-stmt2 .ensures) (c .before .b .given .1) in
+    let x = Forms.read-ended _ _ _ _ (a .read) in
+    let y = Forms.read-ended _ _ _ _ (b .read) in
+    omega arith
+
 read-if-else-returns-4 : (t : ℕ) → read-if-else-lts.Need-returns-4 (read-if-else-calls t) (read-if-else-at t) read-if-else.Post
 unfolding size
 read-if-else-returns-4 t c =
-    let e = expr-read (c .before .before .before .before .before .before .before .before .before .before .before .located .ensures) (c .before .before .before .before .before .before .before .before .before .e .given .1) .1 in
+    let e = expr-read (c .before .before .before .before .before .before .before .before .before .before .before .located .ensures (c .before .before .before .before .before .before .before .before .before .before .before .before .before .before .args .inputs) (c .before .before .before .before .before .before .before .before .before .before .before .before .before .before .args .registers)) (c .before .before .before .before .before .before .before .before .before .e .given .1) .1 in
     let a = stmt-read (c .before .before .before .before .before .before .before .read-stmt .ensures) (c .before .before .before .before .before .a .given .1) in
     let b = stmt-read (c .before .before .before .read-stmt2 .ensures) (c .before .b .given .1) in
     answer-stmt (Forms.else-made _ _ _ _ _ e (a .read) (b .read)) (λ i. a .size-is i + b .size-is i + 2)
@@ -247,8 +242,8 @@ read-sequence-returns-2 t c =
     let told = c .enum-told2 .given .1 in
     told ∙ answer-stmt-refused (Forms.sequence-second _ _ _ _ _ (a .read) (stmt-refused (c .before .before .read-stmt2 .ensures) told))
 
-read-sequence-add-t13 : (t : ℕ) → read-sequence-lts.Need-add-t13 (read-sequence-calls t) (read-sequence-at t) read-sequence.Post
-read-sequence-add-t13 t c =
+read-sequence-add-t15 : (t : ℕ) → read-sequence-lts.Need-add-t15 (read-sequence-calls t) (read-sequence-at t) read-sequence.Post
+read-sequence-add-t15 t c =
     let a = stmt-read (c .before .before .before .before .before .before .before .read-stmt .ensures) (c .before .before .before .before .before .a .given .1) in
     let b = stmt-read (c .before .before .before .read-stmt2 .ensures) (c .before .b .given .1) in
     let x = Forms.read-ended _ _ _ _ (a .read) in
@@ -263,10 +258,12 @@ read-sequence-returns-3 t c =
     answer-stmt (Forms.sequence-made _ _ _ _ _ (a .read) (b .read)) (λ i. a .size-is i + b .size-is i)
 
 read-stmt-returns : (t : ℕ) → read-stmt-lts.Need-returns (read-stmt-calls t) (read-stmt-at t) read-stmt.Post
-read-stmt-returns t c = answer-stmt-refused (Forms.stmt-end _ _ _ _ _ (c .if1 .taken))
+read-stmt-returns t c =
+    answer-stmt-refused (Forms.stmt-end _ _ _ _ _ (c .if1 .taken))
 
 read-stmt-returns-2 : (t : ℕ) → read-stmt-lts.Need-returns-2 (read-stmt-calls t) (read-stmt-at t) read-stmt.Post
-read-stmt-returns-2 t c = answer-stmt-refused (Forms.stmt-deep _ _ _ _ _ (c .before .if1 .left) (c .if2 .taken))
+read-stmt-returns-2 t c =
+    answer-stmt-refused (Forms.stmt-deep _ _ _ _ _ (c .before .if1 .left) (c .if2 .taken))
 
 read-stmt-returns-3 : (t : ℕ) → read-stmt-lts.Need-returns-3 (read-stmt-calls t) (read-stmt-at t) read-stmt.Post
 unfolding Forms.formMap form size
@@ -315,25 +312,25 @@ read-stmt-returns-11 t c =
 
 read-while-returns : (t : ℕ) → read-while-lts.Need-returns (read-while-calls t) (read-while-at t) read-while.Post
 read-while-returns t c =
-    answer-stmt-refused (Forms.while-test _ _ _ _ _ (expr-refused (c .before .before .before .located .ensures) (c .before .e2 .given .1)))
+    answer-stmt-refused (Forms.while-test _ _ _ _ _ (expr-refused (c .before .before .before .located .ensures _ _) (c .before .e2 .given .1)))
 
 read-while-returns-2 : (t : ℕ) → read-while-lts.Need-returns-2 (read-while-calls t) (read-while-at t) read-while.Post
 read-while-returns-2 t c =
-    let e = expr-read (c .before .before .before .before .before .before .located .ensures) (c .before .before .before .before .e .given .1) .1 in
+    let e = expr-read (c .before .before .before .before .before .before .located .ensures (c .before .before .before .before .before .before .before .before .before .args .inputs) (c .before .before .before .before .before .before .before .before .before .args .registers)) (c .before .before .before .before .e .given .1) .1 in
     let told = c .enum-told .given .1 in
     told ∙ answer-stmt-refused (Forms.while-body _ _ _ _ _ e (stmt-refused (c .before .before .read-stmt .ensures) told))
 
-read-while-add-t15 : (t : ℕ) → read-while-lts.Need-add-t15 (read-while-calls t) (read-while-at t) read-while.Post
-read-while-add-t15 t c =
+read-while-add-t17 : (t : ℕ) → read-while-lts.Need-add-t17 (read-while-calls t) (read-while-at t) read-while.Post
+read-while-add-t17 t c =
     let a = stmt-read (c .before .before .before .read-stmt .ensures) (c .before .a .given .1) in
     let x = Forms.read-ended _ _ _ _ (a .read) in
-    let e = located-kept _ _ _ (expr-read (c .before .before .before .before .before .before .before .located .ensures) (c .before .before .before .before .before .e .given .1) .1) in
+    let e = located-kept _ _ _ (expr-read (c .before .before .before .before .before .before .before .located .ensures (c .before .before .before .before .before .before .before .before .before .before .args .inputs) (c .before .before .before .before .before .before .before .before .before .before .args .registers)) (c .before .before .before .before .before .e .given .1) .1) in
     omega arith
 
 read-while-returns-3 : (t : ℕ) → read-while-lts.Need-returns-3 (read-while-calls t) (read-while-at t) read-while.Post
 unfolding size
 read-while-returns-3 t c =
-    let e = expr-read (c .before .before .before .before .before .before .before .located .ensures) (c .before .before .before .before .before .e .given .1) .1 in
+    let e = expr-read (c .before .before .before .before .before .before .before .located .ensures (c .before .before .before .before .before .before .before .before .before .before .args .inputs) (c .before .before .before .before .before .before .before .before .before .before .args .registers)) (c .before .before .before .before .before .e .given .1) .1 in
     let a = stmt-read (c .before .before .before .read-stmt .ensures) (c .before .a .given .1) in
     answer-stmt (Forms.while-made _ _ _ _ _ e (a .read)) (ap (λ (z : ℕ). z + 2) (a .size-is))
 
@@ -346,7 +343,7 @@ pub +read-forever+read-if+read-if-else+read-sequence+read-stmt+read-while-spec :
     (λ c. search needs)
     (λ c. search needs)
     (read-forever-returns t)
-    (read-forever-add-t10 t)
+    (read-forever-add-t12 t)
     (read-forever-returns-2 t))
     (λ t. read-if-lts.spec (read-if-calls t) (read-if-at t) read-if.Post
     (λ c. search needs)
@@ -358,7 +355,7 @@ pub +read-forever+read-if+read-if-else+read-sequence+read-stmt+read-while-spec :
     (λ c. search needs)
     (λ c. search needs)
     (read-if-returns-2 t)
-    (read-if-add-t15 t)
+    (read-if-add-t17 t)
     (read-if-returns-3 t))
     (λ t. read-if-else-lts.spec (read-if-else-calls t) (read-if-else-at t) read-if-else.Post
     (λ c. search needs)
@@ -374,8 +371,8 @@ pub +read-forever+read-if+read-if-else+read-sequence+read-stmt+read-while-spec :
     (λ c. search needs)
     (λ c. search needs)
     (read-if-else-returns-3 t)
-    (read-if-else-add-t18 t)
     (read-if-else-add-t20 t)
+    (read-if-else-add-t22 t)
     (read-if-else-returns-4 t))
     (λ t. read-sequence-lts.spec (read-sequence-calls t) (read-sequence-at t) read-sequence.Post
     (λ c. search needs)
@@ -387,7 +384,7 @@ pub +read-forever+read-if+read-if-else+read-sequence+read-stmt+read-while-spec :
     (λ c. search needs)
     (λ c. search needs)
     (read-sequence-returns-2 t)
-    (read-sequence-add-t13 t)
+    (read-sequence-add-t15 t)
     (read-sequence-returns-3 t))
     (λ t. read-stmt-lts.spec (read-stmt-calls t) (read-stmt-at t) read-stmt.Post
     (read-stmt-returns t)
@@ -425,5 +422,5 @@ pub +read-forever+read-if+read-if-else+read-sequence+read-stmt+read-while-spec :
     (λ c. search needs)
     (λ c. search needs)
     (read-while-returns-2 t)
-    (read-while-add-t15 t)
+    (read-while-add-t17 t)
     (read-while-returns-3 t))

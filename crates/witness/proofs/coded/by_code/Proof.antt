@@ -23,7 +23,9 @@ returns-2 c = rw (c .before .before .before .test .given .1, ← c .before .fetc
 
 returns-3 : tie.Need-returns-3
 unfolding byCode
-returns-3 c = rw (c .before .before .before .test2 .given .1, ← c .before .fetch2 .ensures) (c .reads-clock .ensures)
+returns-3 c =
+    let f = c .before .before .before in
+    rw (f .before .before .test2 .given .1, ← f .fetch2 .ensures) (c .reads-clock .ensures)
 
 returns-4 : tie.Need-returns-4
 unfolding byCode

@@ -15,7 +15,7 @@ returns c =
     let b = w .before in
     let a = b .before .before .args in
     rw (c .before .enum-told .given .1)
-    (ap (λ (x : Waiting). not (x .starts)) (w .walk .ensures ∙ ap (walkAt 64 (a .sheet .now)) (b .body-at .ensures)))
+    (ap (λ (x : Waiting). not (x .starts)) (w .walk .ensures ∙ ap (walkAt 64 (a .sheet .now) (a .definitions .now)) (b .body-at .ensures)))
 
 returns-2 : tie.Need-returns-2
 unfolding byBody
@@ -25,7 +25,7 @@ returns-2 c =
     let a = b .before .before .args in
     rw (c .before .enum-told2 .given .1)
     (ap not (c .both .ensures)
-    ∙ ap (λ (x : Waiting). not (x .surely && x .loops)) (w .walk .ensures ∙ ap (walkAt 64 (a .sheet .now)) (b .body-at .ensures)))
+    ∙ ap (λ (x : Waiting). not (x .surely && x .loops)) (w .walk .ensures ∙ ap (walkAt 64 (a .sheet .now) (a .definitions .now)) (b .body-at .ensures)))
 
 pub by-body-spec : {M : Type 1} → statement M
 by-body-spec =

@@ -12,10 +12,10 @@ use Rattle.witness.proofs.looping.first_body.Statement.{statement}
 use Rattle.witness.proofs.looping.first_body.Tie as tie
 
 abbrev Inv-loop : tie.InvT-loop
-Inv-loop sheet body test n k₀ k = (k ≤ n) × (anyBelow k (byBody sheet body test) ≡ false)
+Inv-loop sheet definitions body test n k₀ k = (k ≤ n) × (anyBelow k (byBody sheet definitions body test) ≡ false)
 
 abbrev μ-loop : tie.MeasureT-loop
-μ-loop sheet body test n k₀ k = n - k
+μ-loop sheet definitions body test n k₀ k = n - k
 
 loop-holds : tie.Need-loop-holds Inv-loop μ-loop
 loop-holds c = (search needs, any-start _)

@@ -1,0 +1,6 @@
+pub mod Steps
+pub mod Along
+pub mod Reading
+pub mod Filling
+pub mod Holding
+pub mod Laying

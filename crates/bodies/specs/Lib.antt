@@ -1,0 +1,5 @@
+pub mod Steps
+pub mod Along
+pub mod Filling
+pub mod Laying
+pub mod Claims
