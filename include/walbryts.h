@@ -57,7 +57,8 @@ extern "C" {
 #define WALBRYTS_VARIABLES 80  /* variables of a sheet, at most */
 #define WALBRYTS_STACK 8388608 /* bytes of stack that reading a text needs at most */
 
-#define WALBRYTS_TEXT 65536  /* bytes of the buffer for a listing; no listing is longer */
+#define WALBRYTS_TEXT 65536  /* bytes of the buffer for a listing or for words; none is longer */
+#define WALBRYTS_HEX 8193    /* bytes of the buffer for a hexadecimal text's, one more than a sheet has */
 #define WALBRYTS_USERS 4     /* users that step one state */
 #define WALBRYTS_STATE 1025  /* bytes of a saved state */
 #define WALBRYTS_STATE_3 689 /* bytes of one that an older release saved, in form 3 */
@@ -137,6 +138,31 @@ uint8_t walbryts_read(const uint8_t *sheet, size_t sheet_len, size_t *place);
 /* Writes the sheet's listing to the front of text[WALBRYTS_TEXT], without a NUL; what lies behind it stays. *length
  * takes its length, 0 where the sheet is refused. Gives 0, or 1 to 11. */
 uint8_t walbryts_list(const uint8_t *sheet, size_t sheet_len, uint8_t *text, size_t *length);
+
+/* ---- words */
+
+/* The bytes of a hexadecimal text: two digits of either case to a byte, blanks and line ends between, comments from # to
+ * the end of the line. They go to the front of bytes[WALBRYTS_HEX], what lies behind them stays, and *length takes how
+ * many there are; a text of more gives the first WALBRYTS_HEX, which are no sheet (1). *line and *column, from 1, take
+ * where the text ended, or what refuses it stands. Gives 0; 1 for a character that is no digit, 2 for a digit without
+ * its second (which aren't document 01's numbers); then the bytes stay, and *length takes how many came before. */
+uint8_t walbryts_hex(const uint8_t *text, size_t text_len, uint8_t *bytes, size_t *length, size_t *line, size_t *column);
+
+/* What a number refuses, and what is allowed in its place, in the words that the command prints, to the front of
+ * text[WALBRYTS_TEXT] without a NUL; what lies behind them stays. *length takes their length, 0 for a number without
+ * words. */
+void walbryts_reason(uint8_t number, uint8_t *text, size_t *length);
+void walbryts_allowed(uint8_t number, uint8_t *text, size_t *length);
+
+/* What breaks the rule, 12 to 21, that extraction refuses the sheet by: the number is given, 0 where it accepts, 1 to 11
+ * where the sheet isn't read. *thread, *other (another thread), *reg (a register), *wired (whether *wire is the reader,
+ * and no thread), *wire, *above (the wire that it reads) and *place (a place of the thread) take what it names, 0 else;
+ * registers and wires go by their own numbers. */
+uint8_t walbryts_witness(const uint8_t *sheet, size_t sheet_len, size_t *thread, size_t *other, size_t *reg,
+                         bool *wired, size_t *wire, size_t *above, size_t *place);
+
+/* The same in words, as walbryts_reason writes them; none, and a *length of 0, for a number below 12. */
+uint8_t walbryts_finding(const uint8_t *sheet, size_t sheet_len, uint8_t *text, size_t *length);
 
 /* ---- events. A state lies as its saved bytes in state[WALBRYTS_STATE] and becomes the one that the call gives back;
  * keeping a copy of the bytes saves it, copying them back loads it. Bytes that are no saved state are refused as a state

@@ -2,7 +2,7 @@
 //! in full. This crate is a safe interface to the proved library's C functions.
 //!
 //! A module comes as Verilog text ([`Sheet::from_verilog`], [`names`]) or as a [`Sheet`] of bytes
-//! ([`Sheet::read`]), which is read whole or refused with a number and a place. From there it goes two ways, which a theorem says agree in every module that extraction
+//! ([`Sheet::read`], [`Sheet::from_hex`]), which is read whole or refused with a number and a place. From there it goes two ways, which a theorem says agree in every module that extraction
 //! accepts:
 //!
 //! - by events: [`Sheet::start`] gives a [`State`]; [`Sheet::choose`], [`Sheet::run`],
@@ -56,6 +56,7 @@ mod plan;
 mod clock;
 mod dispatcher;
 mod text;
+mod words;
 
 pub use clock::ClockPlan;
 pub use dispatcher::{Record, dispatch};
@@ -69,3 +70,4 @@ pub use state::{NotSaved, SAVED, State, USERS};
 pub use text::{MOST_TEXT, names};
 pub use trace::Trace;
 pub use value::Value;
+pub use words::{NoSheet, Witness};

@@ -265,6 +265,38 @@ unsafe extern "C" {
         cycles: *mut usize,
     ) -> u8;
 
+    pub fn walbryts_hex(
+        text: *const u8,
+        text_len: usize,
+        bytes: *mut u8,
+        length: *mut usize,
+        line: *mut usize,
+        column: *mut usize,
+    ) -> u8;
+
+    pub fn walbryts_reason(number: u8, text: *mut u8, length: *mut usize);
+
+    pub fn walbryts_allowed(number: u8, text: *mut u8, length: *mut usize);
+
+    pub fn walbryts_witness(
+        sheet: *const u8,
+        sheet_len: usize,
+        thread: *mut usize,
+        other: *mut usize,
+        register: *mut usize,
+        wired: *mut bool,
+        wire: *mut usize,
+        above: *mut usize,
+        place: *mut usize,
+    ) -> u8;
+
+    pub fn walbryts_finding(
+        sheet: *const u8,
+        sheet_len: usize,
+        text: *mut u8,
+        length: *mut usize,
+    ) -> u8;
+
     pub fn walbryts_dispatch(
         busy: *const bool,
         busy_len: usize,

@@ -62,7 +62,8 @@ impl fmt::Display for Refusal {
 
 impl Error for Refusal {}
 
-/// Makes the reasons with their numbers and their words, one line for each.
+/// Makes the reasons with their numbers and the words that the library has for them (a test holds them
+/// to the library's), one line for each.
 macro_rules! reasons {
     ($($name:ident = $number:literal, $words:literal;)*) => {
         /// What was wrong, one case for each of document 01's numbers.
@@ -77,6 +78,8 @@ macro_rules! reasons {
             /// All of them, by number.
             pub const ALL: &[Reason] = &[$(Reason::$name),*];
 
+            /// The words in this documentation.
+            #[cfg(test)]
             fn words(self) -> &'static str {
                 match self {
                     $(Reason::$name => $words,)*
@@ -87,41 +90,41 @@ macro_rules! reasons {
 }
 
 reasons! {
-    SheetTooLong = 1, "the sheet has over 8,192 bytes";
+    SheetTooLong = 1, "the sheet is over 8,192 bytes";
     EndsEarly = 2, "the sheet ends early";
     Count = 3, "a count is out of range";
-    Width = 4, "a width is out of range, or the clock's isn't 1";
-    Map = 5, "a map that isn't allowed";
+    Width = 4, "a width is out of range";
+    Map = 5, "a bit map that is not allowed";
     Field = 6, "a field is out of range";
     Depth = 7, "nested too deep";
     WidthsDisagree = 8, "widths disagree";
     Target = 9, "the target is no register";
-    BytesAfter = 10, "bytes after the end";
+    BytesAfter = 10, "bytes stand after the end";
     ThreadTooLong = 11, "a thread has over 256 instructions";
     TwoWriters = 12, "two threads write one register";
-    BothWays = 13, "a register is written by plain and by later assignment";
-    PlainRead = 14, "a register written by plain assignment is read by another thread or a wire";
-    OtherWait = 15, "a wait is other than the single posedge of the clock";
-    NoFirstWait = 16, "a thread doesn't start with a wait";
-    NoSureWait = 17, "a loop or a thread doesn't surely wait";
+    BothWays = 13, "a register is written both ways";
+    PlainRead = 14, "a register written by plain assignment is read elsewhere";
+    OtherWait = 15, "a wait other than the single posedge of the clock";
+    NoFirstWait = 16, "a thread does not start with a wait";
+    NoSureWait = 17, "a loop or a thread body does not surely wait";
     ClockRead = 18, "the clock is read in an expression";
-    WireOrder = 19, "a wire reads itself or a higher one";
-    TooManyWaits = 20, "there are over 32 waits";
-    TooManyNodes = 21, "extraction needs over 4,096 nodes";
+    WireOrder = 19, "a wire reads itself or a higher wire";
+    TooManyWaits = 20, "over 32 waits";
+    TooManyNodes = 21, "over 4,096 nodes";
     NoItem = 22, "the choice names no item";
     TableLength = 23, "a lent table has another length";
-    Table = 24, "the tables don't hold together";
+    Table = 24, "the tables do not hold together";
     Inputs = 25, "the inputs are of the wrong number, too wide, or have a number under a mark";
-    Unfit = 31, "the state doesn't fit the sheet";
-    NotQuiet = 32, "an instant needs a quiet state";
-    NotEnabled = 33, "the item isn't enabled";
+    Unfit = 31, "the state does not fit the sheet";
+    NotQuiet = 32, "an instant while the state is not quiet";
+    NotEnabled = 33, "the item is not enabled";
     CommitTooEarly = 34, "a commit while an item is enabled";
     NothingPending = 35, "a commit with nothing pending";
     Full = 36, "the time or a module's turns are full";
-    TextTooLong = 41, "the text has over 16,384 bytes";
-    NotDerived = 42, "the text isn't a module of the forms that are read";
-    Names = 43, "a name is undeclared or declared twice, or a wire hasn't exactly one assign";
-    NoUser = 46, "there are the users 0 to 3";
+    TextTooLong = 41, "the text is over 16,384 bytes";
+    NotDerived = 42, "the text is none of the forms that are read";
+    Names = 43, "a name is undeclared or declared twice, or a wire has not one assign";
+    NoUser = 46, "there is no such user";
     UsedUp = 47, "the user's allowance of choices is used up";
     ListLength = 48, "the list has no record, or more than eight";
     LastServed = 49, "the last-served number is outside the list";
@@ -141,9 +144,23 @@ impl Reason {
     }
 }
 
-/// In words.
+/// In the command's words, which are the library's.
 impl fmt::Display for Reason {
     fn fmt(&self, f: &mut fmt::Formatter) -> fmt::Result {
-        f.write_str(self.words())
+        f.write_str(&self.refused())
+    }
+}
+
+#[cfg(test)]
+mod tests {
+    use super::Reason;
+
+    /// What the documentation says of a reason is what the library says.
+    #[test]
+    fn one_table_of_words() {
+        for reason in Reason::ALL.iter().copied() {
+            assert_eq!(reason.refused(), reason.words());
+            assert_eq!(reason.to_string(), reason.words());
+        }
     }
 }

@@ -60,6 +60,7 @@ typedef struct {
     uint32_t clock_rows[WALBRYTS_CLOCK_WORDS];
     uint8_t clock_numbers[WALBRYTS_CLOCK_BYTES];
     uint64_t trace[TRACE];
+    uint8_t hex[WALBRYTS_HEX];
 } Lent;
 
 static Lent lent, kept;
@@ -95,6 +96,7 @@ static void lend(void) {
         lent.unknown[i] = 64 - (uint32_t)i;
     }
     memset(lent.trace, 0xA5, sizeof lent.trace);
+    memset(lent.hex, 0xA5, sizeof lent.hex);
     size_t place = 77;
     if (walbryts_start(good.bytes, good.len, allowances, lent.state) != 0 ||
         walbryts_extract(good.bytes, good.len, lent.nodes, WALBRYTS_NODE_WORDS, lent.rows, WALBRYTS_ROW_WORDS) != 0 ||
@@ -589,6 +591,58 @@ static void texts(void) {
     text(wide, sizeof wide - 1, WALBRYTS_SHEET, 4, 4);
 }
 
+/* ---- words: a refused hexadecimal text leaves the bytes; the rest is never refused */
+
+static void hex(const char *bytes, uint8_t expected, size_t expected_line, size_t expected_column) {
+    size_t length = 77, line = 77, column = 77;
+    uint8_t number = walbryts_hex((const uint8_t *)bytes, strlen(bytes), lent.hex, &length, &line, &column);
+    hold("hex", number, expected, line == expected_line && column == expected_column && length < 4);
+}
+
+static void said(const char *call, size_t length, const char *expected) {
+    if (length != strlen(expected) || memcmp(lent.text, expected, length) != 0) {
+        failed++;
+        printf("FAILED %s: %.*s\n", call, (int)length, lent.text);
+    }
+}
+
+static void words(void) {
+    static const uint8_t both[] = {2, 1, 0, 2, 1, 8, 8, 0x0C, 0x10, 1, 1, 0, 0x23, 2, 2, 1, 0x0C, 0x10, 1, 1, 0, 0x23, 2, 2, 1};
+    size_t length, line, column, thread, other, reg, wire, above, place;
+    bool wired;
+    lend();
+    hex("02 01\ng0", 1, 2, 1);
+    hex("02 01\n0g", 2, 2, 1);
+    hex("02 01 # g\n 0", 2, 2, 2);
+    hex("0 0", 2, 1, 1);
+    if (walbryts_hex((const uint8_t *)"02 0C # 3", 9, lent.hex, &length, &line, &column) != 0 || length != 2 || lent.hex[0] != 2 ||
+        lent.hex[1] != 12 || lent.hex[2] != 0xA5) {
+        failed++;
+        printf("FAILED hex\n");
+    }
+    walbryts_reason(12, lent.text, &length);
+    said("reason", length, "two threads write one register");
+    walbryts_allowed(12, lent.text, &length);
+    said("allowed", length, "one writing thread for each register");
+    walbryts_reason(200, lent.text, &length);
+    said("reason", length, "");
+    if (walbryts_finding(both, sizeof both, lent.text, &length) != 12) {
+        failed++;
+        printf("FAILED finding\n");
+    }
+    said("finding", length, "register r0 is written by threads 0 and 1");
+    if (walbryts_witness(both, sizeof both, &thread, &other, &reg, &wired, &wire, &above, &place) != 12 || thread != 0 ||
+        other != 1 || reg != 0 || wired || wire != 0 || above != 0 || place != 0) {
+        failed++;
+        printf("FAILED witness\n");
+    }
+    if (walbryts_finding(good.bytes, good.len, lent.text, &length) != 0 || length != 0 ||
+        walbryts_witness(unread[1].bytes, unread[1].len, &thread, &other, &reg, &wired, &wire, &above, &place) != 2) {
+        failed++;
+        printf("FAILED a sheet without a witness\n");
+    }
+}
+
 /* ---- accepted calls are seen to alter what is lent: the comparison isn't blind */
 
 static void seen(const char *call, uint8_t number) {
@@ -672,6 +726,7 @@ int main(void) {
     choices();
     tables();
     texts();
+    words();
     accepted();
     accepted_on_plans();
     printf("%u refused calls, %u failed\n", refused, failed);

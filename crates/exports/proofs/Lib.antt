@@ -4,3 +4,4 @@ pub mod PlanClaims
 pub mod Plans
 pub mod Refused
 pub mod Saved
+pub mod Telling

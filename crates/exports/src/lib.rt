@@ -4,6 +4,7 @@ pub mod dispatcher;
 pub mod plan_calls;
 pub mod plan_cycles;
 pub mod reader;
+pub mod words;
 
 use events::Inputs;
 use events::Verdict;

@@ -12,7 +12,7 @@ twelve : reason 12 ≡ ascii "two threads write one register"
 unfolding reason lineOf firstLine otherLines refusals ascii
 twelve = refl
 
-full : reason 36 ≡ ascii "the time is full"
+full : reason 36 ≡ ascii "the time or a module's turns are full"
 unfolding reason lineOf firstLine otherLines refusals ascii
 full = refl
 
@@ -24,11 +24,15 @@ no-user : reason 46 ≡ ascii "there is no such user"
 unfolding reason lineOf firstLine otherLines refusals ascii
 no-user = refl
 
-last : reason 47 ≡ ascii "the user's allowance of choices is used up"
+used-up : reason 47 ≡ ascii "the user's allowance of choices is used up"
+unfolding reason lineOf firstLine otherLines refusals ascii
+used-up = refl
+
+last : reason 49 ≡ ascii "the last-served number is outside the list"
 unfolding reason lineOf firstLine otherLines refusals ascii
 last = refl
 
-none : reason 48 ≡ []
+none : reason 50 ≡ []
 unfolding reason lineOf firstLine otherLines refusals ascii
 none = refl
 
@@ -39,3 +43,7 @@ nineteen = refl
 users : allowed 46 ≡ ascii "users 0 to 3"
 unfolding allowed lineOf firstLine otherLines permissions ascii
 users = refl
+
+served : allowed 49 ≡ ascii "a number below the list's length"
+unfolding allowed lineOf firstLine otherLines permissions ascii
+served = refl
