@@ -56,6 +56,7 @@ pub fn sheet(
         inputs: inputs.len() as u8,
         registers: registers.len() as u8,
         widths: [inputs, registers, &wire_widths].concat(),
+        functions: Vec::new(),
         wires: wires.into_iter().map(|wire| wire.1).collect(),
         threads,
     })

@@ -5,18 +5,21 @@ use std::fmt::{self, Display, Formatter};
 use crate::encode::{encode, expr_map, stmt_map};
 use crate::module::{Edge, Expr, Module, Operator, Stmt};
 use crate::pseudocode::thread_size;
+use crate::sheet::FUNCTIONS;
 
-const EXPR_MAPS: [u8; 6] = [0x02, 0x0C, 0x04, 0x11, 0x31, 0x71];
+const EXPR_MAPS: [u8; 7] = [0x02, 0x0C, 0x04, 0x11, 0x31, 0x71, 0x80];
 const STMT_MAPS: [u8; 9] = [0x00, 0x03, 0x23, 0x0C, 0x06, 0x0E, 0x46, 0x44, 0x10];
 
 #[derive(Default)]
 pub struct Census {
-    expr_maps: Counts<128>,
+    expr_maps: Counts<129>,
     operators: Counts<11>,
     stmt_maps: Counts<128>,
     edges: Counts<3>,
     wait_counts: Counts<9>,
     modules: u64,
+    /// By the number of parameters.
+    functions: Counts<5>,
     deepest_expr: usize,
     deepest_stmt: usize,
     longest_thread: usize,
@@ -41,6 +44,10 @@ impl Census {
     pub fn add(&mut self, module: &Module) {
         self.modules += 1;
         self.longest_sheet = self.longest_sheet.max(encode(module).len());
+        for function in &module.functions {
+            self.functions.add(function.target());
+            self.stmt(&function.body, 1);
+        }
         module.wires.iter().for_each(|wire| self.expr(wire, 1));
         for thread in &module.threads {
             self.longest_thread = self.longest_thread.max(thread_size(thread));
@@ -51,9 +58,15 @@ impl Census {
     fn expr(&mut self, e: &Expr, depth: usize) {
         self.deepest_expr = self.deepest_expr.max(depth);
         self.expr_maps.add(expr_map(e));
-        if let Expr::Operation(operator, operands) = e {
-            self.operators.add(operator.number());
-            operands.iter().for_each(|operand| self.expr(operand, depth + 1));
+        match e {
+            Expr::Operation(operator, operands) => {
+                self.operators.add(operator.number());
+                operands.iter().for_each(|operand| self.expr(operand, depth + 1));
+            }
+            Expr::Call(_, arguments) => {
+                arguments.iter().for_each(|argument| self.expr(argument, depth + 1));
+            }
+            _ => {}
         }
     }
 
@@ -84,10 +97,15 @@ impl Census {
         }
     }
 
-    /// Each form with how often it was met.
+    /// Each form with how often it was met. Calls and functions are left out where no module had
+    /// one and sheets with functions aren't read.
     pub fn rows(&self) -> Vec<(String, u64)> {
-        let expr = EXPR_MAPS
-            .map(|m| (format!("expression map {m:02x}h"), self.expr_maps.0[m as usize]));
+        let with = FUNCTIONS || self.functions.0 != [0; 5];
+        let maps = EXPR_MAPS.into_iter().filter(|&map| with || map != 0x80);
+        let expr =
+            maps.map(|m| (format!("expression map {m:02x}h"), self.expr_maps.0[m as usize]));
+        let parameters =
+            (1..=4).filter(|_| with).map(|n| (format!("function of {n}"), self.functions.0[n]));
         let operators = Operator::ALL
             .map(|o| (format!("operator {}", o.number()), self.operators.0[o as usize]));
         let stmt = STMT_MAPS
@@ -95,7 +113,8 @@ impl Census {
         let edges =
             Edge::ALL.map(|e| (format!("edge {}", e.number()), self.edges.0[e as usize]));
         let waits = (1..=8).map(|n| (format!("wait of {n}"), self.wait_counts.0[n]));
-        expr.into_iter().chain(operators).chain(stmt).chain(edges).chain(waits).collect()
+        let forms = expr.chain(operators).chain(stmt).chain(edges).chain(waits);
+        forms.chain(parameters).collect()
     }
 
     /// The forms never met.

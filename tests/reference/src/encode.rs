@@ -1,16 +1,20 @@
 //! The sheet of a module. Nothing is judged: a module outside the limits gives
 //! the sheet that says so.
 
-use crate::module::{Expr, Module, Stmt, Term, Variable};
+use crate::module::{Expr, Function, Module, Stmt, Term, Variable};
+use crate::sheet::WITH_FUNCTIONS;
 
 pub fn encode(module: &Module) -> Vec<u8> {
+    let with = !module.functions.is_empty();
     let mut sheet = vec![
-        module.inputs,
+        module.inputs.wrapping_add(if with { WITH_FUNCTIONS } else { 0 }),
         module.registers,
         byte(module.wires.len()),
         byte(module.threads.len()),
     ];
+    sheet.extend(with.then(|| byte(module.functions.len())));
     sheet.extend(&module.widths);
+    module.functions.iter().for_each(|f| function(f, &mut sheet));
     module.wires.iter().for_each(|wire| expr(wire, &mut sheet));
     module.threads.iter().for_each(|thread| stmt(thread, &mut sheet));
     sheet
@@ -32,6 +36,13 @@ fn byte(count: usize) -> u8 {
     u8::try_from(count).expect("a count fits in one byte")
 }
 
+fn function(f: &Function, sheet: &mut Vec<u8>) {
+    sheet.push(byte(f.parameters.len()));
+    sheet.extend(&f.parameters);
+    sheet.push(f.result);
+    stmt(&f.body, sheet);
+}
+
 /// The map of an expression.
 pub fn expr_map(e: &Expr) -> u8 {
     match e {
@@ -39,6 +50,7 @@ pub fn expr_map(e: &Expr) -> u8 {
         Expr::Constant { .. } => 0x0C,
         Expr::Unknown { .. } => 0x04,
         Expr::Operation(operator, _) => [0x11, 0x31, 0x71][operator.arity() - 1],
+        Expr::Call(..) => 0x80,
     }
 }
 
@@ -54,6 +66,10 @@ fn expr(e: &Expr, sheet: &mut Vec<u8>) {
         Expr::Operation(operator, operands) => {
             sheet.push(operator.number());
             operands.iter().for_each(|operand| expr(operand, sheet));
+        }
+        Expr::Call(number, arguments) => {
+            sheet.push(*number);
+            arguments.iter().for_each(|argument| expr(argument, sheet));
         }
     }
 }

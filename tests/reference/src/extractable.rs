@@ -3,9 +3,10 @@
 use crate::encode::encode;
 use crate::extraction::extract;
 use crate::extraction::text::Way;
-use crate::module::{Module, Variable};
+use crate::functions::{self, With};
+use crate::module::{Function, Module, Variable};
 use crate::random::Random;
-use crate::sheet::{MOST_WIDTH, read};
+use crate::sheet::{MOST_WIDTH, read_with_functions};
 
 mod expressions;
 mod large;
@@ -15,18 +16,23 @@ pub use large::{of_nodes, with_many_branches};
 
 /// A random module that extraction accepts.
 pub fn module(random: &mut Random) -> Module {
+    module_by(With::AsRead, random)
+}
+
+pub fn module_by(with: With, random: &mut Random) -> Module {
     loop {
-        let module = any_module(random);
-        if read(&encode(&module)).is_ok() && extract(&module).is_ok() {
+        let module = any_module(with, random);
+        if read_with_functions(&encode(&module)).is_ok() && extract(&module).is_ok() {
             return module;
         }
     }
 }
 
 /// One that meets the rules, but for the number of its waits and nodes and its size.
-fn any_module(random: &mut Random) -> Module {
+fn any_module(with: With, random: &mut Random) -> Module {
     let room = random.pick(&[1, 3, 5, 8, 12, 20, 40]);
-    Generator::new(random, room).module()
+    let with = with.drawn(random);
+    Generator::new(random, room).module(with)
 }
 
 pub struct Generator<'a> {
@@ -34,6 +40,7 @@ pub struct Generator<'a> {
     inputs: u8,
     registers: u8,
     widths: Vec<u8>,
+    functions: Vec<Function>,
     /// By register: the thread that writes it, if one does, and how.
     writers: Vec<(Option<usize>, Way)>,
     /// The most instructions of a thread, about.
@@ -52,11 +59,11 @@ enum Part {
 impl<'a> Generator<'a> {
     fn new(random: &'a mut Random, room: usize) -> Generator<'a> {
         let nodes = random.pick(&[1, 2, 3, 5, 8, 20]);
-        let (widths, writers) = (Vec::new(), Vec::new());
-        Generator { random, inputs: 0, registers: 0, widths, writers, room, nodes }
+        let (widths, functions, writers) = (Vec::new(), Vec::new(), Vec::new());
+        Generator { random, inputs: 0, registers: 0, widths, functions, writers, room, nodes }
     }
 
-    fn module(&mut self) -> Module {
+    fn module(&mut self, with: bool) -> Module {
         self.inputs = self.count(1, 4, 16);
         self.registers = self.count(1, 6, 32);
         let wires = self.count(0, 6, 32);
@@ -64,11 +71,15 @@ impl<'a> Generator<'a> {
         let first_wire = self.inputs + self.registers;
         let variables = first_wire + wires;
         self.widths = self.variable_widths(variables);
+        if with {
+            self.functions = functions::functions(&self.widths, self.random);
+        }
         self.writers = (0..self.registers).map(|_| self.writer(threads)).collect();
         let wires = (first_wire..variables).map(|v| self.wire(v)).collect();
         let threads = (0..threads).map(|thread| self.thread(thread)).collect();
-        let widths = self.widths.clone();
-        Module { inputs: self.inputs, registers: self.registers, widths, wires, threads }
+        let (widths, functions) = (self.widths.clone(), self.functions.clone());
+        let (inputs, registers) = (self.inputs, self.registers);
+        Module { inputs, registers, widths, functions, wires, threads }
     }
 
     fn count(&mut self, least: usize, usual: usize, most: usize) -> u8 {

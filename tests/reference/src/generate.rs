@@ -1,7 +1,8 @@
 //! Random modules within the limits, well typed or nearly so.
 
 use crate::encode::encode;
-use crate::module::{Edge, Expr, Module, Operator, Stmt, Term, Variable};
+use crate::functions::{self, With};
+use crate::module::{Edge, Expr, Function, Module, Operator, Stmt, Term, Variable};
 use crate::random::Random;
 use crate::sheet::{
     EXPR_DEPTH, MOST_BYTES, MOST_INPUTS, MOST_INSTRUCTIONS, MOST_REGISTERS, MOST_TERMS,
@@ -10,19 +11,28 @@ use crate::sheet::{
 
 /// A random module whose sheet is accepted.
 pub fn module(random: &mut Random) -> Module {
-    short_module(random, false)
+    module_by(With::AsRead, random)
+}
+
+pub fn module_by(with: With, random: &mut Random) -> Module {
+    short_module(random, with, false)
 }
 
 /// A random module in which now and then a variable has the wrong width, a target
 /// is no register, or a thread has one instruction too many.
 pub fn ill_typed_module(random: &mut Random) -> Module {
-    short_module(random, true)
+    ill_typed_module_by(With::AsRead, random)
+}
+
+pub fn ill_typed_module_by(with: With, random: &mut Random) -> Module {
+    short_module(random, with, true)
 }
 
 /// A module whose sheet has at most 8,192 bytes.
-fn short_module(random: &mut Random, careless: bool) -> Module {
+fn short_module(random: &mut Random, with: With, careless: bool) -> Module {
     loop {
-        let module = Generator::new(random, careless).module();
+        let with = with.drawn(random);
+        let module = Generator::new(random, careless).module(with);
         if encode(&module).len() <= MOST_BYTES {
             return module;
         }
@@ -34,6 +44,7 @@ struct Generator<'a> {
     inputs: u8,
     registers: u8,
     widths: Vec<u8>,
+    functions: Vec<Function>,
     /// The most nodes of an expression.
     nodes: usize,
     /// The most instructions of a statement.
@@ -53,6 +64,7 @@ impl<'a> Generator<'a> {
             inputs: 0,
             registers: 0,
             widths: Vec::new(),
+            functions: Vec::new(),
             nodes: random.pick(&[1, 2, 3, 5, 12, 40]),
             room: random.pick(&[2, 4, 8, 16, 40, longest]),
             lopsided: random.chance(1, 6),
@@ -62,7 +74,7 @@ impl<'a> Generator<'a> {
         }
     }
 
-    fn module(&mut self) -> Module {
+    fn module(&mut self, with: bool) -> Module {
         self.inputs = self.count(1, MOST_INPUTS);
         self.registers = self.count(1, MOST_REGISTERS);
         let wires = self.count(0, MOST_WIRES);
@@ -71,10 +83,17 @@ impl<'a> Generator<'a> {
         let variables = first_wire + wires;
         self.widths =
             (0..variables).map(|v| if v == 0 { 1 } else { self.fresh_width() }).collect();
+        if with {
+            self.functions = match self.careless {
+                true => functions::careless_functions(&self.widths, self.random),
+                false => functions::functions(&self.widths, self.random),
+            };
+        }
         let wires = (first_wire..variables).map(|v| self.wire(v)).collect();
         let threads = (0..threads).map(|_| self.thread()).collect();
-        let widths = self.widths.clone();
-        Module { inputs: self.inputs, registers: self.registers, widths, wires, threads }
+        let (widths, functions) = (self.widths.clone(), self.functions.clone());
+        let (inputs, registers) = (self.inputs, self.registers);
+        Module { inputs, registers, widths, functions, wires, threads }
     }
 
     /// Small counts more often than large ones, both limits now and then.
@@ -158,13 +177,20 @@ impl<'a> Generator<'a> {
         if nodes <= 1 || depth == 1 {
             return self.leaf(width);
         }
+        if let Some(number) = functions::pick(&self.functions, width, self.random) {
+            let widths = self.functions[usize::from(number)].parameters.clone();
+            let number = if self.slips() { self.random.below(10) as u8 } else { number };
+            return Expr::Call(number, self.parts(widths, nodes, depth));
+        }
         let operator = operator(width, self.random);
         let widths = operand_widths(operator, width, self.some_width());
+        Expr::Operation(operator, self.parts(widths, nodes, depth))
+    }
+
+    fn parts(&mut self, widths: Vec<u8>, nodes: usize, depth: usize) -> Vec<Expr> {
         let shares = self.shares(nodes - 1, widths.len());
-        let operands = (widths.into_iter().zip(shares))
-            .map(|(width, nodes)| self.expr(width, nodes, depth - 1))
-            .collect();
-        Expr::Operation(operator, operands)
+        let parts = widths.into_iter().zip(shares);
+        parts.map(|(width, nodes)| self.expr(width, nodes, depth - 1)).collect()
     }
 
     fn leaf(&mut self, width: u8) -> Expr {

@@ -23,6 +23,8 @@ pub mod calls;
 pub mod samples;
 pub mod limits;
 pub mod random;
+pub mod functions;
+pub mod runs;
 pub mod generate;
 pub mod mutate;
 pub mod census;

@@ -1,10 +1,11 @@
 //! Sheets at each limit of document 01 and one past it, with the answer written
 //! down beside each.
 
-use crate::sheet::number;
+use crate::sheet::{FUNCTIONS, number};
 
 mod depth;
 mod fields;
+mod functions;
 mod lengths;
 mod nodes;
 mod typing;
@@ -40,8 +41,24 @@ fn cut(good: bool, number: u8, place: usize, sheet: Vec<u8>) -> Sample {
     if good { ends(sheet) } else { refused(number, place, sheet) }
 }
 
-/// The samples by name.
+/// The samples by name; those with functions where such sheets are read.
 pub fn groups() -> Vec<(&'static str, Vec<Sample>)> {
+    let functions = if FUNCTIONS { with_functions() } else { Vec::new() };
+    without_functions().into_iter().chain(functions).collect()
+}
+
+/// Those of document 02, [5].
+pub fn with_functions() -> Vec<(&'static str, Vec<Sample>)> {
+    vec![
+        ("counts with functions", functions::heads()),
+        ("functions' widths", functions::signatures()),
+        ("functions' bodies", functions::bodies()),
+        ("calls", functions::calls()),
+        ("calls' arguments", functions::arguments()),
+    ]
+}
+
+fn without_functions() -> Vec<(&'static str, Vec<Sample>)> {
     vec![
         ("counts", fields::counts()),
         ("widths", fields::widths()),

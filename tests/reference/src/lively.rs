@@ -1,8 +1,9 @@
 //! Random modules that run: few widths, threads that wait, wires over registers.
 
 use crate::encode::encode;
+use crate::functions::{self, With};
 use crate::generate::{operand_widths, operator};
-use crate::module::{Edge, Expr, Module, Stmt, Term, Variable};
+use crate::module::{Edge, Expr, Function, Module, Stmt, Term, Variable};
 use crate::random::Random;
 use crate::sheet;
 use crate::value::mask;
@@ -27,9 +28,14 @@ pub enum Size {
 
 /// A random module whose sheet is accepted.
 pub fn module(kind: Kind, size: Size, random: &mut Random) -> Module {
+    module_by(kind, size, With::AsRead, random)
+}
+
+pub fn module_by(kind: Kind, size: Size, with: With, random: &mut Random) -> Module {
     loop {
-        let module = Generator::new(kind, size, random).module();
-        if sheet::read(&encode(&module)).is_ok() {
+        let with = with.drawn(random);
+        let module = Generator::new(kind, size, random).module(with);
+        if sheet::read_with_functions(&encode(&module)).is_ok() {
             return module;
         }
     }
@@ -42,6 +48,7 @@ struct Generator<'a> {
     inputs: u8,
     registers: u8,
     widths: Vec<u8>,
+    functions: Vec<Function>,
     /// By register, of an extractable module: the thread that writes it, and whether by
     /// plain assignment.
     writers: Vec<(usize, bool)>,
@@ -58,11 +65,12 @@ enum Part {
 
 impl<'a> Generator<'a> {
     fn new(kind: Kind, size: Size, random: &'a mut Random) -> Generator<'a> {
-        let (inputs, registers, widths, writers) = (0, 0, Vec::new(), Vec::new());
-        Generator { random, kind, size, inputs, registers, widths, writers, waits: 32 }
+        let (inputs, registers, waits) = (0, 0, 32);
+        let (widths, functions, writers) = (Vec::new(), Vec::new(), Vec::new());
+        Generator { random, kind, size, inputs, registers, widths, functions, writers, waits }
     }
 
-    fn module(&mut self) -> Module {
+    fn module(&mut self, with: bool) -> Module {
         self.inputs = self.count(1, 3, 16);
         self.registers = self.count(1, 5, 32);
         let wires = self.count(0, 5, 32);
@@ -70,6 +78,9 @@ impl<'a> Generator<'a> {
         let first_wire = self.inputs + self.registers;
         let variables = first_wire + wires;
         self.widths = self.variable_widths(variables);
+        if with {
+            self.functions = functions::functions(&self.widths, self.random);
+        }
         self.writers = (0..self.registers)
             .map(|_| (self.random.below(threads), self.random.chance(1, 4)))
             .collect();
@@ -77,8 +88,9 @@ impl<'a> Generator<'a> {
         // A wait for each thread's beginning is kept back.
         self.waits -= threads;
         let threads = (0..threads).map(|thread| self.thread(thread)).collect();
-        let widths = self.widths.clone();
-        Module { inputs: self.inputs, registers: self.registers, widths, wires, threads }
+        let (widths, functions) = (self.widths.clone(), self.functions.clone());
+        let (inputs, registers) = (self.inputs, self.registers);
+        Module { inputs, registers, widths, functions, wires, threads }
     }
 
     fn count(&mut self, least: usize, usual: usize, most: usize) -> u8 {
@@ -130,13 +142,19 @@ impl<'a> Generator<'a> {
         if nodes <= 1 {
             return self.leaf(width, part);
         }
+        if let Some(number) = functions::pick(&self.functions, width, self.random) {
+            let widths = self.functions[usize::from(number)].parameters.clone();
+            return Expr::Call(number, self.parts(widths, nodes, part));
+        }
         let operator = operator(width, self.random);
         let other = self.random.pick(&self.widths);
         let widths = operand_widths(operator, width, other);
+        Expr::Operation(operator, self.parts(widths, nodes, part))
+    }
+
+    fn parts(&mut self, widths: Vec<u8>, nodes: usize, part: Part) -> Vec<Expr> {
         let share = (nodes - 1).div_ceil(widths.len());
-        let operands =
-            widths.into_iter().map(|width| self.expr_of(width, share, part)).collect();
-        Expr::Operation(operator, operands)
+        widths.into_iter().map(|width| self.expr_of(width, share, part)).collect()
     }
 
     fn leaf(&mut self, width: u8, part: Part) -> Expr {

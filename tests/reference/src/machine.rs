@@ -124,11 +124,14 @@ impl<'a> Machine<'a> {
     }
 }
 
-/// The variables that stand in an expression.
+/// The variables that stand in an expression. A call reads what its arguments read, also where the
+/// body doesn't look at them, and nothing that stands in the body.
 pub fn variables(e: &Expr) -> Vec<Variable> {
     match e {
         Expr::Variable(variable) => vec![*variable],
         Expr::Constant { .. } | Expr::Unknown { .. } => Vec::new(),
-        Expr::Operation(_, operands) => operands.iter().flat_map(variables).collect(),
+        Expr::Operation(_, operands) | Expr::Call(_, operands) => {
+            operands.iter().flat_map(variables).collect()
+        }
     }
 }

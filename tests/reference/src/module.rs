@@ -9,10 +9,23 @@ pub struct Module {
     pub registers: u8,
     /// The width of each variable.
     pub widths: Vec<u8>,
+    /// Document 02, [5]: at most 8, none in most sheets.
+    pub functions: Vec<Function>,
     /// The expression of each wire.
     pub wires: Vec<Expr>,
     /// The statement of each thread, without the forever around it.
     pub threads: Vec<Stmt>,
+}
+
+/// In its body variables 0 up are the parameters and the next one is the result, the only target.
+#[derive(Clone, Debug, PartialEq, Eq)]
+pub struct Function {
+    /// The parameters' widths.
+    pub parameters: Vec<u8>,
+    /// The result's width.
+    pub result: u8,
+    /// Without wait, loop and later assignment.
+    pub body: Stmt,
 }
 
 #[derive(Clone, Debug, PartialEq, Eq)]
@@ -28,6 +41,8 @@ pub enum Expr {
     },
     /// The operator has as many operands as its arity says.
     Operation(Operator, Vec<Expr>),
+    /// A function's number, and as many arguments as it has parameters.
+    Call(u8, Vec<Expr>),
 }
 
 #[derive(Clone, Copy, Debug, PartialEq, Eq)]
@@ -76,6 +91,18 @@ pub enum Edge {
     Any = 0,
     Posedge = 1,
     Negedge = 2,
+}
+
+impl Function {
+    /// The widths of what its body names: parameters, then result.
+    pub fn widths(&self) -> Vec<u8> {
+        [&self.parameters[..], &[self.result]].concat()
+    }
+
+    /// The variable that is the result.
+    pub fn target(&self) -> Variable {
+        self.parameters.len() as u8
+    }
 }
 
 impl Operator {

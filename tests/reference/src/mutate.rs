@@ -1,6 +1,8 @@
 //! Damaged sheets, and sheets of random bytes.
 
+use crate::functions::With;
 use crate::random::Random;
+use crate::sheet::WITH_FUNCTIONS;
 
 /// Bytes that mean something in some place of a sheet.
 const TELLING: [u8; 32] = [
@@ -48,7 +50,17 @@ fn head(random: &mut Random) -> Vec<u8> {
         [random.between(1, 3), random.between(1, 3), random.below(3), random.between(1, 2)];
     let variables = counts[0] + counts[1] + counts[2];
     let mut head = counts.map(|n| n as u8).to_vec();
+    let with = With::AsRead.drawn(random);
+    if with {
+        head[0] += WITH_FUNCTIONS;
+        head.push(random.between(1, 2) as u8);
+    }
     head.extend((0..variables).map(|v| if v == 0 { 1 } else { random.pick(&[1, 1, 8]) }));
+    if with {
+        let parameters = random.between(1, 2);
+        head.push(parameters as u8);
+        head.extend((0..=parameters).map(|_| random.pick(&[1, 1, 8])));
+    }
     head
 }
 

@@ -51,6 +51,7 @@ pub fn module() -> Module {
         inputs: INPUTS,
         registers: last - INPUTS + 1,
         widths: [&[1, WIDTH, WIDTH, WIDTH], &results[..], &[WIDTH], &results].concat(),
+        functions: Vec::new(),
         wires: wires.into(),
         threads: vec![Stmt::sequence(Stmt::posedge(0), body)],
     }
@@ -100,6 +101,7 @@ pub fn chooser() -> Module {
         inputs: 3,
         registers: VALUES as u8,
         widths: [&[1][..], &[WIDTH; 2 + 2 * VALUES]].concat(),
+        functions: Vec::new(),
         wires: conditions.map(wire).collect(),
         threads: vec![Stmt::posedge(0)],
     }

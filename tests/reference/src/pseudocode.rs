@@ -5,7 +5,7 @@
 use std::fmt::{self, Display, Formatter};
 
 use crate::module::{Expr, Module, Stmt, Term, Variable};
-use crate::sheet;
+use crate::sheet::{self, Refusal};
 
 #[derive(Clone, Copy, Debug, PartialEq, Eq)]
 pub enum Instruction<'a> {
@@ -111,6 +111,10 @@ impl Display for Expr {
                 write!(f, "o{}", operator.number())?;
                 operands.iter().try_for_each(|operand| write!(f, " {operand}"))
             }
+            Expr::Call(number, arguments) => {
+                write!(f, "f{number}")?;
+                arguments.iter().try_for_each(|argument| write!(f, " {argument}"))
+            }
         }
     }
 }
@@ -133,8 +137,13 @@ pub fn listing(module: &Module) -> String {
 
 /// What the listing program prints for a sheet.
 pub fn print(sheet: &[u8]) -> String {
-    match sheet::read(sheet) {
-        Ok(module) => listing(&module),
+    printed(&sheet::read(sheet))
+}
+
+/// The same of what reading it gave.
+pub fn printed(reading: &Result<Module, Refusal>) -> String {
+    match reading {
+        Ok(module) => listing(module),
         Err(refusal) => format!("refused {}\n", refusal.number),
     }
 }

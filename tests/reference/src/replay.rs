@@ -20,10 +20,19 @@ pub use tables::{Cycle, Lent, NODES, ROWS, Table, UNWRITTEN, Words};
 
 /// Runs a script of any bytes as far as it goes.
 pub fn replay(script: &[u8], out: &mut impl Write) -> io::Result<()> {
+    replay_by(sheet::read, script, out)
+}
+
+/// The same with another reading of the sheet.
+pub fn replay_by(
+    read: impl Fn(&[u8]) -> Result<Module, Refusal>,
+    script: &[u8],
+    out: &mut impl Write,
+) -> io::Result<()> {
     let script = Script::read(script);
     if let Some(sheet) = script.sheet {
-        let reading = sheet::read(sheet);
-        let mut session = Session::new(sheet, &reading);
+        let reading = read(sheet);
+        let mut session = Session::new(&reading);
         for record in &script.records {
             writeln!(out, "{}", session.answer(record))?;
         }
@@ -33,7 +42,6 @@ pub fn replay(script: &[u8], out: &mut impl Write) -> io::Result<()> {
 
 /// A sheet with the state and the tables that the calls hand on.
 pub struct Session<'a> {
-    sheet: &'a [u8],
     reading: &'a Result<Module, Refusal>,
     pub simulator: Simulator<'a>,
     pub compiler: Compiler<'a>,
@@ -42,11 +50,11 @@ pub struct Session<'a> {
 }
 
 impl<'a> Session<'a> {
-    /// Of a sheet and what `sheet::read` gave for it.
-    pub fn new(sheet: &'a [u8], reading: &'a Result<Module, Refusal>) -> Session<'a> {
+    /// Of what reading a sheet gave.
+    pub fn new(reading: &'a Result<Module, Refusal>) -> Session<'a> {
         let (simulator, compiler) = (Simulator::new(reading), Compiler::new(reading));
         let (state, words) = (State::ZERO, Words::unwritten());
-        Session { sheet, reading, simulator, compiler, state, words }
+        Session { reading, simulator, compiler, state, words }
     }
 
     /// Makes the call; the line without its line feed.
@@ -58,7 +66,9 @@ impl<'a> Session<'a> {
                 let (number, place) = refusal.map_or((0, 0), |r| (r.number, r.place));
                 format!("read {number} {place}")
             }
-            Record::List => format!("list {}", hex(pseudocode::print(self.sheet).as_bytes())),
+            Record::List => {
+                format!("list {}", hex(pseudocode::printed(self.reading).as_bytes()))
+            }
             Record::Start(allowances) => {
                 let outcome = simulator.start(*allowances).map(|start| *state = start);
                 format!("start {}", number_of(outcome))

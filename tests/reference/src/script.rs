@@ -2,6 +2,7 @@
 //! calls that are accepted and calls that aren't.
 
 use crate::encode::encode;
+use crate::functions::With;
 use crate::lively::{self, Kind, Size};
 use crate::machine::{COMMIT, Machine};
 use crate::module::Module;
@@ -9,6 +10,7 @@ use crate::random::Random;
 use crate::replay::{Lent, Record, Script, Session};
 use crate::saved::{COUNTS, LONG, SHORT, save, save_old};
 use crate::sheet;
+use crate::sheet::read_numbers;
 use crate::state::State;
 use crate::value::Value;
 use crate::{extractable, generate, limits, mutate, refused, states, text};
@@ -20,7 +22,7 @@ pub fn script(seed: u64) -> Vec<u8> {
     let mut random = Random::new(seed);
     let sheet = sheet(&mut random);
     let reading = sheet::read(&sheet);
-    let session = Session::new(&sheet, &reading);
+    let session = Session::new(&reading);
     let module = reading.as_ref().ok();
     let (fitting, records) = (State::ZERO, Vec::new());
     let mut writer = Writer { random, session, module, fitting, records };
@@ -42,7 +44,7 @@ fn text_records(seed: u64) -> Vec<Record> {
         return Vec::new();
     }
     let mut random = Random::new(seed ^ 0x7E47);
-    let good = text::random::text(&generate::module(&mut random), &mut random);
+    let good = text::random::text(&generate::module_by(With::None, &mut random), &mut random);
     let damaged = text::random::damaged(&good, &mut random);
     let texts = [good.clone(), damaged, vec![b' '; text::MOST_TEXT + 1], good];
     let lent = [8_192, 8_192, 8_192, random.pick(&[0, 8_191, 8_193])];
@@ -71,7 +73,7 @@ fn sheet(random: &mut Random) -> Vec<u8> {
 
 /// A sheet that is refused with a number drawn first.
 fn limit_sheet(random: &mut Random) -> Vec<u8> {
-    let number = random.between(1, 11) as u8;
+    let number = random.pick(&read_numbers());
     let samples = limits::groups().into_iter().flat_map(|group| group.1);
     let mut sheets: Vec<Vec<u8>> = samples
         .filter(|sample| sample.number == number && sample.sheet.len() <= u16::MAX.into())

@@ -42,7 +42,7 @@ type Outcome<T = ()> = Result<T, String>;
 
 /// The first difference, by the way of running it and the cycle.
 pub fn check(calls: &impl Calls, trace: &Trace, random: &mut Random) -> Outcome<Counts> {
-    let module = sheet::read(&trace.sheet)
+    let module = sheet::read_with_functions(&trace.sheet)
         .map_err(|refusal| format!("the sheet is refused: {refusal:?}"))?;
     let held = Held { calls, module: &module, machine: Machine::new(&module), trace };
     held.shape()?;

@@ -3,8 +3,10 @@
 //! Document 01, "The sheet" and "Numbers that come from the input". What is met
 //! first from left to right decides; in a node: end, depth, map, each field as
 //! read, then widths.
+//!
+//! Document 02, [5]: sheets with functions.
 
-use crate::module::{Edge, Expr, Module, Operator, Stmt, Term, Variable};
+use crate::module::{Edge, Expr, Function, Module, Operator, Stmt, Term, Variable};
 use crate::pseudocode::thread_size;
 
 pub const MOST_BYTES: usize = 8192;
@@ -17,8 +19,16 @@ pub const MOST_TERMS: u8 = 8;
 pub const EXPR_DEPTH: usize = 16;
 pub const STMT_DEPTH: usize = 64;
 pub const MOST_INSTRUCTIONS: usize = 256;
+/// "A sheet whose first byte has 128 added carries a count of functions."
+pub const WITH_FUNCTIONS: u8 = 128;
+pub const MOST_FUNCTIONS: u8 = 8;
+pub const MOST_PARAMETERS: u8 = 4;
 
-/// The numbers 1 to 11.
+/// Whether `read` takes sheets with functions, and the random modules have some. The proved
+/// program refuses them with 3 as long as this is off.
+pub const FUNCTIONS: bool = cfg!(feature = "functions");
+
+/// The numbers 1 to 11, 44 and 45.
 pub mod number {
     pub const TOO_LONG: u8 = 1;
     pub const END: u8 = 2;
@@ -31,6 +41,14 @@ pub mod number {
     pub const TARGET: u8 = 9;
     pub const AFTER: u8 = 10;
     pub const THREAD: u8 = 11;
+    pub const LATER_FUNCTION: u8 = 44;
+    pub const BODY: u8 = 45;
+}
+
+/// The numbers that reading can give.
+pub fn read_numbers() -> Vec<u8> {
+    let functions = [number::LATER_FUNCTION, number::BODY].into_iter().filter(|_| FUNCTIONS);
+    (1..=11).chain(functions).collect()
 }
 
 /// Why a sheet isn't read, and the byte at which that was met.
@@ -48,11 +66,20 @@ fn refuse<T>(number: u8, place: usize) -> Reading<T> {
 
 /// The module that the sheet says, or the first thing wrong with it.
 pub fn read(sheet: &[u8]) -> Reading<Module> {
+    read_by(sheet, FUNCTIONS)
+}
+
+/// The same, sheets with functions among them.
+pub fn read_with_functions(sheet: &[u8]) -> Reading<Module> {
+    read_by(sheet, true)
+}
+
+fn read_by(sheet: &[u8], functions: bool) -> Reading<Module> {
     if sheet.len() > MOST_BYTES {
         return refuse(number::TOO_LONG, MOST_BYTES);
     }
     let mut reader = Reader { sheet, place: 0 };
-    let module = reader.module()?;
+    let module = reader.module(functions)?;
     match reader.place == sheet.len() {
         true => Ok(module),
         false => refuse(number::AFTER, reader.place),
@@ -70,6 +97,12 @@ struct Scope<'a> {
     inputs: u8,
     registers: u8,
     widths: &'a [u8],
+    /// How many functions the sheet has.
+    declared: u8,
+    /// Those that may be called here.
+    functions: &'a [Function],
+    /// Whether this is a function's body.
+    body: bool,
 }
 
 impl Scope<'_> {
@@ -112,20 +145,34 @@ impl Reader<'_> {
 
     // ---- module
 
-    fn module(&mut self) -> Reading<Module> {
-        let inputs = self.count(1, MOST_INPUTS)?;
+    fn module(&mut self, functions: bool) -> Reading<Module> {
+        let (inputs, with) = self.inputs(functions)?;
         let registers = self.count(1, MOST_REGISTERS)?;
         let wires = self.count(0, MOST_WIRES)?;
         let threads = self.count(1, MOST_THREADS)?;
+        let declared = if with { self.count(1, MOST_FUNCTIONS)? } else { 0 };
         let widths = self.widths(inputs + registers + wires)?;
-        let scope = Scope { inputs, registers, widths: &widths };
+        let functions = self.functions(declared)?;
+        let (body, functions) = (false, &functions[..]);
+        let scope = Scope { inputs, registers, widths: &widths, declared, functions, body };
         let first_wire = inputs + registers;
         let wires = (first_wire..first_wire + wires)
             .map(|variable| self.wire(&scope, variable))
             .collect::<Reading<Vec<Expr>>>()?;
         let threads =
             (0..threads).map(|_| self.thread(&scope)).collect::<Reading<Vec<Stmt>>>()?;
-        Ok(Module { inputs, registers, widths, wires, threads })
+        let functions = functions.to_vec();
+        Ok(Module { inputs, registers, widths, functions, wires, threads })
+    }
+
+    /// How many inputs there are, and whether the sheet has functions.
+    fn inputs(&mut self, functions: bool) -> Reading<(u8, bool)> {
+        let split = |byte: u8| match functions && byte >= WITH_FUNCTIONS {
+            true => (byte - WITH_FUNCTIONS, true),
+            false => (byte, false),
+        };
+        let good = |byte| (1..=MOST_INPUTS).contains(&split(byte).0);
+        Ok(split(self.judged(number::COUNT, good)?))
     }
 
     fn count(&mut self, least: u8, most: u8) -> Reading<u8> {
@@ -141,6 +188,32 @@ impl Reader<'_> {
             })
             .collect()
     }
+
+    // ---- functions
+
+    /// One after the other, each whole; a body may call those before it.
+    fn functions(&mut self, declared: u8) -> Reading<Vec<Function>> {
+        let mut functions = Vec::new();
+        for _ in 0..declared {
+            let function = self.function(declared, &functions)?;
+            functions.push(function);
+        }
+        Ok(functions)
+    }
+
+    fn function(&mut self, declared: u8, functions: &[Function]) -> Reading<Function> {
+        let inputs = self.count(1, MOST_PARAMETERS)?;
+        let widths = (0..=inputs)
+            .map(|_| self.judged(number::WIDTH, |w| (1..=MOST_WIDTH).contains(&w)))
+            .collect::<Reading<Vec<u8>>>()?;
+        let (registers, body) = (1, true);
+        let scope = Scope { inputs, registers, widths: &widths, declared, functions, body };
+        let body = self.stmt(&scope, 1)?;
+        let (&result, parameters) = widths.split_last().expect("the result's");
+        Ok(Function { parameters: parameters.to_vec(), result, body })
+    }
+
+    // ---- wires and threads
 
     fn wire(&mut self, scope: &Scope, variable: Variable) -> Reading<Expr> {
         let start = self.place;
@@ -184,6 +257,7 @@ impl Reader<'_> {
             0x11 => self.operation(scope, depth, start, 1),
             0x31 => self.operation(scope, depth, start, 2),
             0x71 => self.operation(scope, depth, start, 3),
+            0x80 if scope.declared > 0 => self.call(scope, depth, start),
             _ => refuse(number::MAP, start),
         }
     }
@@ -230,11 +304,31 @@ impl Reader<'_> {
         Ok((Expr::Operation(operator, operands), width))
     }
 
+    /// A number that no function has is 6, one that may not be called here 44. The arguments are
+    /// operands; their widths are judged behind the last of them.
+    fn call(&mut self, scope: &Scope, depth: usize, start: usize) -> Reading<(Expr, u8)> {
+        let place = self.place;
+        let number = self.judged(number::FIELD, |n| n < scope.declared)?;
+        let Some(function) = scope.functions.get(usize::from(number)) else {
+            return refuse(number::LATER_FUNCTION, place);
+        };
+        let mut arguments = Vec::new();
+        let mut widths = Vec::new();
+        for _ in &function.parameters {
+            let (argument, width) = self.expr(scope, depth + 1)?;
+            arguments.push(argument);
+            widths.push(width);
+        }
+        self.agree(widths == function.parameters, start)?;
+        Ok((Expr::Call(number, arguments), function.result))
+    }
+
     // ---- statements
 
     fn stmt(&mut self, scope: &Scope, depth: usize) -> Reading<Stmt> {
         let start = self.place;
         match self.map(depth, STMT_DEPTH)? {
+            0x23 | 0x46 | 0x44 | 0x10 if scope.body => refuse(number::BODY, start),
             0x00 => Ok(Stmt::Empty),
             0x03 => {
                 let (target, value) = self.assignment(scope, start)?;

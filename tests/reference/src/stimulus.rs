@@ -3,6 +3,7 @@
 use crate::book::Book;
 use crate::extractable;
 use crate::extraction::extract;
+use crate::functions::With;
 use crate::module::{Expr, Module, Stmt};
 use crate::random::Random;
 use crate::value::{Value, mask};
@@ -44,7 +45,8 @@ pub fn deep_module() -> Module {
     let nested = (0..54).fold(block, |s, _| Stmt::when(Expr::Variable(1), s));
     let thread = Stmt::sequence(Stmt::posedge(0), nested);
     let (widths, wires, threads) = (vec![1, 1], Vec::new(), vec![thread; 8]);
-    Module { inputs: 1, registers: 1, widths, wires, threads }
+    let functions = Vec::new();
+    Module { inputs: 1, registers: 1, widths, functions, wires, threads }
 }
 
 /// The rows as values, with unknown bits here and there. Now and then the first row, which resets,
@@ -95,8 +97,17 @@ fn comes_to_parts(module: &Module, rows: &[Vec<Value>]) -> bool {
 /// A random module that extraction accepts, and inputs; where it is asked for, one in which some
 /// register comes to have known bits beside unknown ones.
 pub fn sample(cycles: usize, parts: bool, random: &mut Random) -> (Module, Vec<Vec<Value>>) {
+    sample_by(With::AsRead, cycles, parts, random)
+}
+
+pub fn sample_by(
+    with: With,
+    cycles: usize,
+    parts: bool,
+    random: &mut Random,
+) -> (Module, Vec<Vec<Value>>) {
     loop {
-        let module = extractable::module(random);
+        let module = extractable::module_by(with, random);
         let rows = rows(&module, cycles, random);
         if !parts || comes_to_parts(&module, &rows) {
             return (module, rows);

@@ -3,6 +3,7 @@
 use std::collections::BTreeMap;
 use std::fmt::{self, Display, Formatter};
 
+use crate::sheet::read_numbers;
 use crate::simulator::Verdict;
 
 #[derive(Default)]
@@ -38,7 +39,7 @@ fn numbers(call: &str) -> Vec<u8> {
         "cycle" => &[12, 13, 14, 15, 16, 17, 18, 19, 20, 21, 23, 24, 25, 31],
         _ => &[],
     };
-    (0..=11).chain(own.iter().copied()).collect()
+    [0].into_iter().chain(read_numbers()).chain(own.iter().copied()).collect()
 }
 
 impl Tally {
@@ -91,7 +92,8 @@ impl Display for Tally {
         write!(f, "number")?;
         CALLS.into_iter().try_for_each(|(call, _)| write!(f, "{call:>9}"))?;
         writeln!(f)?;
-        for number in (0..=25).chain(31..=36).chain(46..=47) {
+        let functions = (44..=45).filter(|number| read_numbers().contains(number));
+        for number in (0..=25).chain(31..=36).chain(functions).chain(46..=47) {
             write!(f, "{number:>6}")?;
             for (call, _) in CALLS {
                 match numbers(call).contains(&number) {

@@ -1,11 +1,11 @@
 //! Values, operators, conditions and edges.
 //!
 //! Document 01, "Values and pseudo-code" and "The simulation cycle", with document 02's requests
-//! [2] and [4].
+//! [2], [4] and [5].
 
 use std::fmt::{self, Display, Formatter};
 
-use crate::module::{Edge, Expr, Operator, Variable};
+use crate::module::{Edge, Expr, Function, Operator, Stmt, Variable};
 use crate::sheet::{MOST_WIDTH, result_width};
 
 /// A number and the marks of its unknown bits. Under each mark the number has 0; one that hasn't
@@ -144,19 +144,27 @@ fn choose(condition: Value, a: Value, b: Value) -> Value {
     }
 }
 
-/// What an expression is worked out on: each variable's width and value.
+/// What an expression is worked out on: each variable's width and value, and the functions.
 pub trait Scope {
     fn width(&self, variable: Variable) -> u8;
     fn value(&self, variable: Variable) -> Value;
+    fn functions(&self) -> &[Function];
 }
 
 /// The value of an expression.
 pub fn evaluate(e: &Expr, scope: &impl Scope) -> Value {
-    evaluate_sized(e, scope).0
+    evaluate_sized(e, scope, &mut 0).0
+}
+
+/// The value of an expression, and how many bodies were run for it.
+pub fn evaluate_counting(e: &Expr, scope: &impl Scope) -> (Value, u64) {
+    let mut runs = 0;
+    let value = evaluate_sized(e, scope, &mut runs).0;
+    (value, runs)
 }
 
 /// The value of an expression and its width.
-fn evaluate_sized(e: &Expr, scope: &impl Scope) -> (Value, u8) {
+fn evaluate_sized(e: &Expr, scope: &impl Scope, runs: &mut u64) -> (Value, u8) {
     match e {
         Expr::Variable(variable) => (scope.value(*variable), scope.width(*variable)),
         Expr::Constant { width, value } => (Value::known(*value), *width),
@@ -165,12 +173,69 @@ fn evaluate_sized(e: &Expr, scope: &impl Scope) -> (Value, u8) {
             let mut values = [Value::ZERO; 3];
             let mut widths = [0; 3];
             for (index, operand) in operands.iter().enumerate() {
-                (values[index], widths[index]) = evaluate_sized(operand, scope);
+                (values[index], widths[index]) = evaluate_sized(operand, scope, runs);
             }
             let arity = operands.len();
             let width =
                 result_width(*operator, &widths[..arity]).expect("read with its widths");
             (apply(*operator, widths[0], &values[..arity]), width)
+        }
+        Expr::Call(number, arguments) => {
+            let mut values: Vec<Value> =
+                arguments.iter().map(|a| evaluate_sized(a, scope, runs).0).collect();
+            let function = &scope.functions()[usize::from(*number)];
+            values.push(Value::x(function.result));
+            let mut frame = Frame { function, values, functions: scope.functions() };
+            *runs += 1;
+            frame.run(&function.body, runs);
+            (frame.values[arguments.len()], function.result)
+        }
+    }
+}
+
+/// What a body is worked out on: its arguments and the result, which starts unknown at each call.
+struct Frame<'a> {
+    function: &'a Function,
+    values: Vec<Value>,
+    functions: &'a [Function],
+}
+
+impl Scope for Frame<'_> {
+    fn width(&self, variable: Variable) -> u8 {
+        let parameters = &self.function.parameters;
+        *parameters.get(usize::from(variable)).unwrap_or(&self.function.result)
+    }
+
+    fn value(&self, variable: Variable) -> Value {
+        self.values[usize::from(variable)]
+    }
+
+    fn functions(&self) -> &[Function] {
+        self.functions
+    }
+}
+
+impl Frame<'_> {
+    fn run(&mut self, body: &Stmt, runs: &mut u64) {
+        match body {
+            Stmt::Empty => {}
+            Stmt::Set(target, e) => {
+                self.values[usize::from(*target)] = evaluate_sized(e, self, runs).0;
+            }
+            Stmt::Sequence(a, b) => {
+                self.run(a, runs);
+                self.run(b, runs);
+            }
+            Stmt::If(e, a) => {
+                if evaluate_sized(e, self, runs).0.holds() {
+                    self.run(a, runs);
+                }
+            }
+            Stmt::IfElse(e, a, b) => {
+                let leg = if evaluate_sized(e, self, runs).0.holds() { a } else { b };
+                self.run(leg, runs);
+            }
+            _ => unreachable!("a body has no wait, loop or later assignment"),
         }
     }
 }

@@ -1,7 +1,7 @@
 //! The values of a module's variables, with wires that settle and nodes worked out.
 
 use crate::extraction::{Id, Node};
-use crate::module::{Module, Variable};
+use crate::module::{Function, Module, Variable};
 use crate::sheet::result_width;
 use crate::value::{Scope, Value, apply, evaluate};
 
@@ -73,5 +73,9 @@ impl Scope for Values<'_> {
 
     fn value(&self, variable: Variable) -> Value {
         self.get(variable)
+    }
+
+    fn functions(&self) -> &[Function] {
+        &self.module.functions
     }
 }

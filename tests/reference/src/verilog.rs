@@ -4,35 +4,52 @@
 //! of its statement. Operands have the widths that a sheet's rules ask for, so that Verilog's
 //! rules on the sizes of expressions add nothing. The text has only forms that the text reader
 //! takes, and its blocks stand as they are read back.
+//!
+//! Functions are f0 and up, each a `function automatic`, so that its result is unknown at each call;
+//! its parameters are p0 and up, its result has its name. The text reader doesn't take them.
 
 use std::fmt::{self, Display, Formatter, Write};
 
-use crate::module::{Edge, Expr, Module, Operator, Stmt, Term, Variable};
+use crate::module::{Edge, Expr, Function, Module, Operator, Stmt, Term, Variable};
 
 /// The name of the module.
 pub const NAME: &str = "walbryts";
 
 /// The module, with its inputs as ports.
 pub fn text(module: &Module) -> String {
-    let mut printer = Printer { module, text: String::new() };
-    printer.module().expect("text takes all that is written");
+    let mut printer = Printer { scope: Scope::Module(module), text: String::new() };
+    printer.module(module).expect("text takes all that is written");
     printer.text
 }
 
 struct Printer<'a> {
-    module: &'a Module,
+    scope: Scope<'a>,
     text: String,
 }
 
+/// What variables are named by.
+#[derive(Clone, Copy)]
+enum Scope<'a> {
+    Module(&'a Module),
+    /// A body, by the function's number.
+    Body(usize, &'a Function),
+}
+
 /// A variable by its name.
-struct Name<'a>(&'a Module, Variable);
+struct Name<'a>(Scope<'a>, Variable);
 
 /// An expression in infix form, each operation in brackets.
-struct Infix<'a>(&'a Module, &'a Expr);
+struct Infix<'a>(Scope<'a>, &'a Expr);
 
 impl Display for Name<'_> {
     fn fmt(&self, f: &mut Formatter) -> fmt::Result {
-        let Module { inputs, registers, .. } = self.0;
+        let Module { inputs, registers, .. } = match self.0 {
+            Scope::Body(number, function) if self.1 == function.target() => {
+                return write!(f, "f{number}");
+            }
+            Scope::Body(..) => return write!(f, "p{}", self.1),
+            Scope::Module(module) => module,
+        };
         let (letter, first) = match self.1 {
             v if v < *inputs => ('i', 0),
             v if v < inputs + registers => ('r', *inputs),
@@ -44,10 +61,10 @@ impl Display for Name<'_> {
 
 impl Display for Infix<'_> {
     fn fmt(&self, f: &mut Formatter) -> fmt::Result {
-        let Infix(module, e) = self;
-        let part = |operand| Infix(module, operand);
+        let Infix(scope, e) = self;
+        let part = |operand| Infix(*scope, operand);
         match e {
-            Expr::Variable(variable) => Name(module, *variable).fmt(f),
+            Expr::Variable(variable) => Name(*scope, *variable).fmt(f),
             Expr::Constant { width, value } => write!(f, "{width}'d{value}"),
             Expr::Unknown { width } => write!(f, "{width}'bx"),
             Expr::Operation(operator, operands) => match &operands[..] {
@@ -56,7 +73,20 @@ impl Display for Infix<'_> {
                 [c, a, b] => write!(f, "({} ? {} : {})", part(c), part(a), part(b)),
                 _ => unreachable!("an operator has one to three operands"),
             },
+            Expr::Call(number, arguments) => {
+                let arguments: Vec<String> =
+                    arguments.iter().map(|argument| part(argument).to_string()).collect();
+                write!(f, "f{number}({})", arguments.join(", "))
+            }
         }
+    }
+}
+
+/// None of a single bit.
+fn range(width: u8) -> String {
+    match width {
+        1 => String::new(),
+        width => format!("[{}:0] ", width - 1),
     }
 }
 
@@ -77,15 +107,14 @@ fn sign(operator: Operator) -> &'static str {
 
 impl<'a> Printer<'a> {
     fn name(&self, variable: Variable) -> Name<'a> {
-        Name(self.module, variable)
+        Name(self.scope, variable)
     }
 
     fn infix(&self, e: &'a Expr) -> Infix<'a> {
-        Infix(self.module, e)
+        Infix(self.scope, e)
     }
 
-    fn module(&mut self) -> fmt::Result {
-        let module = self.module;
+    fn module(&mut self, module: &'a Module) -> fmt::Result {
         let first_wire = module.inputs + module.registers;
         let variables = first_wire + module.wires.len() as u8;
         let ports: Vec<String> = (0..module.inputs).map(|v| self.name(v).to_string()).collect();
@@ -96,12 +125,14 @@ impl<'a> Printer<'a> {
                 _ if v < first_wire => "reg",
                 _ => "wire",
             };
-            let range = match module.widths[usize::from(v)] {
-                1 => String::new(),
-                width => format!("[{}:0] ", width - 1),
-            };
+            let range = range(module.widths[usize::from(v)]);
             writeln!(self.text, "  {kind} {range}{};", self.name(v))?;
         }
+        for (number, function) in module.functions.iter().enumerate() {
+            self.scope = Scope::Body(number, function);
+            self.function(function)?;
+        }
+        self.scope = Scope::Module(module);
         for (v, wire) in (first_wire..).zip(&module.wires) {
             writeln!(self.text, "  assign {} = {};", self.name(v), self.infix(wire))?;
         }
@@ -109,6 +140,19 @@ impl<'a> Printer<'a> {
             self.thread(thread)?;
         }
         writeln!(self.text, "endmodule")
+    }
+
+    /// The result's width, the parameters, and the body in a block.
+    fn function(&mut self, function: &'a Function) -> fmt::Result {
+        let name = self.name(function.target());
+        writeln!(self.text, "  function automatic {}{name};", range(function.result))?;
+        for (v, &width) in (0..).zip(&function.parameters) {
+            writeln!(self.text, "    input {}{};", range(width), self.name(v))?;
+        }
+        self.line(2, "begin")?;
+        self.stmt(&function.body, 3)?;
+        self.line(2, "end")?;
+        self.line(1, "endfunction")
     }
 
     /// A thread's statement in a block, or in one behind the wait that it opens with.

@@ -49,7 +49,7 @@ struct Comparison {
     passed: u32,
     failed: u32,
     /// How often each number was met, 0 for an accepted sheet.
-    met: [u64; 12],
+    met: [u64; 256],
     census: Census,
     /// The text and the guard: between calls as in `unwritten`.
     buffer: Vec<u8>,
@@ -72,7 +72,7 @@ impl Comparison {
         let unwritten: Vec<u8> = (0..TEXT + GUARD).map(|_| random.byte()).collect();
         let buffer = unwritten.clone();
         let census = Census::default();
-        Comparison { passed: 0, failed: 0, met: [0; 12], census, buffer, unwritten }
+        Comparison { passed: 0, failed: 0, met: [0; 256], census, buffer, unwritten }
     }
 
     // ---- groups
@@ -199,11 +199,12 @@ impl Comparison {
             missing => Err(format!("never generated: {}", missing.join(", "))),
         });
         println!("numbers met");
-        for (number, count) in self.met.iter().enumerate() {
-            println!("  {number:<20}{count:>10}");
+        let mut numbers = [0].into_iter().chain(sheet::read_numbers()).map(usize::from);
+        for number in numbers.clone() {
+            println!("  {number:<20}{:>10}", self.met[number]);
         }
         self.group("every number", |comparison| {
-            match comparison.met.iter().position(|&count| count == 0) {
+            match numbers.find(|&number| comparison.met[number] == 0) {
                 None => Ok(()),
                 Some(number) => Err(format!("never met: {number}")),
             }

@@ -11,6 +11,7 @@ use reference::holding::Holding;
 use reference::module::Module;
 use reference::random::Random;
 use reference::samples::{self, to_hex};
+use reference::sheet::read_numbers;
 use reference::{extractable, limits, refused};
 
 const EXTRACTABLE: usize = 20_000;
@@ -118,13 +119,15 @@ impl Comparison {
             println!("  {name:<20}{count:>10}");
         }
         println!("numbers met{:>12}{:>10}{:>10}", "extract", "cycle", "cycles");
-        let own = (0..=21).chain([23, 24, 25, 31]);
+        let read = read_numbers().into_iter().map(usize::from);
+        let own = [0].into_iter().chain(read).chain(12..=21).chain([23, 24, 25, 31]);
         let mut missing = Vec::new();
         for number in own {
             let Holding { extractions, cycles, many, .. } = &self.holding;
             let counts = [extractions[number], cycles[number], many[number]];
             println!("  {number:<10}{:>11}{:>10}{:>10}", counts[0], counts[1], counts[2]);
-            if (number <= 23 && counts[0] == 0) || counts[1] == 0 || counts[2] == 0 {
+            let extracts = ![24, 25, 31].contains(&number);
+            if (extracts && counts[0] == 0) || counts[1] == 0 || counts[2] == 0 {
                 missing.push(number.to_string());
             }
         }

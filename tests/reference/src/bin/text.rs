@@ -5,6 +5,7 @@
 
 use std::process::ExitCode;
 
+use reference::functions::With;
 use reference::generate;
 use reference::library;
 use reference::random::Random;
@@ -122,8 +123,8 @@ fn modules(seed: u64) -> Vec<Case> {
     let mut cases = Vec::new();
     for index in 0..VALID + ILL_TYPED {
         let module = match index < VALID {
-            true => generate::module(&mut random),
-            false => generate::ill_typed_module(&mut random),
+            true => generate::module_by(With::None, &mut random),
+            false => generate::ill_typed_module_by(With::None, &mut random),
         };
         cases.push(case(texts::text(&module, &mut random)));
     }
@@ -134,7 +135,7 @@ fn damaged(seed: u64) -> Vec<Case> {
     let mut random = Random::new(seed ^ 0xDA);
     let mut cases = Vec::new();
     while cases.len() < DAMAGED {
-        let module = generate::module(&mut random);
+        let module = generate::module_by(With::None, &mut random);
         let text = texts::text(&module, &mut random);
         if text.len() < 3_000 {
             cases.push(case(texts::damaged(&text, &mut random)));

@@ -6,6 +6,7 @@
 
 use std::path::Path;
 
+use reference::functions::With;
 use reference::random::Random;
 use reference::text::{LENT, deep, random as texts, read_text};
 use reference::{extractable, sheet};
@@ -28,7 +29,7 @@ fn write(seed: u64, folder: &str) {
         let mut random = Random::new(seed);
         let mut accepted = Vec::new();
         while accepted.len() < COUNT {
-            let module = extractable::module(&mut random);
+            let module = extractable::module_by(With::None, &mut random);
             let text = texts::plain(&module, &mut random);
             let mut lent = vec![0; LENT];
             if read_text(&text, &mut lent).number == 0 {

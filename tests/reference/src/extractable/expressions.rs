@@ -2,6 +2,7 @@
 
 use super::{Generator, Part};
 use crate::extraction::text::Way;
+use crate::functions;
 use crate::generate::{operand_widths, operator};
 use crate::module::{Expr, Variable};
 use crate::sheet::EXPR_DEPTH;
@@ -27,18 +28,26 @@ impl Generator<'_> {
         if nodes <= 1 || depth == 1 {
             return self.leaf(width, part);
         }
+        if let Some(number) = functions::pick(&self.functions, width, self.random) {
+            let widths = self.functions[usize::from(number)].parameters.clone();
+            return Expr::Call(number, self.parts(&widths, nodes, depth, part));
+        }
         let operator = operator(width, self.random);
         let other = self.random.pick(&self.widths);
         let widths = operand_widths(operator, width, other);
+        Expr::Operation(operator, self.parts(&widths, nodes, depth, part))
+    }
+
+    fn parts(&mut self, widths: &[u8], nodes: usize, depth: usize, part: Part) -> Vec<Expr> {
         let mut rest = nodes - 1;
-        let mut operands = Vec::new();
+        let mut parts = Vec::new();
         for (index, &width) in widths.iter().enumerate() {
             let last = index + 1 == widths.len();
             let share = if last { rest } else { self.random.between(0, rest) };
             rest -= share;
-            operands.push(self.expr_of(width, share, depth - 1, part));
+            parts.push(self.expr_of(width, share, depth - 1, part));
         }
-        Expr::Operation(operator, operands)
+        parts
     }
 
     fn leaf(&mut self, width: u8, part: Part) -> Expr {

@@ -4,9 +4,10 @@ use super::Generator;
 use crate::encode::encode;
 use crate::extraction::extract;
 use crate::extraction::text::{self, Way};
+use crate::functions::With;
 use crate::module::{Expr, Module, Operator, Stmt, Variable};
 use crate::random::Random;
-use crate::sheet::{EXPR_DEPTH, read};
+use crate::sheet::{EXPR_DEPTH, read_with_functions};
 
 /// How many nodes are put on top at most.
 const MOST_ADDED: usize = 1200;
@@ -19,7 +20,8 @@ pub fn of_nodes(nodes: usize, random: &mut Random) -> Module {
             true => with_many_branches(random),
             false => {
                 let room = random.between(15, 60);
-                Generator::new(random, room).module()
+                let with = With::AsRead.drawn(random);
+                Generator::new(random, room).module(with)
             }
         };
         let Ok(extraction) = extract(&module) else {
@@ -27,7 +29,10 @@ pub fn of_nodes(nodes: usize, random: &mut Random) -> Module {
         };
         let found = extraction.nodes.len();
         let reached = found <= nodes && nodes - found <= MOST_ADDED;
-        if reached && add(&mut module, nodes - found) && read(&encode(&module)).is_ok() {
+        if reached
+            && add(&mut module, nodes - found)
+            && read_with_functions(&encode(&module)).is_ok()
+        {
             return module;
         }
     }

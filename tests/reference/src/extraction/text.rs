@@ -40,7 +40,8 @@ pub fn reads(thread: &Stmt) -> Vec<Variable> {
     statements(thread).into_iter().filter_map(expression).flat_map(variables).collect()
 }
 
-fn expression(s: &Stmt) -> Option<&Expr> {
+/// The expression that stands in the statement itself.
+pub fn expression(s: &Stmt) -> Option<&Expr> {
     match s {
         Stmt::Set(_, e) | Stmt::Later(_, e) => Some(e),
         Stmt::If(e, _) | Stmt::IfElse(e, ..) | Stmt::While(e, _) => Some(e),

@@ -1,9 +1,9 @@
-//! The walks from wait to wait.
+//! The walks from wait to wait, and those of functions' bodies.
 
 use super::text::{Thread, Way};
 use super::{Extraction, Id, MOST_NODES, Node, REGISTERS, Row};
 use crate::module::{Expr, Module, Variable};
-use crate::pseudocode::{Instruction, translate_thread};
+use crate::pseudocode::{Instruction, translate, translate_thread};
 
 /// A walk from every wait, by thread and place; none where there are too many nodes.
 pub fn walks(module: &Module) -> Option<Extraction> {
@@ -39,6 +39,17 @@ impl Held {
         }
         Held { current: own, later: own }
     }
+
+    /// The node that a variable stands for.
+    fn nodes<'h>(&'h self, module: &'h Module) -> impl Fn(Variable) -> Id + 'h {
+        let register = |variable: Variable| variable.checked_sub(module.inputs);
+        move |variable| match register(variable) {
+            Some(register) if register < module.registers => {
+                self.current[usize::from(register)]
+            }
+            _ => Id::from(variable),
+        }
+    }
 }
 
 /// What a walk, or a leg of it, comes to.
@@ -67,16 +78,18 @@ impl Walker<'_> {
             match self.code[place] {
                 Instruction::Wait(_) => return self.arrive(place, &held),
                 Instruction::Set(target, value) => {
-                    held.current[self.register(target)] = self.expression(value, &held)?;
+                    let value = self.expression(value, &held.nodes(self.module))?;
+                    held.current[self.register(target)] = value;
                     place += 1;
                 }
                 Instruction::Later(target, value) => {
-                    held.later[self.register(target)] = self.expression(value, &held)?;
+                    let value = self.expression(value, &held.nodes(self.module))?;
+                    held.later[self.register(target)] = value;
                     place += 1;
                 }
                 Instruction::Go(goal) => place = goal,
                 Instruction::IfNot(condition, goal) => {
-                    let condition = self.expression(condition, &held)?;
+                    let condition = self.expression(condition, &held.nodes(self.module))?;
                     let first = self.walk(place + 1, held)?;
                     let second = self.walk(goal, held)?;
                     return self.join(condition, first, second);
@@ -114,9 +127,9 @@ impl Walker<'_> {
     }
 
     /// Operands first, left first; a variable takes the node held.
-    fn expression(&mut self, e: &Expr, held: &Held) -> Option<Id> {
+    fn expression(&mut self, e: &Expr, held: &dyn Fn(Variable) -> Id) -> Option<Id> {
         match e {
-            Expr::Variable(variable) => Some(self.node_held(*variable, held)),
+            Expr::Variable(variable) => Some(held(*variable)),
             Expr::Constant { width, value } => {
                 self.add(Node::Constant { width: *width, value: *value })
             }
@@ -128,14 +141,45 @@ impl Walker<'_> {
                 }
                 self.add(Node::Operation(*operator, ids))
             }
+            Expr::Call(number, arguments) => {
+                let arguments: Option<Vec<Id>> =
+                    arguments.iter().map(|argument| self.expression(argument, held)).collect();
+                let arguments = arguments?;
+                let function = &self.module.functions[usize::from(*number)];
+                let result = self.add(Node::Unknown { width: function.result })?;
+                self.body(&translate(&function.body), 0, &arguments, result)
+            }
         }
     }
 
-    fn node_held(&self, variable: Variable, held: &Held) -> Id {
-        let register = variable.checked_sub(self.module.inputs).map(usize::from);
-        match register {
-            Some(register) if register < self.module.registers.into() => held.current[register],
-            _ => Id::from(variable),
+    /// The walk of a body from a place to its end, both legs of an `ifnot` likewise, and then one
+    /// branch node, for the result.
+    fn body(
+        &mut self,
+        code: &[Instruction],
+        mut place: usize,
+        arguments: &[Id],
+        mut result: Id,
+    ) -> Option<Id> {
+        while let Some(&instruction) = code.get(place) {
+            let held = |v: Variable| *arguments.get(usize::from(v)).unwrap_or(&result);
+            match instruction {
+                Instruction::Set(_, value) => {
+                    result = self.expression(value, &held)?;
+                    place += 1;
+                }
+                Instruction::Go(goal) => place = goal,
+                Instruction::IfNot(condition, goal) => {
+                    let condition = self.expression(condition, &held)?;
+                    let held = self.body(code, place + 1, arguments, result)?;
+                    let other = self.body(code, goal, arguments, result)?;
+                    return self.add(Node::Branch { condition, held, other });
+                }
+                Instruction::Wait(_) | Instruction::Later(..) => {
+                    unreachable!("a body has no wait and no later assignment")
+                }
+            }
         }
+        Some(result)
     }
 }

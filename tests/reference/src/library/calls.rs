@@ -45,7 +45,7 @@ impl Calls for Library<'_> {
             (0, 0) => Verdict::Quiet,
             (1, 0) => Verdict::Spent,
             (2, USED_UP) => Verdict::Full,
-            (3, 1..=11 | 31 | 46) => Verdict::Refused,
+            (3, 1..=11 | 31 | 44..=46) => Verdict::Refused,
             _ => panic!("word {word} with number {number}"),
         };
         PlainRun { accepted, number, verdict }

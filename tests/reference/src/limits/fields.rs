@@ -6,7 +6,7 @@ use super::{
 };
 use crate::encode::encode;
 use crate::module::{Expr, Module, Stmt};
-use crate::sheet::number;
+use crate::sheet::{FUNCTIONS, WITH_FUNCTIONS, number};
 
 /// A module of these counts: wires unknown, threads empty.
 fn counted(inputs: u8, registers: u8, wires: u8, threads: u8) -> Vec<u8> {
@@ -16,6 +16,7 @@ fn counted(inputs: u8, registers: u8, wires: u8, threads: u8) -> Vec<u8> {
         inputs,
         registers,
         widths,
+        functions: Vec::new(),
         wires: vec![Expr::Unknown { width: 8 }; wires.into()],
         threads: vec![Stmt::Empty; threads.into()],
     })
@@ -26,6 +27,9 @@ pub fn counts() -> Vec<Sample> {
     let mut samples = vec![accepted(counted(1, 1, 0, 1)), accepted(counted(16, 32, 32, 8))];
     for (field, range) in range.iter().enumerate() {
         for n in bytes() {
+            if FUNCTIONS && field == 0 && n >= WITH_FUNCTIONS {
+                continue;
+            }
             let mut counts = [2, 2, 2, 2];
             counts[field] = n;
             let [inputs, registers, wires, threads] = counts;

@@ -96,7 +96,8 @@ pub fn fullest() -> Vec<u8> {
 }
 
 fn eight_threads(threads: Vec<Stmt>) -> Module {
-    Module { inputs: 2, registers: 2, widths: vec![1, 8, 8, 1], wires: Vec::new(), threads }
+    let (widths, functions, wires) = (vec![1, 8, 8, 1], Vec::new(), Vec::new());
+    Module { inputs: 2, registers: 2, widths, functions, wires, threads }
 }
 
 /// 255 instructions in 1,022 bytes: assignments, and loops of three instructions.

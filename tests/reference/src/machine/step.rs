@@ -1,7 +1,7 @@
 //! One choice, one instant. A refused one leaves the state as it was.
 
 use super::{Choice, Machine, number};
-use crate::module::{Expr, Module, Variable};
+use crate::module::{Expr, Function, Module, Variable};
 use crate::pseudocode::Instruction;
 use crate::state::{Pending, State, USERS};
 use crate::value::{Scope, Value, evaluate};
@@ -125,5 +125,9 @@ impl Scope for Present<'_> {
 
     fn value(&self, variable: Variable) -> Value {
         self.state.values[usize::from(variable)]
+    }
+
+    fn functions(&self) -> &[Function] {
+        &self.module.functions
     }
 }

@@ -421,6 +421,7 @@ impl Writer<'_> {
             Expr::Variable(variable) => self.name(*variable),
             Expr::Constant { width, value } => self.constant(*width, *value),
             Expr::Unknown { width } => self.unknown(*width),
+            Expr::Call(..) => unreachable!("a text has no functions"),
             Expr::Operation(Operator::Conditional, operands) => {
                 self.expression(&operands[0], 2);
                 self.put("?");

@@ -1,5 +1,6 @@
 use super::*;
 use crate::encode::encode;
+use crate::functions::With;
 use crate::generate;
 use crate::random::Random;
 use crate::text::{random as texts, vectors};
@@ -43,7 +44,7 @@ fn a_written_module_is_read_as_it_was_meant() {
     let mut random = Random::new(1);
     let mut accepted = 0;
     for _ in 0..2_000 {
-        let module = generate::module(&mut random);
+        let module = generate::module_by(With::None, &mut random);
         let text = texts::text(&module, &mut random);
         if text.len() > MOST_TEXT {
             continue;
@@ -68,7 +69,7 @@ fn a_printed_module_is_read_back() {
     let mut random = Random::new(2);
     let mut accepted = 0;
     for _ in 0..600 {
-        let module = generate::module(&mut random);
+        let module = generate::module_by(With::None, &mut random);
         let text = verilog::text(&module);
         if text.len() > MOST_TEXT {
             continue;

@@ -1,7 +1,7 @@
 //! What a statement does, over its tree: from some values it ends, or stops at a wait with what
 //! remains to do.
 
-use crate::module::{Expr, Module, Stmt, Term, Variable};
+use crate::module::{Expr, Function, Module, Stmt, Term, Variable};
 use crate::state::{Pending, State};
 use crate::value::{Scope, Value, evaluate};
 
@@ -74,6 +74,10 @@ impl Scope for Page<'_> {
 
     fn value(&self, variable: Variable) -> Value {
         self.values[usize::from(variable)]
+    }
+
+    fn functions(&self) -> &[Function] {
+        &self.module.functions
     }
 }
 

@@ -5,6 +5,7 @@ use std::collections::BTreeSet;
 use reference::book::Book;
 use reference::compiler::{Compiler, Lane};
 use reference::extraction::extract;
+use reference::functions::With;
 use reference::lively::{self, Kind, Size};
 use reference::machine::Machine;
 use reference::module::Module;
@@ -75,8 +76,9 @@ fn outcome(module: &Module, book: &Book) -> Lane {
 fn all_orders() {
     let mut random = Random::new(31);
     let mut extractable = 0;
-    while extractable < 150 {
-        let module = lively::module(Kind::Extractable, Size::Tiny, &mut random);
+    while extractable < 300 {
+        let with = if extractable < 150 { With::AsRead } else { With::Some };
+        let module = lively::module_by(Kind::Extractable, Size::Tiny, with, &mut random);
         let Ok(extraction) = extract(&module) else {
             continue;
         };

@@ -22,7 +22,9 @@ fn nested_ifs(s: &Stmt) -> bool {
 fn has_unknown(e: &Expr) -> bool {
     match e {
         Expr::Unknown { .. } => true,
-        Expr::Operation(_, operands) => operands.iter().any(has_unknown),
+        Expr::Operation(_, operands) | Expr::Call(_, operands) => {
+            operands.iter().any(has_unknown)
+        }
         _ => false,
     }
 }

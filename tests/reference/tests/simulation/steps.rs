@@ -5,7 +5,7 @@ use std::collections::{BTreeSet, VecDeque};
 
 use reference::lively::{self, Kind, Size};
 use reference::machine::{COMMIT, Machine, variables};
-use reference::module::{Edge, Expr, Module, Variable};
+use reference::module::{Edge, Expr, Function, Module, Variable};
 use reference::pseudocode::Instruction;
 use reference::random::Random;
 use reference::simulator::Simulator;
@@ -161,6 +161,10 @@ impl Scope for Before<'_> {
 
     fn value(&self, variable: Variable) -> Value {
         self.1.values[usize::from(variable)]
+    }
+
+    fn functions(&self) -> &[Function] {
+        &self.0.functions
     }
 }
 

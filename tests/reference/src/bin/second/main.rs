@@ -8,6 +8,8 @@
 //! - `second printer`: the Verilog that the proved program prints, or the command that
 //!   WALBRYTS_VERILOG names, held against this package's, byte for byte: the stored modules, which
 //!   Icarus runs, and random ones of every form; needs no Icarus.
+//! - `second functions [SEED]`: Icarus, run on random modules with functions, and the calls held
+//!   against its traces. The proved library's are refused as long as it doesn't read such sheets.
 //! - `second verilog FILE`: this package's Verilog of a sheet's bytes.
 //!
 //! In `record` and `icarus` WALBRYTS_VERILOG may name a command whose Verilog is run in place of this
@@ -29,6 +31,8 @@ mod recording;
 
 const STORED: &str = concat!(env!("CARGO_MANIFEST_DIR"), "/../data/second.trace");
 const SEED: u64 = 1;
+const USAGE: &str =
+    "usage: second check | record | icarus | printer | functions [SEED] | verilog FILE";
 
 type Outcome<T = ()> = Result<T, String>;
 
@@ -39,9 +43,14 @@ fn main() -> ExitCode {
         ["check"] => held(checked),
         ["icarus"] => held(|trace, _| recording::again(trace)),
         ["record"] => recording::record(),
+        ["functions"] => functions(SEED),
+        ["functions", seed] => match seed.parse() {
+            Ok(seed) => functions(seed),
+            Err(_) => Err("a seed is a number".into()),
+        },
         ["printer"] => printer::hold(),
         ["verilog", file] => printer::print(file),
-        _ => Err("usage: second check | record | icarus | printer | verilog FILE".into()),
+        _ => Err(USAGE.into()),
     };
     let _ = folder().map(fs::remove_dir_all);
     match done {
@@ -61,12 +70,23 @@ fn stored() -> Outcome<Vec<Trace>> {
     trace::parse(&text).map_err(|line| format!("{STORED}:{line}: no trace"))
 }
 
+fn held(hold: impl FnMut(&Trace, &mut Random) -> Outcome<Counts>) -> Outcome<usize> {
+    held_to(&stored()?, hold)
+}
+
+/// Icarus on random modules with functions, and the calls.
+fn functions(seed: u64) -> Outcome<usize> {
+    held_to(&recording::with_functions(seed)?, checked)
+}
+
 /// How many failed.
-fn held(mut hold: impl FnMut(&Trace, &mut Random) -> Outcome<Counts>) -> Outcome<usize> {
-    let traces = stored()?;
+fn held_to(
+    traces: &[Trace],
+    mut hold: impl FnMut(&Trace, &mut Random) -> Outcome<Counts>,
+) -> Outcome<usize> {
     let mut random = Random::new(SEED);
     let (mut sum, mut census, mut failed) = (Counts::default(), Census::default(), 0);
-    for trace in &traces {
+    for trace in traces {
         match hold(trace, &mut random) {
             Ok(counts) => sum.add(&counts),
             Err(difference) => {
@@ -74,7 +94,7 @@ fn held(mut hold: impl FnMut(&Trace, &mut Random) -> Outcome<Counts>) -> Outcome
                 println!("FAIL  {}: {difference}", trace.name);
             }
         }
-        if let Ok(module) = sheet::read(&trace.sheet) {
+        if let Ok(module) = sheet::read_with_functions(&trace.sheet) {
             census.add(&module);
         }
     }
@@ -104,7 +124,7 @@ fn checked(trace: &Trace, random: &mut Random) -> Outcome<Counts> {
     #[cfg(feature = "proved")]
     let calls = reference::library::Library { sheet: &trace.sheet };
     #[cfg(not(feature = "proved"))]
-    let reading = sheet::read(&trace.sheet);
+    let reading = sheet::read_with_functions(&trace.sheet);
     #[cfg(not(feature = "proved"))]
     let calls = reference::calls::Reference::new(&reading);
     check(&calls, trace, random)

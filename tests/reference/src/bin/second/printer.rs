@@ -73,7 +73,8 @@ fn differ(found: &str, expected: &str) -> Option<String> {
 /// This package's text.
 pub fn print(file: &str) -> Outcome<usize> {
     let bytes = fs::read(file).map_err(|e| format!("{file}: {e}"))?;
-    let module = sheet::read(&bytes).map_err(|refusal| format!("{file}: {refusal:?}"))?;
+    let module =
+        sheet::read_with_functions(&bytes).map_err(|refusal| format!("{file}: {refusal:?}"))?;
     print!("{}", verilog::text(&module));
     Ok(0)
 }

@@ -3,6 +3,7 @@
 use std::fs;
 
 use reference::encode::encode;
+use reference::functions::With;
 use reference::icarus::{self, Text};
 use reference::module::Module;
 use reference::random::Random;
@@ -65,6 +66,17 @@ pub fn record() -> Outcome<usize> {
     fs::write(STORED, &text).map_err(|e| format!("{STORED}: {e}"))?;
     println!("{} modules, {} bytes", samples::ALL.len() + 1 + MODULES, text.len());
     Ok(0)
+}
+
+/// Traces of random modules with functions.
+pub fn with_functions(seed: u64) -> Outcome<Vec<Trace>> {
+    let mut random = Random::new(seed);
+    let trace = |number: usize| {
+        let parts = number % 2 == 1;
+        let (module, rows) = stimulus::sample_by(With::Some, CYCLES, parts, &mut random);
+        recorded(&format!("random{number}"), &module, None, rows)
+    };
+    (0..MODULES).map(trace).collect()
 }
 
 /// The module's trace in Icarus: the bench's own Verilog, or else what the command or this package
