@@ -22,7 +22,7 @@ use Rattle.sheet.proofs.Expression.{Reads, a-variable, a-constant, an-unknown, 
 use Rattle.evaluation.specs.declared.Evaluated.{Evaluated}
 use Rattle.evaluation.specs.Evaluation.{frame, eval, evalAll, run, reads, readsAll}
 use Rattle.evaluation.specs.Widths.{Typed, AllTyped, BodyTyped}
-use Rattle.evaluation.specs.Bytes.{variableNode, unaryNode, binaryNode, conditionalNode, innerNode, nodeAt, evalAt}
+use Rattle.evaluation.specs.Bytes.{variableNode, unaryNode, binaryNode, conditionalNode, innerNode, nodeAt, workAt, evalAt}
 
 -- ---- evalAt is eval
 
@@ -33,7 +33,7 @@ worth env q = record { value = eval env (q .item); width = q .width; next = q .n
 -- By the depth, in a sheet without functions.
 plain-eval : {c : Scope} {s : List ℕ} (d : ℕ) {p : ℕ} {q : Parsed Expr} (env : ℕ → Value) → c .declared ≡ 0 → Reads c s d p q →
     evalAt d s (c .widths) env p ≡ worth env q
-unfolding evalAt nodeAt innerNode variableNode unaryNode binaryNode conditionalNode eval
+unfolding evalAt workAt nodeAt innerNode variableNode unaryNode binaryNode conditionalNode eval
 plain-eval (suc d) env z (a-variable m h e l) = rw (m, e) refl
 plain-eval (suc d) env z (a-constant m w h e l) = rw (m, w .same, e) refl
 plain-eval (suc d) env z (an-unknown m w) = rw (m, w .same) refl
@@ -70,7 +70,7 @@ same-first u v us vs h = by (eqb u v) refl h
     by false e g = let z : _≡_ {A = ℕ} 0 1 = cc in absurd (omega arith)
 
 module _ {c : Scope} {s : List ℕ} {d : ℕ} (inner : (p : ℕ) (q : Parsed Expr) → Reads c s d p q → Typed (c .widths) (q .item) (q .width)) where
-  all-typed : {n p : ℕ} {es : Passed} (ps : List ℕ) → ReadsAll c s d n p es → sameWidths ps (es .widths) ≡ true →
+  pub all-typed : {n p : ℕ} {es : Passed} (ps : List ℕ) → ReadsAll c s d n p es → sameWidths ps (es .widths) ≡ true →
       AllTyped (c .widths) (es .items) ps
   unfolding Typed sameWidths
   all-typed [] no-arguments h = tt
@@ -111,7 +111,7 @@ fit-first {p} {ps} {a} {vs} h s = record { long = ap suc (s .long); fit = at }
     at (suc v) l = s .fit v (omega arith)
 
 -- With the result's value they are the values of a body's variables.
-frame-fits : (ps : List ℕ) (vs : List Value) (k : ℕ) (r : Value) → FitAll ps vs → fits k r ≡ true → (v : ℕ) →
+pub frame-fits : (ps : List ℕ) (vs : List Value) (k : ℕ) (r : Value) → FitAll ps vs → fits k r ≡ true → (v : ℕ) →
     v < length (ps ++ (k ∷ [])) → fits (getD (ps ++ (k ∷ [])) v 0) (frame vs r v) ≡ true
 frame-fits ps vs k r s h v l = by (decLt v (length ps))
   where
@@ -141,14 +141,14 @@ mutual
       rw (t .3)
       (run-fits (t .2 .0) (evalAll env ys) k (all-fit ws env f ys (t .2 .0) (t .2 .1)) b (allUnknown k) (t .2 .2) (fits-unknown k))
 
-  all-fit : (ws : List ℕ) (env : ℕ → Value) → ((v : ℕ) → v < length ws → fits (getD ws v 0) (env v) ≡ true) →
+  pub all-fit : (ws : List ℕ) (env : ℕ → Value) → ((v : ℕ) → v < length ws → fits (getD ws v 0) (env v) ≡ true) →
       (ys : Arguments) (ps : List ℕ) → AllTyped ws ys ps → FitAll ps (evalAll env ys)
   all-fit ws env f no-more [] t = record { long = refl; fit = λ v l. absurd (omega arith) }
   all-fit ws env f no-more (p ∷ ps) t = absurd t
   all-fit ws env f (argument e ys) [] t = absurd t
   all-fit ws env f (argument e ys) (p ∷ ps) t = fit-first (eval-fits ws env f e p (t .0)) (all-fit ws env f ys ps (t .1))
 
-  run-fits : (ps : List ℕ) (vs : List Value) (k : ℕ) → FitAll ps vs → (b : Body) (r : Value) → BodyTyped (ps ++ (k ∷ [])) b k →
+  pub run-fits : (ps : List ℕ) (vs : List Value) (k : ℕ) → FitAll ps vs → (b : Body) (r : Value) → BodyTyped (ps ++ (k ∷ [])) b k →
       fits k r ≡ true → fits k (run vs b r) ≡ true
   run-fits ps vs k s nothing r t h = h
   run-fits ps vs k s (result e) r t h = eval-fits (ps ++ (k ∷ [])) (frame vs r) (frame-fits ps vs k r s h) e k t

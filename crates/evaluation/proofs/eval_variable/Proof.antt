@@ -6,7 +6,7 @@ use Rattle.evaluation.proofs.eval_variable.Tie as tie
 
 returns : tie.Need-returns
 unfolding variableNode
-returns c = rw (c .byte-at .ensures, c .before .value-at .ensures)
+returns c = rw (c .width-at .ensures, c .before .value-at .ensures)
 
 pub eval-variable-spec : {M : Type 1} → statement M
 eval-variable-spec =
