@@ -1,5 +1,6 @@
 // Whose choices a run's are, and how many each user has, out of the words of a command line. Each function equals its definition in
 // specs/, for every word.
+#![tactic(auto)]
 ghost use Rattle.std.specs.Prelude.{◌≡◌};
 ghost use Rattle.allowances.specs.Allowances.{user_of, nothing, spoilt, digit_taken, comma_taken, taken, refused, allowed_by, allowances_of};
 
@@ -7,7 +8,7 @@ ghost use Rattle.allowances.specs.Allowances.{user_of, nothing, spoilt, digit_ta
 pub const MOST: u32 = 4294967295;
 
 // Four allowances, or a word that is none.
-#[derive(Drop)]
+#[derive(Clone, Copy)]
 pub struct Allowances {
     pub good: bool,
     pub each: [u32; 4],
@@ -15,7 +16,7 @@ pub struct Allowances {
 
 // What the characters so far are: all right or not, how many commas there were, whether the number behind the last has no digit yet, that
 // number, and those before it.
-#[derive(Drop)]
+#[derive(Clone, Copy)]
 pub struct Reading {
     pub good: bool,
     pub commas: usize,

@@ -1,5 +1,6 @@
 // Many clock cycles in one call, equal to the repeated single calls of its definition in specs/Cycles for every sheet, state
 // and rows. The sheet is prepared, and the cycles are run on its plan.
+#![tactic(auto)]
 ghost use Rattle.std.specs.Prelude.{◌≡◌, false};
 ghost use Rattle.batch.specs.Cycles.{cycled, run_cycles, told};
 
@@ -7,7 +8,7 @@ use state::State;
 
 // What `run_cycles` gives: how many instants were accepted and run to rest or to 65,535 choices; where it was stopped earlier,
 // the number that stopped it and whether it was the run after an instant that did; the state reached.
-#[derive(Drop)]
+#[derive(Clone, Copy)]
 pub struct Cycled {
     pub phases: usize,
     pub number: u8,

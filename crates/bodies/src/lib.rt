@@ -1,5 +1,6 @@
 // The bodies of a sheet's functions as instructions that lead forward only (document 02, [5]).
 // A code table is filled once from a sheet that was accepted; `fetch` gives an instruction of it.
+#![tactic(auto)]
 ghost use Rattle.std.specs.Prelude.{◌≡◌};
 ghost use Rattle.pseudocode.specs.Filling.{first_word, filling, filled};
 ghost use Rattle.bodies.specs.Filling.{store, after, fill_result, fill_in_turn, fill_if, fill_if_else, fill_at};
@@ -9,7 +10,7 @@ use pseudocode::Filled;
 use sheet::byte_at;
 
 // An instruction of a body. An expression stands by its place in the sheet.
-#[derive(Drop)]
+#[derive(Clone, Copy)]
 pub enum Move {
     Set(usize),
     Go(usize),
@@ -17,7 +18,7 @@ pub enum Move {
 }
 
 // For each function where its instructions begin and end; 0 past the last.
-#[derive(Drop)]
+#[derive(Clone, Copy)]
 pub struct Bodies {
     pub starts: [usize; 8],
     pub ends: [usize; 8],

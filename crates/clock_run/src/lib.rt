@@ -1,6 +1,7 @@
 // A clock cycle, and many of them, on a plan and on tables that were filled once from lent ones: registers, places and inputs are judged,
 // laid out in cells, and registers, places and wires taken out again. Each function equals its definition in specs/ for plans and tables
 // of any contents.
+#![tactic(auto)]
 ghost use Rattle.std.specs.Prelude.{◌≡◌, ◌+◌, ◌*◌, ◌/◌, ◌≤◌, ◌<◌, length, get_or};
 ghost use Rattle.values.specs.Planes.{value_at};
 ghost use Rattle.plan.specs.Plan.{plan_of};
@@ -263,7 +264,7 @@ pub fn cycle(
 // ---- many cycles
 
 // What many cycles give: how many were accepted, the number that refused the next, 0 where none was, and what the last one gave.
-#[derive(Drop)]
+#[derive(Clone, Copy)]
 pub struct Rounds {
     pub cycles: usize,
     pub number: u8,

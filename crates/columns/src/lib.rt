@@ -1,11 +1,12 @@
 // The variables that a table has columns for: in the sheet's order, or by their names. Each function equals its definition in specs/.
+#![tactic(auto)]
 ghost use Rattle.std.specs.Prelude.{◌≡◌};
 ghost use Rattle.columns.specs.Columns.{in_order, first_of, behind_of, variable_of, name_end, choice, chosen, all_chosen};
 
 use stimulus::counted;
 
 // How many columns there are, and what is wrong: error 0 nothing, 1 no such variable, 2 more than 80; with the place of that name.
-#[derive(Drop)]
+#[derive(Clone, Copy)]
 pub struct Choice {
     pub count: usize,
     pub error: u8,

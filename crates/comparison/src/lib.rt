@@ -1,5 +1,6 @@
 // What a comparison of runs says: where the rows of two runs differ after a cycle, which of several orders differs first from the
 // extracted expressions, and the verdict over all cycles, with its words. Each function equals its definition in specs/.
+#![tactic(auto)]
 mod saying;
 
 ghost use Rattle.std.specs.Prelude.{◌≡◌, ◌∷◌, [], ◌-◌};
@@ -14,7 +15,7 @@ use trace_row::{place_in, value_in};
 use values::Value;
 
 // How many of each kind a module has.
-#[derive(Drop)]
+#[derive(Clone, Copy)]
 pub struct Counts {
     pub inputs: u8,
     pub registers: u8,
@@ -23,7 +24,7 @@ pub struct Counts {
 }
 
 // Where two rows differ first: nowhere, in a register or a wire, with the two values, or in the place of a thread.
-#[derive(Drop)]
+#[derive(Clone, Copy)]
 pub enum Difference {
     Nowhere,
     Variable {
@@ -35,7 +36,7 @@ pub enum Difference {
 }
 
 // What a cycle shows: all orders agree with the expressions, or one differs.
-#[derive(Drop)]
+#[derive(Clone, Copy)]
 pub enum Finding {
     Same,
     Apart {
@@ -45,7 +46,7 @@ pub enum Finding {
 }
 
 // What all cycles show: so many agree, or one does not.
-#[derive(Drop)]
+#[derive(Clone, Copy)]
 pub enum Verdict {
     Agreed(usize),
     Differs {

@@ -1,5 +1,6 @@
 // The plain run's wire stores, counted on a plan: a run up to quiet or the next commit with the number of wires that it stores, and the
 // number of wires that read a variable whose value differs between two states. crates/work proves that the two are equal.
+#![tactic(auto)]
 ghost use Rattle.std.specs.Prelude.{◌≡◌, ◌≤◌};
 ghost use Rattle.plan.specs.Plan.{plan_of};
 ghost use Rattle.plan_engine.specs.Live.{live};
@@ -19,7 +20,7 @@ const COMMIT: usize = 255;
 const VARIABLES: usize = 80;
 
 // What a run on cells and masks leaves: the choices accepted, how many of them stored a wire, the number that stopped it, the marks.
-#[derive(Drop)]
+#[derive(Clone, Copy)]
 struct Stretched {
     accepted: u16,
     stores: u16,
@@ -28,7 +29,7 @@ struct Stretched {
 }
 
 // The same with the state that it leaves.
-#[derive(Drop)]
+#[derive(Clone, Copy)]
 pub struct Worked {
     pub accepted: u16,
     pub stores: u16,

@@ -1,5 +1,6 @@
 // The cycle run (document 01, "Extraction and the cycle run"): a sheet and lent tables are judged and laid out once, and clock cycles are
 // worked out by them.
+#![tactic(auto)]
 ghost use Rattle.std.specs.Prelude.{◌≡◌, false, ◌||◌, ℕ, ◌<◌, get_or};
 ghost use Rattle.masks.specs.Masks.{bits};
 ghost use Rattle.nextstate.specs.CycleRun.{refused, cycle_run};
@@ -18,7 +19,7 @@ use sheet::Layout;
 
 // What `run` gives: how many cycles were accepted, the number that refused the next, 0 where none was; registers and places as the
 // last accepted cycle left them, and the wires' values after it.
-#[derive(Drop)]
+#[derive(Clone, Copy)]
 pub struct Cycled {
     pub cycles: usize,
     pub number: u8,

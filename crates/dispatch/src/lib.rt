@@ -1,4 +1,5 @@
 // The dispatcher (document 02, request [8]): up to eight modules are run side by side, and each call gives one of them a turn.
+#![tactic(auto)]
 mod picking;
 pub mod records;
 pub mod slices;
@@ -7,14 +8,14 @@ ghost use Rattle.std.specs.Prelude.{◌≡◌};
 ghost use Rattle.dispatch.specs.Dispatch.{number_of, picked_of};
 
 // A module's turn record: "busy or not, and turns given".
-#[derive(Drop)]
+#[derive(Clone, Copy)]
 pub struct Record {
     pub busy: bool,
     pub turns: u32,
 }
 
 // What a call answers: the number picked, that no record is busy, or the paper's number.
-#[derive(Drop)]
+#[derive(Clone, Copy)]
 pub enum Dispatched {
     Picked(u8),
     Nothing,
@@ -22,14 +23,14 @@ pub enum Dispatched {
 }
 
 // A place in the circle, or that there is none.
-#[derive(Drop)]
+#[derive(Clone, Copy)]
 pub enum Found {
     At(usize),
     Nowhere,
 }
 
 // What a call gives: its answer, and the place at which it stores so many turns; past the list it stores none.
-#[derive(Drop)]
+#[derive(Clone, Copy)]
 pub struct Turn {
     pub answer: Dispatched,
     pub at: usize,

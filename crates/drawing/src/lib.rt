@@ -1,5 +1,6 @@
 // A run as a drawing (SVG), put into a lent buffer piece by piece: the head, a lane for each variable, the foot. What would pass the
 // buffer's end is not put.
+#![tactic(auto)]
 ghost use Rattle.std.specs.Prelude.{◌≡◌, ◌++◌, ◌-◌, ◌<◌, ◌≤◌, get_or};
 ghost use Rattle.writing.specs.Buffer.{filled, puts};
 ghost use Rattle.naming.specs.Naming.{name_of, texts};
@@ -22,7 +23,7 @@ pub const MOST: usize = 128;
 
 // The measures of a drawing: its first cycle and how many there are, the width of half a cycle and of the names' column in pixels, how
 // many lanes it has, and the base of its numbers (16, 2, else 10).
-#[derive(Drop)]
+#[derive(Clone, Copy)]
 pub struct Drawing {
     pub first: u32,
     pub cycles: u8,

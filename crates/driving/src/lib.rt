@@ -1,5 +1,6 @@
 // A module driven by events through the halves of clock cycles: an instant, and then the plain run, or choices drawn by a seed until
 // nothing is left to choose. Each function equals its definition in specs/.
+#![tactic(auto)]
 mod going;
 mod saying;
 mod states;
@@ -27,7 +28,7 @@ const USED_UP: u8 = 47;
 
 // A state, and how it is run: by which way, the number that refused a call or stopped a run, whether it came to rest, and the generator's
 // next seed.
-#[derive(Drop)]
+#[derive(Clone, Copy)]
 pub struct Rest {
     pub way: Way,
     pub number: u8,
@@ -37,7 +38,7 @@ pub struct Rest {
 }
 
 // What a trace gives: how many instants were accepted and came to rest, whose rows are written, and how it goes on from there.
-#[derive(Drop)]
+#[derive(Clone, Copy)]
 pub struct Traced {
     pub phases: usize,
     pub rest: Rest,
@@ -45,7 +46,7 @@ pub struct Traced {
 
 // What is said of a run that was to come to rest: that it did, the number that refused it, or that it was not at rest after so many
 // choices.
-#[derive(Drop)]
+#[derive(Clone, Copy)]
 pub enum Ending {
     Rested,
     Refused(u8),
@@ -53,7 +54,7 @@ pub enum Ending {
 }
 
 // What a line of the inputs is: a row of a cycle, a blank line that is passed over, the end of the file, or a line that is wrong.
-#[derive(Drop)]
+#[derive(Clone, Copy)]
 pub enum Line {
     Cycle,
     Passed,
@@ -62,7 +63,7 @@ pub enum Line {
 }
 
 // What becomes of a run whose module extraction refuses: it is held back, it goes on behind a warning, or it goes on and says nothing.
-#[derive(Drop)]
+#[derive(Clone, Copy)]
 pub enum Unextracted {
     Held,
     Warned,

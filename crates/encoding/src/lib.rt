@@ -1,1 +1,2 @@
 // The converse of reading: definitions and laws only (specs/, proofs/).
+#![tactic(auto)]

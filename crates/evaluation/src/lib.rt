@@ -1,6 +1,7 @@
 // The value of an expression that stands in a sheet (document 01, "Values and pseudo-code"; document 02, [5]).
 // Each function equals its definition in specs/Bytes for any bytes whatever: where the sheet's reader accepted
 // the expression, that is `eval` of its tree (proofs/Calls).
+#![tactic(auto)]
 ghost use Rattle.std.specs.Prelude.{◌≡◌, ◌+◌, ◌-◌, ◌<◌, length, get_or, drop, set};
 ghost use Rattle.values.specs.Cells.{cell_at};
 ghost use Rattle.sheet.specs.Parts.{definition_at};
@@ -12,7 +13,7 @@ use sheet::{byte_at, word_at};
 use values::Value;
 
 // A value, the width of the expression that has it, and the place after that expression.
-#[derive(Drop)]
+#[derive(Clone, Copy)]
 pub struct Evaluated {
     pub value: Value,
     pub width: u8,
@@ -20,14 +21,14 @@ pub struct Evaluated {
 }
 
 // What an expression may name: variables, whose widths stand from a place on, and the functions below a number.
-#[derive(Drop)]
+#[derive(Clone, Copy)]
 pub struct Names {
     pub widths: usize,
     pub callable: u8,
 }
 
 // The cells of a body's variables, of at most four parameters and the result, and the next place.
-#[derive(Drop)]
+#[derive(Clone, Copy)]
 struct Frame {
     cells: [u64; 5],
     next: usize,

@@ -1,6 +1,7 @@
 // A thread explained (specs/Explaining.antt): for its start, and behind each of its waits, what it does up to its next wait, as
 // statements, written into a lent buffer of 65,536 bytes.
 // Every contract says: place in the sheet, wait's number, buffer and new position are what the definition leaves.
+#![tactic(auto)]
 ghost use Rattle.std.specs.Prelude.{◌≡◌, not, ◌&&◌, ◌||◌, true, ◌+◌, ◌<◌, ◌≤◌};
 ghost use Rattle.writing.specs.Buffer.{filled, puts};
 ghost use Rattle.naming.specs.Naming.{name_of};
@@ -19,7 +20,7 @@ use writing::{put_decimal, put_word};
 
 // A stage of the walk over a statement: the next place in the sheet, the number of the last wait before it, whether the wait that is
 // looked for was seen, whether what is met is said, and the next position in the buffer.
-#[derive(Drop)]
+#[derive(Clone, Copy)]
 pub struct Walked {
     pub next: usize,
     pub waits: usize,
@@ -29,7 +30,7 @@ pub struct Walked {
 }
 
 // What explaining a thread gives: number 0 and the text's length, or the refusal's number and 0.
-#[derive(Drop)]
+#[derive(Clone, Copy)]
 pub struct Explained {
     pub number: u8,
     pub length: usize,

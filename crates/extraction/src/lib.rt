@@ -1,4 +1,5 @@
 // Extraction (document 01, "Extraction and the cycle run"): the next-state expressions of a sheet, as nodes and rows in lent words.
+#![tactic(auto)]
 mod express;
 pub mod filling;
 mod walk;
@@ -14,7 +15,7 @@ use sheet::Layout;
 
 // What an expression's nodes leave: the place after it, the number of its node, and how many nodes there are, 4,097 where there
 // is no room for more.
-#[derive(Drop)]
+#[derive(Clone, Copy)]
 pub struct Expressed {
     pub next: usize,
     pub node: u16,
@@ -23,7 +24,7 @@ pub struct Expressed {
 
 // A thread's number, the module's inputs and registers, and the masks of the registers that the thread writes and of those
 // that it assigns later.
-#[derive(Drop)]
+#[derive(Clone, Copy)]
 pub struct Thread {
     pub number: usize,
     pub inputs: u8,
@@ -33,14 +34,14 @@ pub struct Thread {
 }
 
 // A register's node where two legs join, and how many nodes there are.
-#[derive(Drop)]
+#[derive(Clone, Copy)]
 pub struct Merged {
     pub node: u16,
     pub count: u16,
 }
 
 // What a walk leaves: how many nodes there are, the node of the next place, and each register's.
-#[derive(Drop)]
+#[derive(Clone, Copy)]
 pub struct Walked {
     pub count: u16,
     pub place: u16,
@@ -48,7 +49,7 @@ pub struct Walked {
 }
 
 // How many nodes and rows there are.
-#[derive(Drop)]
+#[derive(Clone, Copy)]
 pub struct Extent {
     pub nodes: u16,
     pub rows: usize,

@@ -1,5 +1,6 @@
 // The first values of registers out of a file: which line gives which register its value, and which line is wrong. Each function equals
 // its definition in specs/.
+#![tactic(auto)]
 ghost use Rattle.std.specs.Prelude.{◌≡◌, ◌≤◌, length, slice_index};
 ghost use Rattle.first_values.specs.FirstValues.{ends, run_end, register_of, value_in, marked, with_value, valued};
 ghost use Rattle.first_values.specs.FirstValues.{word_taken, line_taken, lines_taken};
@@ -9,7 +10,7 @@ use stimulus::{Line, counted, line_end, parse};
 
 // What is wrong: error 0 nothing, 1 no value, 2 to 6 as in a line of inputs (`stimulus`), 8 no such register; the line and the column
 // concerned; and the state with the values so far.
-#[derive(Drop)]
+#[derive(Clone, Copy)]
 pub struct Marked {
     pub error: u8,
     pub line: usize,
@@ -18,7 +19,7 @@ pub struct Marked {
 }
 
 // How many inputs and registers there are.
-#[derive(Drop)]
+#[derive(Clone, Copy)]
 pub struct Counts {
     pub inputs: u8,
     pub registers: u8,

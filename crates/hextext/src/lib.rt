@@ -1,5 +1,6 @@
 // A sheet given as hex text. Blanks (space, tab, CR), line ends and comments, from `#` to the end of the line, are skipped; two
 // hex digits of either case, which stand together, make a byte. Each function equals its definition in specs/, for every text.
+#![tactic(auto)]
 ghost use Rattle.std.specs.Prelude.{◌≡◌};
 ghost use Rattle.std.proofs.lemmas.List.Edits.{sets};
 ghost use Rattle.hextext.specs.Characters.{digit_of, is_blank, is_gap, is_text};
@@ -9,7 +10,7 @@ ghost use Rattle.hextext.specs.Decoding.{found, spotted, spot_of};
 
 // Where a scan stands: the line and the column of the next character, or between the two digits of a byte those of the first;
 // is it in a comment; does a first digit wait for its second, and its value; how many bytes are whole; the error, 0 for none.
-#[derive(Drop)]
+#[derive(Clone, Copy)]
 pub struct Scan {
     pub line: usize,
     pub column: usize,
@@ -22,7 +23,7 @@ pub struct Scan {
 
 // What decoding gives: the number of bytes; the error (0 none, 1 a character that is no hex digit, 2 a digit without its second)
 // and the line and the column, from 1, of the wrong character or the single digit; without an error, of the place it ended at.
-#[derive(Drop)]
+#[derive(Clone, Copy)]
 pub struct Decoded {
     pub length: usize,
     pub error: u8,
@@ -31,7 +32,7 @@ pub struct Decoded {
 }
 
 // A place in a text: line and column, from 1.
-#[derive(Drop)]
+#[derive(Clone, Copy)]
 pub struct Place {
     pub line: usize,
     pub column: usize,

@@ -1,5 +1,6 @@
 // The names of variables out of a names file: which line names which variable, and which line is wrong. Each function equals its
 // definition in specs/.
+#![tactic(auto)]
 ghost use Rattle.std.specs.Prelude.{◌≡◌};
 ghost use Rattle.labels.specs.Labels.{is_other, is_taken, mark, labelled, named, line_taken, lines_taken};
 
@@ -7,7 +8,7 @@ use stimulus::{counted, line_end, parse_name};
 
 // What is wrong: error 0 nothing, 2 no such variable, 3 a name that is not allowed, 4 another variable has the name; the line and the
 // column concerned.
-#[derive(Drop)]
+#[derive(Clone, Copy)]
 pub struct Mark {
     pub error: u8,
     pub line: usize,

@@ -1,4 +1,5 @@
 // Document 01's listing program: a sheet on standard input; its listing, or `refused` and a number, on standard output.
+#![tactic(auto)]
 use libc::{STDIN_FILENO, STDOUT_FILENO};
 
 fn main() {

@@ -1,4 +1,5 @@
 // The listing of a sheet (document 01, "Samples from the stands"): read, translated, and written into a lent buffer.
+#![tactic(auto)]
 ghost use Rattle.std.specs.Prelude.{◌≡◌, ◌≤◌, length, get_or};
 ghost use Rattle.std.proofs.lemmas.List.Edits.{sets};
 ghost use Rattle.writing.specs.Buffer.{filled, puts};
@@ -8,7 +9,7 @@ ghost use Rattle.listings.specs.Lines.{code_lines, thread_lines, table_listing};
 ghost use Rattle.listings.specs.Listing.{listed, laid_in};
 
 // What `list` answers: the number of the sheet's refusal, 0 where it is read, and the listing's length.
-#[derive(Drop)]
+#[derive(Clone, Copy)]
 pub struct Listed {
     pub number: u8,
     pub length: usize,

@@ -1,6 +1,7 @@
 // The extracted expressions (document 01, "Extraction and the cycle run") as text: nodes with infix operators, rows, and a Graphviz
 // graph, from lent tables of any contents. What is printed goes into a lent buffer of 65,536 bytes; such a contract says: buffer and
 // new position are what putting the text at the old position gives.
+#![tactic(auto)]
 mod counting;
 mod dot;
 mod printing;

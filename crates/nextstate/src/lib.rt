@@ -1,8 +1,9 @@
 // What extraction and the cycle run are given and answer (document 01, "Extraction and the cycle run"). The calls themselves stand
 // in `extraction` and `cycles`, what they answer is defined in specs/.
+#![tactic(auto)]
 
 // The registers' values, and the places at which the threads wait.
-#[derive(Drop)]
+#[derive(Clone, Copy)]
 pub struct Registers {
     pub value: [u32; 32],
     pub unknown: [u32; 32],
@@ -11,7 +12,7 @@ pub struct Registers {
 
 // What a cycle run gives: 0 and the registers, places and wires after the cycle, or a refusal's number, the registers and places
 // that it got, and wires all x.
-#[derive(Drop)]
+#[derive(Clone, Copy)]
 pub struct Clocked {
     pub number: u8,
     pub value: [u32; 32],

@@ -1,5 +1,6 @@
 // What the words of a command line ask for: taken one by one, and judged at the end. Each function equals its definition in specs/,
 // for every word. An option is a row of a table: a slot that keeps the number of the word it is given by.
+#![tactic(auto)]
 mod judging;
 mod tables;
 
@@ -13,7 +14,7 @@ use tables::{command_of, is_number, is_written, option_of};
 
 // What the words so far have asked for: how many there are, the command's number or 0, the slot whose word is to come or 0, the first
 // word that is out of place or 0, and its fault; the numbers of the slots, and the words that give them.
-#[derive(Drop)]
+#[derive(Clone, Copy)]
 pub struct Options {
     pub words: usize,
     pub command: usize,
@@ -25,7 +26,7 @@ pub struct Options {
 }
 
 // By which way a run goes: the plain run, choices drawn by a seed, the extracted expressions, or the plain run with its work counted.
-#[derive(Drop)]
+#[derive(Clone, Copy)]
 pub enum Way {
     Plain,
     Drawn(u32),
@@ -35,7 +36,7 @@ pub enum Way {
 
 // What the table shows: the base of its numbers, commas or columns, the inputs and the wires beside the registers, the word that names
 // its variables or 0, the cycles from one to another and every how many, or only the last one.
-#[derive(Drop)]
+#[derive(Clone, Copy)]
 pub struct Shape {
     pub base: u8,
     pub csv: bool,
@@ -49,7 +50,7 @@ pub struct Shape {
 }
 
 // `run`: the numbers of the words that name files, 0 where there is none, and what is to be shown.
-#[derive(Drop)]
+#[derive(Clone, Copy)]
 pub struct RunOptions {
     pub sheet: usize,
     pub inputs: usize,
@@ -67,21 +68,21 @@ pub struct RunOptions {
     pub silent: bool,
 }
 
-#[derive(Drop)]
+#[derive(Clone, Copy)]
 pub struct ExtractOptions {
     pub sheet: usize,
     pub names: usize,
     pub dot: bool,
 }
 
-#[derive(Drop)]
+#[derive(Clone, Copy)]
 pub struct CompareOptions {
     pub sheet: usize,
     pub inputs: usize,
 }
 
 // A command with its options.
-#[derive(Drop)]
+#[derive(Clone, Copy)]
 pub enum Command {
     List(usize),
     Check(usize),
@@ -94,7 +95,7 @@ pub enum Command {
 
 // What all words ask for: help, the version, a command, or nothing that can be done: a word is missing (1 the command, 2 the sheet, 3 the
 // inputs), or this word is out of place, by this fault.
-#[derive(Drop)]
+#[derive(Clone, Copy)]
 pub enum Request {
     Help,
     Version,
@@ -104,7 +105,7 @@ pub enum Request {
 }
 
 // How a command ends.
-#[derive(Drop)]
+#[derive(Clone, Copy)]
 pub enum Outcome {
     Done,
     Refused,

@@ -1,4 +1,5 @@
 // Files that a command writes, and when it tells how far it has come. Each function equals its definition in specs/Outputs.
+#![tactic(auto)]
 ghost use Rattle.std.specs.Prelude.{◌≡◌};
 ghost use Rattle.writing.specs.Buffer.{filled, puts};
 ghost use Rattle.outputs.specs.Outputs.{aim_of, part_name, is_told, common};
@@ -6,7 +7,7 @@ ghost use Rattle.outputs.specs.Outputs.{aim_of, part_name, is_told, common};
 use writing::{put_byte, put_word};
 
 // How a file is written: not at all, since the command reads it; whole, under another name at first; or straight into what is there.
-#[derive(Drop)]
+#[derive(Clone, Copy)]
 pub enum Aim {
     Own,
     Whole,

@@ -1,5 +1,6 @@
 // A plan: all that is worked out once from a sheet, in one table of words that is lent to every call. Words of any contents are
 // a plan: a word that names no cell names cell 0, other numbers count modulo 256.
+#![tactic(auto)]
 ghost use Rattle.std.specs.Prelude.{◌≡◌, ◌%◌, ◌<◌};
 ghost use Rattle.pseudocode.specs.Instruction.{no_term};
 ghost use Rattle.pseudocode.specs.Fetching.{term_at};
@@ -51,14 +52,14 @@ pub const IFNOT: u32 = 4;
 
 // An expression: its nodes are those from `first` to `root`, whose cell gets its value. A variable's root is its own cell, before
 // `first`, and there are no nodes.
-#[derive(Drop)]
+#[derive(Clone, Copy)]
 pub struct Expression {
     pub first: usize,
     pub root: usize,
 }
 
 // An instruction that runs.
-#[derive(Drop)]
+#[derive(Clone, Copy)]
 pub enum Action {
     Set { target: u8, source: Expression },
     Later { target: u8, source: Expression },
@@ -66,7 +67,7 @@ pub enum Action {
     IfNot { goal: u8, condition: Expression },
 }
 
-#[derive(Drop)]
+#[derive(Clone, Copy)]
 pub enum Instruction {
     Wait(EdgeTerms),
     Act(Action),

@@ -1,6 +1,7 @@
 // A change of values on a plan and one plane of cells: cells are put, the wires that read a changed variable are marked, the waits
 // fire (document 01, "The simulation cycle"). Each function equals its definition in specs/ for plans, cells and places of any
 // contents.
+#![tactic(auto)]
 ghost use Rattle.std.specs.Prelude.{◌≡◌, ◌<◌};
 ghost use Rattle.masks.specs.Masks.{bits};
 ghost use Rattle.events.specs.Cycle.{any_below};
@@ -12,14 +13,14 @@ ghost use Rattle.plan_changes.specs.Changes.{eight, term_wakes, wakes, wake_thre
 use plan::{Cells, PlanTable};
 
 // The midst of a change: the wires that are due, and the threads whose waits it has fired.
-#[derive(Drop)]
+#[derive(Clone, Copy)]
 pub struct Made {
     pub due: u32,
     pub woken: u32,
 }
 
 // The wires that are due, the threads that stand off a wait, and the registers that hold a value to be committed.
-#[derive(Drop)]
+#[derive(Clone, Copy)]
 pub struct Marks {
     pub due: u32,
     pub ready: u32,

@@ -1,6 +1,7 @@
 // One choice of the simulation cycle, and runs of them, on a plan that was filled once (document 01, "The simulation cycle"). Each
 // function equals its definition in specs/ for plans and states of any contents. Of a user's count and allowance only the room that
 // is left is asked.
+#![tactic(auto)]
 ghost use Rattle.std.specs.Prelude.{◌≡◌, List, ℕ, ◌<◌, ◌-◌};
 ghost use Rattle.values.specs.Planes.{value_at};
 ghost use Rattle.masks.specs.Masks.{bits};
@@ -19,14 +20,14 @@ use plan_changes::{Made, Marks};
 const PLAIN: usize = 65536;
 
 // What a choice leaves: 0, or the number that refuses it, and the marks.
-#[derive(Drop)]
+#[derive(Clone, Copy)]
 pub struct Taken {
     pub number: u8,
     pub marks: Marks,
 }
 
 // What a run over a list leaves: how many choices were accepted, the number that stopped it, and the marks.
-#[derive(Drop)]
+#[derive(Clone, Copy)]
 pub struct ListRun {
     pub accepted: usize,
     pub number: u8,
@@ -34,7 +35,7 @@ pub struct ListRun {
 }
 
 // What a plain run leaves.
-#[derive(Drop)]
+#[derive(Clone, Copy)]
 pub struct PlainRun {
     pub accepted: u16,
     pub number: u8,

@@ -1,4 +1,5 @@
 // Expressions of a sheet laid out as nodes in a plan.
+#![tactic(auto)]
 ghost use Rattle.std.specs.Prelude.{◌≡◌};
 ghost use Rattle.plan.specs.Plan.{plan_of};
 ghost use Rattle.plan_exprs.specs.Flatten.{put_node, more, emit, none, made, add_at};
@@ -7,7 +8,7 @@ use plan::PlanTable;
 use sheet::{byte_at, word_at};
 
 // The node that has an expression's value, the next free node, the expression's width, and the place after it.
-#[derive(Drop)]
+#[derive(Clone, Copy)]
 pub struct Added {
     pub root: u32,
     pub free: u32,

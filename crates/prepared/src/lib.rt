@@ -1,5 +1,6 @@
 // A sheet prepared once, and the event simulator's calls on its plan. Each function equals its definition in specs/Prepared, for sheets,
 // plans and states of any contents.
+#![tactic(auto)]
 ghost use Rattle.std.specs.Prelude.{◌≡◌, List, ℕ, ◌<◌, get_or};
 ghost use Rattle.values.specs.Values.{ones};
 ghost use Rattle.state.specs.State.{full};
@@ -20,7 +21,7 @@ use state::{Counters, FULL, State};
 pub const USERS: u8 = 4;
 
 // Whether a sheet was accepted: 0, or the number that refuses it and the place.
-#[derive(Drop)]
+#[derive(Clone, Copy)]
 pub struct Prepared {
     pub number: u8,
     pub place: usize,

@@ -1,6 +1,7 @@
 // Many clock cycles in one call on a prepared plan. The state is laid out once, each instant and the plain run after it go on in the same
 // cells, and it is packed at the end; a trace writes what each of them leaves into a lent array. Each function equals its definition in
 // specs/, for plans, states and rows of any contents.
+#![tactic(auto)]
 mod drives;
 mod phases;
 mod rows;
@@ -21,7 +22,7 @@ use state::{Counters, State};
 
 // What many cycles give: how many instants were accepted and run to rest or to 65,535 choices; where they were stopped earlier,
 // the number that stopped them and whether it was the run after an instant that did; the state reached.
-#[derive(Drop)]
+#[derive(Clone, Copy)]
 pub struct Cycled {
     pub phases: usize,
     pub number: u8,
@@ -30,7 +31,7 @@ pub struct Cycled {
 }
 
 // What goes along with the cells: the marks, the counters, and the user whose choices are run.
-#[derive(Drop)]
+#[derive(Clone, Copy)]
 pub struct Standing {
     pub marks: Marks,
     pub counters: Counters,
@@ -38,7 +39,7 @@ pub struct Standing {
 }
 
 // What a phase leaves: the number that stopped it, 0 where none did, whether a run was, and what goes along with the cells.
-#[derive(Drop)]
+#[derive(Clone, Copy)]
 pub struct Phased {
     pub number: u8,
     pub running: bool,
@@ -47,7 +48,7 @@ pub struct Phased {
 
 // How it goes with cycles that are run to rest: the number that refused an instant, whether the run after it came to rest, the
 // generator's next seed, and what goes along with the cells.
-#[derive(Drop)]
+#[derive(Clone, Copy)]
 pub struct Went {
     pub number: u8,
     pub rested: bool,
@@ -57,7 +58,7 @@ pub struct Went {
 
 // What driven cycles give: how many instants were accepted and came to rest; whether all did, and where not, the number that refused one
 // (0 where it was run and did not come to rest); the generator's next seed, and the state reached.
-#[derive(Drop)]
+#[derive(Clone, Copy)]
 pub struct Driven {
     pub phases: usize,
     pub number: u8,

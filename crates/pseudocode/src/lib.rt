@@ -1,5 +1,6 @@
 // Pseudo-code: the instructions of a module's threads (document 01, "Values and pseudo-code").
 // A code table is filled once from a sheet that was accepted; `fetch` builds an instruction from it.
+#![tactic(auto)]
 ghost use Rattle.std.specs.Prelude.{◌≡◌, ◌+◌};
 ghost use Rattle.pseudocode.specs.Skipping.{argument_count, skip_arguments, skip_at};
 ghost use Rattle.pseudocode.specs.Filling.{first_word, store, after, emit, filling, filled, fill_assign, fill_sequence, fill_if, fill_if_else, fill_while, fill_forever, fill_at};
@@ -11,7 +12,7 @@ use sheet::{EdgeTerm, byte_at};
 use values::Edge;
 
 // The edge terms of a wait: `count` of them, the first in `t0`.
-#[derive(Drop)]
+#[derive(Clone, Copy)]
 pub struct EdgeTerms {
     pub count: u8,
     pub t0: EdgeTerm,
@@ -25,7 +26,7 @@ pub struct EdgeTerms {
 }
 
 // An instruction that runs. An expression stands by its place in the sheet.
-#[derive(Drop)]
+#[derive(Clone, Copy)]
 pub enum Action {
     Set { target: u8, at: usize },
     Later { target: u8, at: usize },
@@ -33,14 +34,14 @@ pub enum Action {
     IfNot { goal: usize, at: usize },
 }
 
-#[derive(Drop)]
+#[derive(Clone, Copy)]
 pub enum Instruction {
     Wait(EdgeTerms),
     Act(Action),
 }
 
 // How far the sheet was taken, and the thread's next place.
-#[derive(Drop)]
+#[derive(Clone, Copy)]
 pub struct Filled {
     pub next: usize,
     pub place: usize,

@@ -1,1 +1,2 @@
 // Laws of the simulation cycle that its steps on a plan rely on: a crate of laws, without code.
+#![tactic(auto)]

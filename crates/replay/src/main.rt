@@ -1,5 +1,6 @@
 // The replay program: a script of calls on standard input, a line for each of its records on standard output. Everything that
 // matters is in the library; a script of any bytes is run as far as it goes.
+#![tactic(auto)]
 ghost use Rattle.std.specs.Prelude.{◌<◌};
 ghost use Rattle.io.specs.Counts.{IsPrefixLen};
 
@@ -11,14 +12,14 @@ use saved::Brought;
 use state::{Counters, State};
 
 // Whether the script goes on, and the state that the next record finds.
-#[derive(Drop)]
+#[derive(Clone, Copy)]
 struct Next {
     on: bool,
     state: State,
 }
 
 // One value, a number and the marks of its unknown bits, where the record held it whole.
-#[derive(Drop)]
+#[derive(Clone, Copy)]
 struct Input {
     found: bool,
     value: u32,
@@ -26,7 +27,7 @@ struct Input {
 }
 
 // A flag and a number, where the record held them whole.
-#[derive(Drop)]
+#[derive(Clone, Copy)]
 struct Flagged {
     found: bool,
     flag: bool,
@@ -34,14 +35,14 @@ struct Flagged {
 }
 
 // The inputs of an instant or of a cycle run, where the record held them whole.
-#[derive(Drop)]
+#[derive(Clone, Copy)]
 struct Given {
     found: bool,
     inputs: Inputs,
 }
 
 // The turn records of modules, where the record held them whole.
-#[derive(Drop)]
+#[derive(Clone, Copy)]
 struct Turns {
     found: bool,
     count: u8,
@@ -50,21 +51,21 @@ struct Turns {
 }
 
 // What a cycle run is handed beside its inputs, where the record held it whole.
-#[derive(Drop)]
+#[derive(Clone, Copy)]
 struct Handed {
     found: bool,
     registers: Registers,
 }
 
 // Four allowances, where the record held them whole.
-#[derive(Drop)]
+#[derive(Clone, Copy)]
 struct Allowed {
     found: bool,
     allowances: [u32; 4],
 }
 
 // How many words of the two tables are lent, where the record held it.
-#[derive(Drop)]
+#[derive(Clone, Copy)]
 struct Lent {
     found: bool,
     nodes: usize,

@@ -1,5 +1,6 @@
 // The four runs of a comparison: how far they came, the verdict over the rows of their traces, chunk by chunk, and how it ends. Each
 // function equals its definition in specs/.
+#![tactic(auto)]
 mod meeting;
 
 ghost use Rattle.std.specs.Prelude.{◌≡◌, ◌<◌};
@@ -12,7 +13,7 @@ use options::Outcome;
 use trace_row::row_of;
 
 // How many whole cycles each of the four runs of a comparison did: the plain run, the orders of seeds 1 and 2, the expressions.
-#[derive(Drop)]
+#[derive(Clone, Copy)]
 pub struct Progress {
     pub plain: usize,
     pub first: usize,
@@ -21,7 +22,7 @@ pub struct Progress {
 }
 
 // The one of them that stopped first, if one did.
-#[derive(Drop)]
+#[derive(Clone, Copy)]
 pub enum Halt {
     Nobody,
     Plain,
@@ -31,7 +32,7 @@ pub enum Halt {
 }
 
 // How each of them ended a cycle, or the start.
-#[derive(Drop)]
+#[derive(Clone, Copy)]
 pub struct Endings {
     pub plain: Ending,
     pub first: Ending,
@@ -40,7 +41,7 @@ pub struct Endings {
 }
 
 // A cycle: does the comparison go on behind it, how did the first run end that stopped, and the verdict.
-#[derive(Drop)]
+#[derive(Clone, Copy)]
 pub struct Met {
     pub on: bool,
     pub ending: Ending,
@@ -48,7 +49,7 @@ pub struct Met {
 }
 
 // What is said at the end: nothing, that there was no cycle to compare, or the verdict.
-#[derive(Drop)]
+#[derive(Clone, Copy)]
 pub enum Telling {
     Silent,
     Uncompared,

@@ -1,6 +1,7 @@
 // Extraction's rules, numbers 12 to 20, judged on an accepted sheet's bytes and the tables that are filled from it once: which
 // registers each thread writes and which variables it reads, how statements wait, and the lowest rule that is broken.
 // Each function equals its definition in specs/ for bytes and tables of any contents.
+#![tactic(auto)]
 ghost use Rattle.std.specs.Prelude.{◌≡◌, not, ◌&&◌, ◌||◌};
 ghost use Rattle.masks.specs.Masks.{bits};
 ghost use Rattle.nextstate.specs.Rules.{is_posedge};
@@ -18,7 +19,7 @@ use sheet::{Layout, byte_at};
 use values::Edge;
 
 // The registers that a thread writes, as masks: by plain assignment, and by later assignment.
-#[derive(Drop)]
+#[derive(Clone, Copy)]
 pub struct Written {
     pub plain: u32,
     pub later: u32,
@@ -26,7 +27,7 @@ pub struct Written {
 
 // How a statement waits: does it start with a wait, does it surely wait, and do the bodies of all its loops surely wait? With
 // the place after it.
-#[derive(Drop)]
+#[derive(Clone, Copy)]
 pub struct Waiting {
     pub next: usize,
     pub starts: bool,

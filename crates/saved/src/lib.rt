@@ -1,4 +1,5 @@
 // The saved form of a state: written, read, and brought over from the older forms.
+#![tactic(auto)]
 mod bringing;
 mod fields;
 mod loading;
@@ -10,14 +11,14 @@ pub use saving::save;
 use state::State;
 
 // What loading finds: a state, or none.
-#[derive(Drop)]
+#[derive(Clone, Copy)]
 pub struct Loaded {
     pub found: bool,
     pub state: State,
 }
 
 // What bringing over gives: 0 and a state, or the number that refuses it.
-#[derive(Drop)]
+#[derive(Clone, Copy)]
 pub struct Brought {
     pub number: u8,
     pub state: State,

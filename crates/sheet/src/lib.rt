@@ -1,4 +1,5 @@
 // The sheet: bytes to module (document 01, "The sheet", with document 02, [5]), numbers 1 to 11, 44 and 45.
+#![tactic(auto)]
 mod body;
 pub mod bytes;
 mod expr;
@@ -16,35 +17,35 @@ pub use bytes::{byte_at, word_at};
 use values::Edge;
 
 // One pair of a wait: an edge and the variable that it is awaited on.
-#[derive(Drop)]
+#[derive(Clone, Copy)]
 pub struct EdgeTerm {
     pub edge: Edge,
     pub variable: u8,
 }
 
 // The sheet's bytes together with the next place in them.
-#[derive(Drop)]
+#[derive(Clone, Copy)]
 pub struct Reader<'a> {
     pub sheet: &'a [u8],
     pub at: usize,
 }
 
 // A byte that was read, or a refusal's number and place.
-#[derive(Drop)]
+#[derive(Clone, Copy)]
 pub enum ByteRead {
     Byte(u8),
     Refused { number: u8, place: usize },
 }
 
 // A number of four bytes that was read, or a refusal's number and place.
-#[derive(Drop)]
+#[derive(Clone, Copy)]
 pub enum WordRead {
     Word(u32),
     Refused { number: u8, place: usize },
 }
 
 // What reading an expression finds: the next place in the sheet and its width, or a refusal's number and place.
-#[derive(Drop)]
+#[derive(Clone, Copy)]
 pub enum ExprRead {
     Read { next: usize, width: u8 },
     Refused { number: u8, place: usize },
@@ -52,35 +53,35 @@ pub enum ExprRead {
 
 // What reading a call's arguments finds: the next place in the sheet and whether their widths are the parameters', or a
 // refusal's number and place.
-#[derive(Drop)]
+#[derive(Clone, Copy)]
 pub enum ArgumentsRead {
     Read { next: usize, fits: bool },
     Refused { number: u8, place: usize },
 }
 
 // What reading a wait's pairs finds: whether each edge suits its variable's width, or a refusal's number and place.
-#[derive(Drop)]
+#[derive(Clone, Copy)]
 pub enum TermsRead {
     Read { narrow: bool },
     Refused { number: u8, place: usize },
 }
 
 // What reading a statement finds: the next place in the sheet and its size, or a refusal's number and place.
-#[derive(Drop)]
+#[derive(Clone, Copy)]
 pub enum StmtRead {
     Read { next: usize, size: usize },
     Refused { number: u8, place: usize },
 }
 
 // What reading the widths finds: all within range, or a refusal's number and place.
-#[derive(Drop)]
+#[derive(Clone, Copy)]
 pub enum WidthsRead {
     Fine,
     Refused { number: u8, place: usize },
 }
 
 // What reading a sheet's head finds: the counts, or a refusal's number and place.
-#[derive(Drop)]
+#[derive(Clone, Copy)]
 pub enum HeadRead {
     Read {
         inputs: u8,
@@ -96,21 +97,21 @@ pub enum HeadRead {
 }
 
 // What reading a row of expressions or statements finds: the next place in the sheet, or a refusal's number and place.
-#[derive(Drop)]
+#[derive(Clone, Copy)]
 pub enum PlaceRead {
     At(usize),
     Refused { number: u8, place: usize },
 }
 
 // What reading the functions finds, and the place of each definition.
-#[derive(Drop)]
+#[derive(Clone, Copy)]
 pub struct FunctionsRead {
     pub read: PlaceRead,
     pub definitions: [usize; 8],
 }
 
 // What reading the wires finds, and the place of each expression.
-#[derive(Drop)]
+#[derive(Clone, Copy)]
 pub struct WiresRead {
     pub read: PlaceRead,
     pub starts: [usize; 32],
@@ -118,7 +119,7 @@ pub struct WiresRead {
 
 // Where things stand in a sheet that was read: the counts, the places of the first width, of each function's definition, of
 // each wire's expression and of the first thread.
-#[derive(Drop)]
+#[derive(Clone, Copy)]
 pub struct Layout {
     pub inputs: u8,
     pub registers: u8,
@@ -132,7 +133,7 @@ pub struct Layout {
 }
 
 // What reading a sheet finds: number 0 and the layout, or a refusal's number and place.
-#[derive(Drop)]
+#[derive(Clone, Copy)]
 pub struct SheetRead {
     pub number: u8,
     pub place: usize,

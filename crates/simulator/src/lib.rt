@@ -1,6 +1,7 @@
 // The event simulator (document 01, "The simulation cycle"): start, choose, run, run_plain, instant.
 // Each public call equals its definition in events' specs/Calls, for every sheet, state, choice, list and input.
 // A call reads the sheet, prepares its plan, and runs on that plan.
+#![tactic(auto)]
 ghost use Rattle.std.specs.Prelude.{◌≡◌};
 ghost use Rattle.events.specs.Calls.{start, choose, run_list, run_plain, instant};
 

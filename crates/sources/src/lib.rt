@@ -1,5 +1,6 @@
 // Where a command's module comes from: a sheet, or Verilog text. The words that say so are taken here, all others by `options`. And
 // what the command makes of a text: the names of its variables, and its sheet written out.
+#![tactic(auto)]
 ghost use Rattle.std.specs.Prelude.{◌≡◌, ◌<◌, length};
 ghost use Rattle.writing.specs.Buffer.{filled, puts};
 ghost use Rattle.naming.specs.Naming.{same_text};
@@ -10,7 +11,7 @@ use options::Options;
 use writing::put_byte;
 
 // What the words so far have asked for: what `options` takes, whether `--verilog` is among them, and whether the command is `sheet`.
-#[derive(Drop)]
+#[derive(Clone, Copy)]
 pub struct Words {
     pub options: Options,
     pub verilog: bool,

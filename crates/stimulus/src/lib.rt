@@ -1,5 +1,6 @@
 // The lines of the two files that stand beside a sheet: a line of inputs, which is a clock cycle, and a line of the names file.
 // Each function equals its definition in specs/, for every line.
+#![tactic(auto)]
 mod names;
 mod numbers;
 mod pieces;
@@ -19,7 +20,7 @@ use values::Value;
 use words::{at_end, byte_at, place, run_end};
 
 // Kinds of characters: blanks; what a word is made of, all but blanks, commas and `#`; letters, digits and `_`.
-#[derive(Drop)]
+#[derive(Clone, Copy)]
 pub enum Class {
     Blank,
     Word,
@@ -28,7 +29,7 @@ pub enum Class {
 
 // What waits of a file in a buffer: a line that ends at a place, nothing before more is read, a line that is longer than the buffer, or
 // nothing at all.
-#[derive(Drop)]
+#[derive(Clone, Copy)]
 pub enum Waiting {
     Whole(usize),
     More,
@@ -40,7 +41,7 @@ pub enum Waiting {
 // 3 one too wide for its input, 4 too few values, 5 too many, 6 an empty cell; column, from 1: of the value concerned, for 4 of the
 // line's end, for 6 of the comma.
 // Input k's value stands in slot k, number and marks of unknown bits, the clock's slot 0 is 0; count: the slots that are filled, the clock's with them.
-#[derive(Drop)]
+#[derive(Clone, Copy)]
 pub struct Line {
     pub error: u8,
     pub column: usize,
@@ -51,7 +52,7 @@ pub struct Line {
 
 // What a line of the names file holds. error: 0 a variable and its name, line[from..to]; 1 none (blank, or a comment); 2 no such
 // variable; 3 a name that is not allowed. column, from 1: of the word or the name concerned.
-#[derive(Drop)]
+#[derive(Clone, Copy)]
 pub struct NameLine {
     pub error: u8,
     pub column: usize,
@@ -61,14 +62,14 @@ pub struct NameLine {
 }
 
 // Digits that were read: was each a digit, and their number.
-#[derive(Drop)]
+#[derive(Clone, Copy)]
 pub struct Number {
     pub good: bool,
     pub n: u64,
 }
 
 // Binary digits that were read: was each 0, 1 or x; 32 bits of their number, and the marks of the x among them.
-#[derive(Drop)]
+#[derive(Clone, Copy)]
 pub struct Bits {
     pub good: bool,
     pub number: u32,
@@ -76,7 +77,7 @@ pub struct Bits {
 }
 
 // A word read as a value: the error, 0, 2 or 3; the marks of its unknown bits; the number, 0 under each mark.
-#[derive(Drop)]
+#[derive(Clone, Copy)]
 pub struct Entry {
     pub error: u8,
     pub unknown: u32,
@@ -84,7 +85,7 @@ pub struct Entry {
 }
 
 // A value taken from a line: its error, 0, 2, 3, 4 or 6; its column; the place behind it; the value.
-#[derive(Drop)]
+#[derive(Clone, Copy)]
 pub struct Taken {
     pub error: u8,
     pub column: usize,

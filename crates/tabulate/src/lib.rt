@@ -1,4 +1,5 @@
 // A run as a table of text, put into a lent buffer line by line: titles, cycles and values.
+#![tactic(auto)]
 ghost use Rattle.std.specs.Prelude.{◌≡◌, ◌-◌, ◌<◌, length, get_or};
 ghost use Rattle.values.specs.Cells.{cell_at};
 ghost use Rattle.writing.specs.Numbers.{decimal};
@@ -13,7 +14,7 @@ use values::Value;
 use writing::{put_byte, put_decimal, put_many, put_word};
 
 // How a table is written: the base of its numbers (16, 2, else 10), and commas in place of columns.
-#[derive(Drop)]
+#[derive(Clone, Copy)]
 pub struct Form {
     pub base: u8,
     pub csv: bool,

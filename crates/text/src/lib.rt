@@ -1,5 +1,6 @@
 // The listing's text (document 01, "Samples from the stands"), written into a lent buffer of 65,536 bytes.
 // Every contract says: buffer and new position are what putting the text at the old position gives.
+#![tactic(auto)]
 ghost use Rattle.std.specs.Prelude.{◌≡◌, ◌∷◌, [], get_or, length};
 ghost use Rattle.pseudocode.specs.Instruction.{no_term};
 ghost use Rattle.writing.specs.Numbers.{decimal};
@@ -14,7 +15,7 @@ use values::Edge;
 use writing::{put_byte, put_decimal, put_marked, put_word};
 
 // What printing an expression gives: the next place in the sheet and the next position in the buffer.
-#[derive(Drop)]
+#[derive(Clone, Copy)]
 pub struct Printed {
     pub next: usize,
     pub pos: usize,

@@ -1,5 +1,6 @@
 // Values, operators, conditions and edges (document 01, "Values and pseudo-code", "The simulation cycle"; document 02, request [4]), and
 // the cell of a value. Each function equals its definition in specs/, for every argument.
+#![tactic(auto)]
 ghost use Rattle.std.specs.Prelude.{◌≡◌, ◌%◌, ◌^◌, ◌<◌, nat_lt, slice_index};
 ghost use Rattle.values.specs.Values.{pick, known, ones, all_unknown, fits, holds, same};
 ghost use Rattle.values.specs.Operators.{unary_width, unary, flag, possible, marked, between, outside, certain};
@@ -10,14 +11,14 @@ ghost use Rattle.values.specs.Planes.{value_at, number_of, marks_of};
 ghost use Rattle.values.specs.Cells.{cell_of, value_of};
 
 // A number, and a second one that marks its unknown bits. In a value that fits its width the first has 0 under each mark.
-#[derive(Drop)]
+#[derive(Clone, Copy)]
 pub struct Value {
     pub number: u32,
     pub unknown: u32,
 }
 
 // What a wait waits for in a variable: any change, a posedge or a negedge.
-#[derive(Drop)]
+#[derive(Clone, Copy)]
 pub enum Edge {
     Change,
     Posedge,

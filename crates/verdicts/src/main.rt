@@ -1,5 +1,6 @@
 // The verdicts of `comparison` on rows that are made up: runs that agree, and runs that differ in a register, in a wire and in a place,
 // which no run of a module that extraction accepts does. What it writes is held to the file `stdout`.
+#![tactic(auto)]
 use comparison::{Counts, Verdict};
 use libc::STDOUT_FILENO;
 

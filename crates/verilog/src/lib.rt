@@ -1,5 +1,6 @@
 // The module as Verilog text (specs/Verilog.antt), written into a lent buffer of 65,536 bytes.
 // Every contract says: next place in the sheet, buffer and new position are what printing the text at the old position leaves.
+#![tactic(auto)]
 ghost use Rattle.std.specs.Prelude.{◌≡◌, ◌+◌, ◌-◌, ◌<◌, ◌≤◌, length};
 ghost use Rattle.values.specs.Edges.{edge_of};
 ghost use Rattle.writing.specs.Buffer.{filled, puts};
@@ -19,14 +20,14 @@ use signs::put_lead;
 use writing::{put_byte, put_decimal, put_many, put_word};
 
 // What printing a part gives: the next place in the sheet and the next position in the buffer.
-#[derive(Drop)]
+#[derive(Clone, Copy)]
 pub struct Printed {
     pub next: usize,
     pub pos: usize,
 }
 
 // What printing a sheet gives: number 0 and the text's length, or the refusal's number and 0.
-#[derive(Drop)]
+#[derive(Clone, Copy)]
 pub struct Text {
     pub number: u8,
     pub length: usize,
@@ -34,14 +35,14 @@ pub struct Text {
 
 // What is still to be printed of a node's operands: their operator, and how many. Arguments of a call have the operator 11 and how many
 // the call has.
-#[derive(Drop)]
+#[derive(Clone, Copy)]
 pub struct Operands {
     pub op: u8,
     pub left: u8,
 }
 
 // What is still to be printed of a statement: its shape and its level, and how many bodies.
-#[derive(Drop)]
+#[derive(Clone, Copy)]
 pub struct Bodies {
     pub shape: u8,
     pub level: u8,
@@ -878,7 +879,7 @@ fn print_functions(
 // ---- the module
 
 // How many variables stand before the wires, and how many wires there are.
-#[derive(Drop)]
+#[derive(Clone, Copy)]
 pub struct Counts {
     pub first: usize,
     pub wires: usize,

@@ -1,5 +1,6 @@
 // Expressions of a Verilog text, from the table of its tokens (verilog_tokens, specs/Table), written as a sheet has them into a buffer of
 // 65,536 bytes. Every contract says: answer and buffer are what the definition of the same name leaves, for tables of any contents.
+#![tactic(auto)]
 mod constants;
 mod operators;
 mod rows;
@@ -14,7 +15,7 @@ pub use rows::{expect, kind_at, number_at};
 use verilog_bytes::{put_pair, put_pair_front};
 
 // Whether a part was read, the next token's place (of a refusal: where it was met), and the next position in the buffer.
-#[derive(Drop)]
+#[derive(Clone, Copy)]
 pub struct Put {
     pub ok: bool,
     pub next: usize,

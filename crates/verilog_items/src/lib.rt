@@ -1,6 +1,7 @@
 // A module of Verilog text, read from the table of its tokens (verilog_tokens, specs/Table). What is declared, driven and run is noted
 // by token in two tables; expressions and statements are written from the buffer's beginning and left there. Each function equals its
 // definition in specs/, for tables of any contents.
+#![tactic(auto)]
 mod names;
 
 ghost use Rattle.std.specs.Prelude.{◌≡◌, List, ℕ};

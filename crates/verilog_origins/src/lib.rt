@@ -1,5 +1,6 @@
 // Which item of a Verilog text a byte of its sheet was written from (a declaration, an `assign` or an `always`), and where the text has
 // what a refusal of extraction concerns. Each function equals its definition in specs/, for every text.
+#![tactic(auto)]
 mod items;
 mod points;
 mod steps;
@@ -18,14 +19,14 @@ use verilog_names::{number, put_head, target_of};
 use verilog_scan::scan;
 
 // A token by whose bytes a sheet comes past a place, and the position behind them.
-#[derive(Drop)]
+#[derive(Clone, Copy)]
 pub struct Hit {
     pub token: usize,
     pub pos: usize,
 }
 
 // What a refusal of extraction concerns.
-#[derive(Drop)]
+#[derive(Clone, Copy)]
 pub enum Item {
     // A variable by its number: where it is declared.
     Variable(usize),

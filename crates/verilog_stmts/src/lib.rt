@@ -1,5 +1,6 @@
 // Statements of Verilog text: read from the tables of its tokens, written as the sheet has them (specs/Stmts.antt).
 // Each function takes where it is and answers where it came to; what was refused once stays so.
+#![tactic(auto)]
 ghost use Rattle.std.specs.Prelude.{◌≡◌, ◌∷◌, [], ◌-◌, ◌%◌};
 ghost use Rattle.verilog_exprs.specs.Rows.{wrote};
 ghost use Rattle.verilog_stmts.specs.Steps.{refused, after, is_next, write, front, stamped, named};
@@ -15,7 +16,7 @@ use verilog_exprs::{Put, expect, expression, kind_at, number_at, put_constant, w
 use writing::put_byte;
 
 // A case's tests so far: its subject's token, the place of the last test, where its default begins and ends, and whether it has one.
-#[derive(Drop)]
+#[derive(Clone, Copy)]
 struct Case {
     subject: usize,
     last: usize,

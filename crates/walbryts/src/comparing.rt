@@ -14,7 +14,7 @@ use rivals::{Endings, Met, Telling};
 use sheet::Layout;
 
 // The four runs: the plain one, those in the orders of seeds 1 and 2, and the one by the expressions.
-#[derive(Drop)]
+#[derive(Clone, Copy)]
 struct Runs {
     plain: Stand,
     first: Stand,
@@ -24,7 +24,7 @@ struct Runs {
 
 // Where the comparison has come to: whether it goes on, what keeps it from its end, the verdict so far, the runs, and what the inputs
 // have left.
-#[derive(Drop)]
+#[derive(Clone, Copy)]
 struct Sides {
     on: bool,
     outcome: Outcome,

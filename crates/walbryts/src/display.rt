@@ -66,7 +66,7 @@ pub fn variables(p: Plan) -> usize {
 
 // What the table shows: its form, the widths of the variables, those of its columns and which part of them, and the cycles from one to
 // another, every so many.
-#[derive(Drop)]
+#[derive(Clone, Copy)]
 pub struct View {
     pub form: Form,
     pub widths: [u8; 80],
@@ -135,7 +135,7 @@ pub fn view_by(p: Plan, o: Shape, index: usize, names: &[u8; 2560]) -> Viewed {
 }
 
 // A view, and whether it is right.
-#[derive(Drop)]
+#[derive(Clone, Copy)]
 pub struct Viewed {
     pub good: bool,
     pub view: View,

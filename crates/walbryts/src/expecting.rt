@@ -5,7 +5,7 @@ use libc::STDERR_FILENO;
 use options::Outcome;
 
 // The file: the word that names it, its descriptor or -1, how many lines were met, and how it went so far.
-#[derive(Drop)]
+#[derive(Clone, Copy)]
 pub struct Expected {
     pub index: usize,
     pub fd: i32,

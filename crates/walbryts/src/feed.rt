@@ -5,7 +5,7 @@ use stimulus::Waiting;
 
 // How far the file is read: the word that names it, its descriptor, the part of the buffer that waits, the line it begins with, whether
 // the file is at its end, and whether it could be read so far.
-#[derive(Drop)]
+#[derive(Clone, Copy)]
 pub struct Feed {
     pub index: usize,
     pub fd: i32,
@@ -18,7 +18,7 @@ pub struct Feed {
 
 // What the next line is: a row of inputs, the clock's slot in front, with the error of its line (`stimulus`): 0 for a row, 1 for the
 // file's end or a blank line, 7 for a line that is too long; and its column.
-#[derive(Drop)]
+#[derive(Clone, Copy)]
 pub struct Row {
     pub error: u8,
     pub column: usize,
@@ -158,7 +158,7 @@ pub fn next_row(f: Feed, buffer: &[u8; 65536], widths: &[u8; 80], inputs: u8) ->
 
 // How many slots they fill, 16 a row; where that is none, the error of the line that waits first and its column; and what the file has
 // left behind them.
-#[derive(Drop)]
+#[derive(Clone, Copy)]
 pub struct Rows {
     pub size: usize,
     pub error: u8,

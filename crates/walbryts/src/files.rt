@@ -3,7 +3,7 @@ use libc::{STDIN_FILENO, STDOUT_FILENO};
 use options::Outcome;
 
 // What was read: could it be, how far the buffer is filled, and from which descriptor.
-#[derive(Drop)]
+#[derive(Clone, Copy)]
 pub struct Got {
     pub good: bool,
     pub size: usize,

@@ -15,7 +15,7 @@ use state::State;
 // What a run goes by: the sheet's counts and widths, the words that name the module and the inputs, the wires shown or not, only the last
 // cycle or all, how far it has come told or not, and a waveform or none; whose choices they are, and how many each user has; the module's
 // descriptor, and the word that names a state to be written, with where it goes.
-#[derive(Drop)]
+#[derive(Clone, Copy)]
 pub struct Plan {
     pub inputs: u8,
     pub registers: u8,
@@ -47,7 +47,7 @@ pub fn widths_of(sheet: &[u8]) -> [u8; 80] {
 }
 
 // Where a run stands: whose choices they are, the state by events, the registers by expressions, and the two rows of the last cycle.
-#[derive(Drop)]
+#[derive(Clone, Copy)]
 pub struct Stand {
     pub user: u8,
     pub rest: Rest,
@@ -108,7 +108,7 @@ pub fn say_unrest(index: usize, cycle: usize, e: Ending) {
 // ---- cycles
 
 // What rows of inputs leave: how many cycles came to rest, whose rows are written, and where the run stands.
-#[derive(Drop)]
+#[derive(Clone, Copy)]
 pub struct Gone {
     pub cycles: usize,
     pub stand: Stand,

@@ -1,6 +1,7 @@
 // The desk's command over the proved libraries: a module, out of a sheet or of Verilog text, listed, checked, run, extracted, compared,
 // or written as Verilog or as a sheet. Everything that matters is in the libraries; this program reads files, calls them and writes
 // what they give.
+#![tactic(auto)]
 mod comparing;
 mod display;
 mod expecting;

@@ -20,7 +20,7 @@ use sheet::Layout;
 // Where a run has come to: whether it goes on, how it ends, what the inputs have left, how many slots of inputs wait to be run, the line
 // that was wrong (its error, 0 for none, and its column), what the table shows, how many cycles wait to be shown, the page, and where the
 // run stands.
-#[derive(Drop)]
+#[derive(Clone, Copy)]
 struct Course {
     on: bool,
     outcome: Outcome,
@@ -35,7 +35,7 @@ struct Course {
 }
 
 // What was shown: whether it could be written, the cycles, how much of the table waits, the waveform, and what the table is held to.
-#[derive(Drop)]
+#[derive(Clone, Copy)]
 struct Page {
     good: bool,
     cycle: usize,

@@ -11,14 +11,14 @@ use state::State;
 use writing::put_word;
 
 // Whether there is a state to begin with, and which.
-#[derive(Drop)]
+#[derive(Clone, Copy)]
 struct Given {
     outcome: Outcome,
     state: State,
 }
 
 // Where a run begins, and whether it does.
-#[derive(Drop)]
+#[derive(Clone, Copy)]
 pub struct Begun {
     pub outcome: Outcome,
     pub stand: Stand,

@@ -10,7 +10,7 @@ use options::Outcome;
 use outputs::Aim;
 
 // The file: its descriptor, or -1 where there is none; is it to take another's place; how much text waits; and was all written so far?
-#[derive(Drop)]
+#[derive(Clone, Copy)]
 pub struct Wave {
     pub fd: i32,
     pub whole: bool,
@@ -19,7 +19,7 @@ pub struct Wave {
 }
 
 // What is known of the file that a word names: can it be written, how, by which descriptor, and how long its name is.
-#[derive(Drop)]
+#[derive(Clone, Copy)]
 pub struct Target {
     pub good: bool,
     pub whole: bool,

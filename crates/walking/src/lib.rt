@@ -1,1 +1,2 @@
 // What the extracted nodes are worth: a crate of laws, without code.
+#![tactic(auto)]

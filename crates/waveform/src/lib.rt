@@ -1,4 +1,5 @@
 // A run as a value change dump (VCD, IEEE 1364), put into a lent buffer piece by piece.
+#![tactic(auto)]
 ghost use Rattle.std.specs.Prelude.{◌≡◌, ◌∷◌, [], map, ◌+◌, ◌<◌, get_or};
 ghost use Rattle.values.specs.Cells.{cell_at};
 ghost use Rattle.values.specs.Values.{pick, same};
@@ -15,7 +16,7 @@ use values::Value;
 use writing::{put_byte, put_marked, put_word};
 
 // How many of each kind a module has.
-#[derive(Drop)]
+#[derive(Clone, Copy)]
 pub struct Counts {
     pub inputs: u8,
     pub registers: u8,

@@ -1,6 +1,7 @@
 // What breaks the rule that extraction refuses a sheet by (document 01, numbers 12 to 21): the thread, register, wire or wait concerned.
 // specs/Breaks says what is promised of it. It is found on the tables that are filled from the sheet, as the lowest number of which a
 // test holds; a test is named by an enum.
+#![tactic(auto)]
 mod coded;
 mod looping;
 mod masked;
@@ -17,7 +18,7 @@ use sheet::Layout;
 
 // What breaks a rule. `number` is the rule's, 0 where extraction accepts; 1 to 11 where the sheet isn't read, and then nothing is
 // named. What a rule doesn't name is 0. A register and a wire go by their own numbers, not their variables'.
-#[derive(Drop)]
+#[derive(Clone, Copy)]
 pub struct Witness {
     pub number: u8,
     pub thread: usize,
@@ -34,7 +35,7 @@ pub struct Witness {
 }
 
 // Tests on a number k, by the masks of the registers that threads write and of the threads and wires that read a variable.
-#[derive(Drop)]
+#[derive(Clone, Copy)]
 pub enum MarkTest {
     // Register k is written by two threads.
     Twice,
@@ -65,7 +66,7 @@ pub enum MarkTest {
 }
 
 // Tests on a number k, by the threads' code.
-#[derive(Drop)]
+#[derive(Clone, Copy)]
 pub enum CodeTest {
     // Thread k has a wait other than the single posedge of the clock.
     OtherWait,
@@ -84,7 +85,7 @@ pub enum CodeTest {
 }
 
 // Tests on a number k, by the threads' statements.
-#[derive(Drop)]
+#[derive(Clone, Copy)]
 pub enum BodyTest {
     // Thread k doesn't start with a wait.
     Running,

@@ -1,5 +1,6 @@
 // The work of clock cycles: the wires that the plain run stores, and the wires that read a variable whose value changed, counted from
 // each instant and each commit up to quiet or the next commit and summed over a cycle. Each function equals its definition in specs/.
+#![tactic(auto)]
 ghost use Rattle.std.specs.Prelude.{◌≡◌, ◌<◌, ◌≤◌, get_or};
 ghost use Rattle.plan.specs.Plan.{plan_of};
 ghost use Rattle.workload.specs.Workload.{tally, summed, stretched, committed, is_over, to_rest, driven, row_of, inputs_at, cycled};
@@ -23,7 +24,7 @@ const ROWS: usize = 32;
 
 // What was counted so far: the number that stopped it, whether all is quiet, the wires stored, the wires that read a changed variable,
 // and the state.
-#[derive(Drop)]
+#[derive(Clone, Copy)]
 pub struct Tally {
     pub number: u8,
     pub rested: bool,
