@@ -1,7 +1,7 @@
 -- Words of a command line, computed.
 use mathlib.Core.Path.{◌≡◌, refl}
 use mathlib.Core.Bool.{true}
-use mathlib.Core.List.{List, [], ◌∷◌}
+use mathlib.Core.List.{[], ◌∷◌}
 use Rattle.hextext.specs.Characters.{digit_of}
 use Rattle.writing.specs.Ascii.{ascii}
 use Rattle.allowances.specs.Allowances.{user_of, nothing, spoilt, digit_taken, comma_taken, taken, taken_all, allowances, refused, allowed_by, allowances_of}

@@ -1,6 +1,7 @@
 // Whose choices a run's are, and how many each user has, out of the words of a command line. Each function equals its definition in
 // specs/, for every word.
 #![tactic(auto)]
+
 ghost use Rattle.std.specs.Prelude.{◌≡◌};
 ghost use Rattle.allowances.specs.Allowances.{user_of, nothing, spoilt, digit_taken, comma_taken, taken, refused, allowed_by, allowances_of};
 

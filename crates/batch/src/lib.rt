@@ -1,6 +1,7 @@
 // Many clock cycles in one call, equal to the repeated single calls of its definition in specs/Cycles for every sheet, state
 // and rows. The sheet is prepared, and the cycles are run on its plan.
 #![tactic(auto)]
+
 ghost use Rattle.std.specs.Prelude.{◌≡◌, false};
 ghost use Rattle.batch.specs.Cycles.{cycled, run_cycles, told};
 

@@ -1,5 +1,6 @@
 // A value bit by bit, put into a lent buffer: one digit a bit, x where it is unknown.
 #![tactic(auto)]
+
 ghost use Rattle.std.specs.Prelude.{◌≡◌};
 ghost use Rattle.writing.specs.Buffer.{filled, puts};
 ghost use Rattle.binary_text.specs.BinaryText.{bit, bits, bits_of, is_known, is_x};

@@ -1,5 +1,5 @@
 -- The instructions of a body do what its tree does: what is done along them is the same, and so is the result.
-use mathlib.Core.Path.{◌≡◌, refl, sym, ap, ◌∙◌}
+use mathlib.Core.Path.{◌≡◌, refl, ap, ◌∙◌}
 use Prim.Native.Nat.{ℕ, zero, suc, ◌+◌, ◌≤◌, ◌<◌}
 use native.Mathlib.Omega.{arith}
 use mathlib.Core.Bool.{Bool, true, false}
@@ -9,7 +9,7 @@ use Rattle.values.specs.declared.Value.{Value}
 use Rattle.values.specs.Values.{pick, holds}
 use Rattle.sheet.specs.Expression.{Expr, Body, nothing, result, in_turn, if_then, if_else}
 use Rattle.evaluation.specs.Evaluation.{frame, eval, run}
-use Rattle.bodies.specs.Steps.{Step, set!, go, ifnot, size_of, lay_out}
+use Rattle.bodies.specs.Steps.{Step, go, size_of, lay_out}
 use Rattle.bodies.specs.Along.{along, step, steps, work_assign, work_branch, run_steps}
 use Rattle.bodies.proofs.Steps.{lay_out-size, Lies, lies-first, lies-second, lies-here, lies-on}
 

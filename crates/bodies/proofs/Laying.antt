@@ -2,7 +2,6 @@
 use mathlib.Core.Path.{◌≡◌, refl, sym, ap, ◌∙◌, subst}
 use Prim.Native.Nat.{ℕ, zero, suc, ◌+◌, ◌-◌, ◌*◌, ◌≤◌, ◌<◌}
 use native.Mathlib.Omega.{arith}
-use native.Mathlib.Numerals.{add-one}
 use mathlib.Core.Bool.{Bool, true, false}
 use mathlib.Core.List.{List, [], ◌∷◌, ◌++◌, append-nil, append_assoc}
 use lib.Dec.{ltb, leb, eqb}
@@ -10,10 +9,10 @@ use lib.ListN.{length, get_or, set, take, replicate, length-set, length-append, 
 use lib.Seq.{length-take-le, sets-eq, get_or-set_same, get_or-set_other, get_or_at, take_at, take-suc, take_all, sets}
 use borrow.Author.Tests.{lt-ltb, le-ltb, ltb-true, ltb-false, leb-true}
 use Rattle.values.specs.Values.{pick}
-use Rattle.sheet.specs.Reading.{Res, ok, within}
-use Rattle.sheet.specs.Expression.{Expr, Function, no_function, Scope, Parsed}
-use Rattle.sheet.specs.Functions.{read_widths, Bodied, read_body, body_scope, function_of, Made, read_function, Defined, read_functions}
-use Rattle.sheet.specs.Module.{read_head, with_functions, read_wires, read_threads, Sheet, whole_sheet}
+use Rattle.sheet.specs.Reading.{ok, within}
+use Rattle.sheet.specs.Expression.{Function, no_function, Scope}
+use Rattle.sheet.specs.Functions.{read_widths, read_body, body_scope, function_of, Made, read_function, Defined, read_functions}
+use Rattle.sheet.specs.Module.{read_head, with_functions, read_wires, read_threads, whole_sheet}
 use Rattle.sheet.specs.Answers.{definitions_of}
 use Rattle.sheet.proofs.Reading.{ok-injective, bind_ok, check-ok, within-ok}
 use Rattle.sheet.proofs.Sections.{headed}
@@ -22,11 +21,11 @@ use Rattle.pseudocode.proofs.Skipping.{Counted, counted_none, functions-counted}
 use Rattle.pseudocode.proofs.Filling.{Frame}
 use Rattle.bodies.specs.Steps.{size_of, lay_out}
 use Rattle.bodies.specs.Filling.{fill_at}
-use Rattle.bodies.specs.Laying.{Laid, laid, body_at, lay_one, lay_from, function_count, lay_at, fetch_at}
-use Rattle.bodies.specs.Claims.{own_scope, Fetched, Holds, BodiesLaid}
+use Rattle.bodies.specs.Laying.{Laid, laid, body_at, lay_one, lay_from, function_count, lay_at}
+use Rattle.bodies.specs.Claims.{own_scope, Holds, BodiesLaid}
 use Rattle.bodies.proofs.Steps.{lay_out-size}
 use Rattle.bodies.proofs.Reading.{derive-body, body_bytes}
-use Rattle.bodies.proofs.Holding.{Held, held-before, held_at, Fills, fills}
+use Rattle.bodies.proofs.Holding.{Held, held-before, held_at, fills}
 
 -- ---- one turn of the loop
 

@@ -1,5 +1,5 @@
 -- Which bytes are a body, said without the reader, and how many bytes its instructions take. Assumes nothing.
-use mathlib.Core.Path.{◌≡◌, refl, ◌∙◌}
+use mathlib.Core.Path.{◌≡◌, ◌∙◌}
 use Prim.Native.Nat.{ℕ, zero, suc, ◌+◌, ◌*◌, ◌≤◌, ◌<◌}
 use native.Mathlib.Omega.{arith}
 use mathlib.Core.List.{List}
@@ -37,6 +37,7 @@ all_after (an-argument x es) =
 
 -- An expression takes two bytes or more.
 two_bytes : {c : Scope} {s : List ℕ} (d : ℕ) {p : ℕ} {q : Parsed Expr} → Reads c s d p q → p + 2 ≤ q.next
+two_bytes {c = c} {s = s} zero {p = p} {q = q} x' = elim x' [ ]
 two_bytes (suc d) (a-variable m h e l) = omega arith
 two_bytes (suc d) (a-constant m w h e l) = omega arith
 two_bytes (suc d) (an-unknown m w) = omega arith

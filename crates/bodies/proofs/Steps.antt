@@ -4,7 +4,7 @@ use Prim.Native.Nat.{ℕ, ◌+◌}
 use native.Mathlib.Omega.{arith}
 use mathlib.Core.List.{List, [], ◌∷◌, ◌++◌}
 use lib.ListN.{length, length-append}
-use Rattle.sheet.specs.Expression.{Expr, Body, nothing, result, in_turn, if_then, if_else}
+use Rattle.sheet.specs.Expression.{Body, nothing, result, in_turn, if_then, if_else}
 use Rattle.bodies.specs.Steps.{Step, size_of, lay_out}
 
 pub lay_out-size : (b : Body) (n : ℕ) → length (lay_out b n) ≡ size_of b
@@ -30,11 +30,11 @@ pub data Lies {E : Type 0} (fetch : ℕ → Step E) : ℕ → List (Step E) → 
 module _ {E : Type 0} {fetch : ℕ → Step E} where
   pub lies-first : {p : ℕ} (is js : List (Step E)) → Lies fetch p (is ++ js) → Lies fetch p is
   lies-first [] js h = none
-  lies-first (i ∷ is) js (more x h) = more x (lies-first is js h)
+  lies-first {p = p} (i ∷ is) js (more x h) = more x (lies-first {p = p + 1} is js h)
 
   pub lies-second : {p : ℕ} (is : List (Step E)) {js : List (Step E)} (q : ℕ) → q ≡ p + length is → Lies fetch p (is ++ js) → Lies fetch q js
   lies-second {p} [] q e h = let z : q ≡ p = omega arith in rw z h
-  lies-second {p} (i ∷ is) q e (more x h) = lies-second is q (omega arith) h
+  lies-second {p} (i ∷ is) q e (more x h) = lies-second {p = p + 1} is q (omega arith) h
 
   pub lies-here : {p : ℕ} {i : Step E} {js : List (Step E)} → Lies fetch p (i ∷ js) → fetch p ≡ i
   lies-here (more x h) = x

@@ -1,6 +1,7 @@
 // The bodies of a sheet's functions as instructions that lead forward only (document 02, [5]).
 // A code table is filled once from a sheet that was accepted; `fetch` gives an instruction of it.
 #![tactic(auto)]
+
 ghost use Rattle.std.specs.Prelude.{◌≡◌};
 ghost use Rattle.pseudocode.specs.Filling.{first_word, filling, filled};
 ghost use Rattle.bodies.specs.Filling.{store, after, fill_result, fill_in_turn, fill_if, fill_if_else, fill_at};

@@ -1,6 +1,7 @@
 // Number 24 of document 01 on the plan of a sheet: are the 4,096 nodes of lent tables in order, and the rows of all the sheet's waits?
 // Each function equals its definition in specs/ for plans and words of any contents; specs/Claims says what that is for a module.
 #![tactic(auto)]
+
 mod judged_nodes;
 mod judged_rows;
 

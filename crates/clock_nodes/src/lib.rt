@@ -2,6 +2,7 @@
 // after the variables' cells, and a node that is a variable is that variable's own cell. Each function equals its definition in specs/
 // for words of any contents.
 #![tactic(auto)]
+
 ghost use Rattle.std.specs.Prelude.{◌≡◌, ◌<◌, get_or};
 ghost use Rattle.masks.specs.Masks.{bits};
 ghost use Rattle.clock_nodes.specs.Copying.{cell_in, first_of, second_of, third_of, copy_node, copy_all, low_in, lower, lowest, low_node};

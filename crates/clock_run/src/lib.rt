@@ -2,6 +2,7 @@
 // laid out in cells, and registers, places and wires taken out again. Each function equals its definition in specs/ for plans and tables
 // of any contents.
 #![tactic(auto)]
+
 ghost use Rattle.std.specs.Prelude.{◌≡◌, ◌+◌, ◌*◌, ◌/◌, ◌≤◌, ◌<◌, length, get_or};
 ghost use Rattle.values.specs.Planes.{value_at};
 ghost use Rattle.plan.specs.Plan.{plan_of};

@@ -1,6 +1,7 @@
 // A clock cycle on one plane of cells: the wires settled by a plan's nodes, then each thread's written registers and place taken from the
 // nodes of its wait's row. Each function equals its definition in specs/ for tables, cells and places of any contents.
 #![tactic(auto)]
+
 ghost use Rattle.std.specs.Prelude.{◌≡◌, ◌+◌, ◌-◌, ◌%◌, ◌<◌, ◌≤◌};
 ghost use Rattle.values.specs.Planes.{number_of};
 ghost use Rattle.values.specs.Cells.{value_of};

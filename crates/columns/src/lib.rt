@@ -1,5 +1,6 @@
 // The variables that a table has columns for: in the sheet's order, or by their names. Each function equals its definition in specs/.
 #![tactic(auto)]
+
 ghost use Rattle.std.specs.Prelude.{◌≡◌};
 ghost use Rattle.columns.specs.Columns.{in_order, first_of, behind_of, variable_of, name_end, choice, chosen, all_chosen};
 

@@ -1,6 +1,7 @@
 // What a comparison of runs says: where the rows of two runs differ after a cycle, which of several orders differs first from the
 // extracted expressions, and the verdict over all cycles, with its words. Each function equals its definition in specs/.
 #![tactic(auto)]
+
 mod saying;
 
 ghost use Rattle.std.specs.Prelude.{◌≡◌, ◌∷◌, [], ◌-◌};

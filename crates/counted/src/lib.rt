@@ -1,6 +1,7 @@
 // The plain run's wire stores, counted on a plan: a run up to quiet or the next commit with the number of wires that it stores, and the
 // number of wires that read a variable whose value differs between two states. crates/work proves that the two are equal.
 #![tactic(auto)]
+
 ghost use Rattle.std.specs.Prelude.{◌≡◌, ◌≤◌};
 ghost use Rattle.plan.specs.Plan.{plan_of};
 ghost use Rattle.plan_engine.specs.Live.{live};

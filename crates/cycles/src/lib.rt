@@ -1,6 +1,7 @@
 // The cycle run (document 01, "Extraction and the cycle run"): a sheet and lent tables are judged and laid out once, and clock cycles are
 // worked out by them.
 #![tactic(auto)]
+
 ghost use Rattle.std.specs.Prelude.{◌≡◌, false, ◌||◌, ℕ, ◌<◌, get_or};
 ghost use Rattle.masks.specs.Masks.{bits};
 ghost use Rattle.nextstate.specs.CycleRun.{refused, cycle_run};

@@ -2,4 +2,3 @@ pub mod Circle
 pub mod Turns
 pub mod Planes
 pub mod Claims
-pub mod Walks

@@ -1,5 +1,6 @@
 // The dispatcher (document 02, request [8]): up to eight modules are run side by side, and each call gives one of them a turn.
 #![tactic(auto)]
+
 mod picking;
 pub mod records;
 pub mod slices;

@@ -1,4 +1,4 @@
-// The lent list. Each function here has a slice of records, and its proof is a walk of its code; the core does the work.
+// The lent list. Each function here has a slice of records; the core does the work.
 ghost use Rattle.std.specs.Prelude.{◌≡◌};
 ghost use Rattle.dispatch.specs.Dispatch.{record_at, given, dispatched, records_after};
 ghost use Rattle.dispatch.specs.Turn.{first_eight};

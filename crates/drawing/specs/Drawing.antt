@@ -5,7 +5,7 @@ use Rattle.values.specs.declared.Value.{Value}
 use Rattle.values.specs.Values.{pick, ◌is◌then◌else◌, same}
 use Rattle.values.specs.Planes.{number_of}
 use Rattle.values.specs.Cells.{cell_at}
-use Rattle.writing.specs.Ascii.{ascii, byte}
+use Rattle.writing.specs.Ascii.{ascii}
 use Rattle.writing.specs.Numbers.{decimal}
 use Rattle.naming.specs.Naming.{name_of, within, texts}
 use Rattle.trace_row.specs.TraceRow.{row_of}

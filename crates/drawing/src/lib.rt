@@ -1,6 +1,7 @@
 // A run as a drawing (SVG), put into a lent buffer piece by piece: the head, a lane for each variable, the foot. What would pass the
 // buffer's end is not put.
 #![tactic(auto)]
+
 ghost use Rattle.std.specs.Prelude.{◌≡◌, ◌++◌, ◌-◌, ◌<◌, ◌≤◌, get_or};
 ghost use Rattle.writing.specs.Buffer.{filled, puts};
 ghost use Rattle.naming.specs.Naming.{name_of, texts};

@@ -1,6 +1,7 @@
 // A module driven by events through the halves of clock cycles: an instant, and then the plain run, or choices drawn by a seed until
 // nothing is left to choose. Each function equals its definition in specs/.
 #![tactic(auto)]
+
 mod going;
 mod saying;
 mod states;

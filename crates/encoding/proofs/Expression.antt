@@ -47,6 +47,7 @@ module _ {c : Scope} {s : List ℕ} {d : ℕ} where
 -- By the depth.
 typed : {c : Scope} {s : List ℕ} (d : ℕ) {p : ℕ} {q : Parsed Expr} → Reads c s d p q → WellTyped c d q.item q.width
 unfolding WellTyped
+typed {c = c} {s = s} zero {p = p} {q = q} x' = elim x' [ ]
 typed (suc d) (a-variable m h e l) = (l, refl)
 typed (suc d) (a-constant m w h e l) = ((w.least, w.most), l, refl)
 typed (suc d) (an-unknown m w) = ((w.least, w.most), refl)
@@ -60,6 +61,7 @@ reads-typed {d = d} r = typed d r
 
 spelled : {c : Scope} {s : List ℕ} (d : ℕ) {p : ℕ} {q : Parsed Expr} → Bytes s → Reads c s d p q → Spells s p (encode_expr q.item) q.next
 unfolding encode_expr
+spelled {c = c} {s = s} zero {p = p} {q = q} bs x'' = elim x'' [ ]
 spelled (suc d) bs (a-variable m h e l) = spells-two h m e (spells-nil (omega arith))
 spelled {s = s} (suc d) {p = p} bs (a-constant m w h e l) =
     let t : p + 2 + 4 ≡ p + 6 = omega arith in

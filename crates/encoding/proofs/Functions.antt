@@ -8,16 +8,16 @@ use lib.ListN.{length, get_or, take, length-append}
 use lib.Seq.{length-take-le, take_all, take-suc, take-append_seam}
 use lib.Dec.{eqb}
 use borrow.Author.Tests.{eq-eqb, eqb-true}
-use Rattle.sheet.specs.Reading.{Res, ok, no, byte_at, within}
-use Rattle.sheet.specs.Expression.{Expr, Body, nothing, result, in_turn, if_then, if_else, Function, Scope, read_expr, tree}
+use Rattle.sheet.specs.Reading.{ok, byte_at, within}
+use Rattle.sheet.specs.Expression.{Body, nothing, result, in_turn, if_then, if_else, Function, Scope, read_expr}
 use Rattle.sheet.specs.Statement.{is_register, Form, an_empty, an_assign, a_later, a_sequence, an_if, an_if_else, a_while, a_forever, a_wait, form_of}
 use Rattle.sheet.specs.Functions.{read_widths, Bodied, body_form, read_body, body_scope, function_of, Made, read_function, Defined, read_functions}
 use Rattle.sheet.proofs.Reading.{no≢ok, ok-injective, bind_ok, check-ok, byte-ok, byte-at, Within, within-ok, within-at}
 use Rattle.sheet.proofs.Expression.{derive, accept}
 use Rattle.sheet.proofs.Statements.{form_map, form-map, map-form}
 use Rattle.encoding.specs.Encoding.{Bytes, encode_expr}
-use Rattle.encoding.specs.WellFormed.{HasWidth, IsTarget, AreWidths}
-use Rattle.encoding.specs.Whole.{encode_body, widths_of, encode_function, encode_functions, BodyFits, scope_of, FunctionFits, FunctionsFit}
+use Rattle.encoding.specs.WellFormed.{IsTarget, AreWidths}
+use Rattle.encoding.specs.Whole.{encode_body, widths_of, encode_function, encode_functions, BodyFits, FunctionFits, FunctionsFit}
 use Rattle.encoding.proofs.Spelling.{Spells, spells-nil, spells-cons, spells-head, spells-two, spells-heads, spells-append, spells-split}
 use Rattle.encoding.proofs.Expression.{within_of, reads-typed, reads-spells, spells-reads}
 use Rattle.encoding.proofs.Statements.{register-target, target-register}

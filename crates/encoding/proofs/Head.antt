@@ -45,9 +45,9 @@ widths-ok (suc n) s p b h =
 pub widths-at : {s : List ℕ} {p q : ℕ} (ws : List ℕ) → AreWidths ws → Spells s p ws q → read_widths (length ws) s p ≡ ok ws
 unfolding read_widths AreWidths
 widths-at [] t r = refl
-widths-at {s} {p} (w ∷ ws) t r =
+widths-at {s} {p = p} (w ∷ ws) t r =
     let h = spells-head r in
-    simp (within-at 1 32 4 s p (within_of h.0 h.1 t.0.0 t.0.1), widths-at ws t.1 h.2)
+    simp (within-at 1 32 4 s p (within_of h.0 h.1 t.0.0 t.0.1), widths-at {p = p + 1} ws t.1 h.2)
 
 -- ---- the first byte and the count of functions
 

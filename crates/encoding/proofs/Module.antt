@@ -116,10 +116,10 @@ unfolding read_threads ThreadsFit encode_threads
 threads-at c {s} {p} {q} [] t r =
     let e : q ≡ p = omega (arith, r.ends) in
     rw e refl
-threads-at c {s} (b ∷ bs) t r =
+threads-at c {s} {p = p} (b ∷ bs) t r =
     let x = spells-split (encode_stmt b) (encode_threads bs) r in
     simp (
       accept-stmt (tree s) c s (spells-stmt b t.0 x.0),
       le-leb (size b + 1) 256 t.1,
-      threads-at c bs t.2 x.1,
+      threads-at c {p = p + length (encode_stmt b)} bs t.2 x.1,
     )

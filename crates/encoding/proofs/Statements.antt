@@ -88,11 +88,11 @@ pub spells-terms : (ws : List ℕ) {s : List ℕ} {p q : ℕ} (ts : List EdgeTer
     → ReadsTerms ws s (length ts) p ts
 unfolding encode_terms PairsFit
 spells-terms ws [] h r = no-terms
-spells-terms ws (t ∷ ts) h r =
+spells-terms ws {p = p} (t ∷ ts) h r =
     let x = spells-heads r in
     let below = x.0 in
     rw (← edge_of-edge_number t.edge)
-    (a-term (within_of (omega arith) x.1 (omega arith) (edge_number-le t.edge)) x.0 x.2 h.0 (spells-terms ws ts h.2 x.3))
+    (a-term (within_of (omega arith) x.1 (omega arith) (edge_number-le t.edge)) x.0 x.2 h.0 (spells-terms ws {p = p + 2} ts h.2 x.3))
 
 -- ---- read, therefore well built and encoded there
 
@@ -146,23 +146,23 @@ spells-stmt {c} {d = suc d} (later v e) t r =
 spells-stmt {d = suc d} (sequence a b) t r =
     let h = spells-head r in
     let x = spells-split (encode_stmt a) (encode_stmt b) h.2 in
-    a-sequence h.0 h.1 (spells-stmt a t.0 x.0) (spells-stmt b t.1 x.1)
+    a-sequence h.0 h.1 (spells-stmt {d = d} a t.0 x.0) (spells-stmt {d = d} b t.1 x.1)
 spells-stmt {c} {d = suc d} (if_then e a) t r =
     let h = spells-head r in
     let x = spells-split (encode_expr e) (encode_stmt a) h.2 in
-    an-if h.0 h.1 (spells-tree c e t.0.1 x.0) (spells-stmt a t.1 x.1)
+    an-if h.0 h.1 (spells-tree c e t.0.1 x.0) (spells-stmt {d = d} a t.1 x.1)
 spells-stmt {c} {d = suc d} (if_else e a b) t r =
     let h = spells-head r in
     let y = spells-split (encode_expr e ++ encode_stmt a) (encode_stmt b) h.2 in
     let x = spells-split (encode_expr e) (encode_stmt a) y.0 in
-    an-if-else h.0 h.1 (spells-tree c e t.0.1 x.0) (spells-stmt a t.1 x.1) (spells-stmt b t.2 y.1)
+    an-if-else h.0 h.1 (spells-tree c e t.0.1 x.0) (spells-stmt {d = d} a t.1 x.1) (spells-stmt {d = d} b t.2 y.1)
 spells-stmt {c} {d = suc d} (while e a) t r =
     let h = spells-head r in
     let x = spells-split (encode_expr e) (encode_stmt a) h.2 in
-    a-while h.0 h.1 (spells-tree c e t.0.1 x.0) (spells-stmt a t.1 x.1)
+    a-while h.0 h.1 (spells-tree c e t.0.1 x.0) (spells-stmt {d = d} a t.1 x.1)
 spells-stmt {d = suc d} (forever a) t r =
     let h = spells-head r in
-    a-forever h.0 h.1 (spells-stmt a t h.2)
+    a-forever h.0 h.1 (spells-stmt {d = d} a t h.2)
 spells-stmt {c} {d = suc d} {p = p} {q = q} (wait ts) t r =
     let h = spells-heads r in
     let e : q ≡ p + 2 + 2 * length ts = omega (arith, r.ends, length-terms ts) in

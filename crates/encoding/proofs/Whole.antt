@@ -1,25 +1,21 @@
 -- The whole reading and the whole encoding undo each other: sheets with functions. Assumes nothing.
 use mathlib.Core.Path.{◌≡◌, refl, sym, ap, ◌∙◌, subst, subst⁻¹}
 use mathlib.Core.Logic.{◌↔◌}
-use Prim.Native.Nat.{ℕ, zero, suc, ◌+◌, ◌-◌, ◌≤◌, ◌<◌}
+use Prim.Native.Nat.{ℕ, ◌+◌, ◌≤◌}
 use native.Mathlib.Omega.{arith}
-use mathlib.Core.List.{List, [], ◌∷◌, ◌++◌}
-use mathlib.Core.Bool.{Bool, true, false}
-use lib.ListN.{length, get_or, length-append}
-use lib.Dec.{ltb, leb, eqb}
-use borrow.Author.Tests.{lt-ltb, le-ltb, ltb-true, ltb-false, le-leb, leb-true, eq-eqb, eqb-true}
-use Rattle.values.specs.Values.{pick}
-use Rattle.sheet.specs.Reading.{Res, ok, ◌>>=◌, byte_at, within}
-use Rattle.sheet.specs.Expression.{Expr, Function, Scope, tree}
-use Rattle.sheet.specs.Functions.{read_widths, Defined, read_functions}
-use Rattle.sheet.specs.Module.{Module, inputs_of, first_at, function_count, widths_at, Head, read_head, with_functions, read_wires, read_threads, Sheet, whole_sheet, read_whole}
-use Rattle.sheet.proofs.Reading.{ok-injective, bind_ok, check-ok, byte-ok, byte-at, Within, within-ok, within-at}
-use Rattle.sheet.proofs.Sections.{count_none, count-given}
+use mathlib.Core.List.{List, [], ◌++◌}
+use lib.ListN.{length}
+use lib.Dec.{leb, eqb}
+use borrow.Author.Tests.{le-leb, leb-true, eq-eqb, eqb-true}
+use Rattle.sheet.specs.Reading.{ok}
+use Rattle.sheet.specs.Expression.{Expr, Scope, tree}
+use Rattle.sheet.specs.Functions.{Defined, read_functions}
+use Rattle.sheet.specs.Module.{Module, widths_at, read_head, with_functions, read_wires, read_threads, Sheet, whole_sheet, read_whole}
+use Rattle.sheet.proofs.Reading.{ok-injective, bind_ok, check-ok}
 use Rattle.encoding.specs.Encoding.{Bytes, encode_wires, encode_threads}
-use Rattle.encoding.specs.WellFormed.{Between, AreWidths, WiresFit, ThreadsFit}
-use Rattle.encoding.specs.Whole.{encode_functions, first_byte, count_bytes, encode_whole, FunctionsFit, WholeFormed}
-use Rattle.encoding.proofs.Spelling.{Spells, spells-nil, spells-cons, spells-head, spells-two, spells-heads, spells-append, spells-split, spells-self, spells-whole}
-use Rattle.encoding.proofs.Expression.{within_of}
+use Rattle.encoding.specs.WellFormed.{WiresFit, ThreadsFit}
+use Rattle.encoding.specs.Whole.{encode_functions, encode_whole, FunctionsFit, WholeFormed}
+use Rattle.encoding.proofs.Spelling.{Spells, spells-append, spells-split, spells-self, spells-whole}
 use Rattle.encoding.proofs.Head.{with-ok, front_bytes, FrontFits, head_of, Fronted, front-ok, front_at, front_length}
 use Rattle.encoding.proofs.Module.{wires-ok, wires-at, threads-ok, threads-at}
 use Rattle.encoding.proofs.Functions.{functions-ok, functions-at}

@@ -2,11 +2,11 @@
 use mathlib.Core.Path.{◌≡◌, refl, sym, ap, subst, ◌∙◌}
 use mathlib.Core.Bool.{Bool, true, false}
 use mathlib.Core.List.{List, [], ◌∷◌, ◌++◌, map}
-use Prim.Native.Nat.{ℕ, zero, suc, ◌+◌, ◌-◌, ◌≤◌, ◌<◌}
+use Prim.Native.Nat.{ℕ, zero, suc, ◌+◌, ◌≤◌, ◌<◌}
 use native.Mathlib.Omega.{arith}
 use lib.ListN.{length, get_or, take, drop, set, replicate, length-append}
-use lib.Seq.{append_snoc, set-append_seam, set_at, get_or_at, drop-cons, length-take-le, get_or-take, get_or-drop}
-use lib.Dec.{ltb, eqb}
+use lib.Seq.{append_snoc, set_at, get_or_at, drop-cons, length-take-le, get_or-take, get_or-drop}
+use lib.Dec.{eqb}
 use borrow.Author.Tests.{lt-ltb}
 use Rattle.values.specs.declared.Value.{Value}
 use Rattle.values.specs.Values.{pick, fits, holds, all_unknown, nowhere}
@@ -14,8 +14,8 @@ use Rattle.values.specs.Cells.{small, cell_of, value_of, cell_at}
 use Rattle.values.proofs.Values.{fits-unknown}
 use Rattle.values.proofs.Operators.{fits-small}
 use Rattle.values.proofs.Cells.{value_cell}
-use Rattle.sheet.specs.Reading.{Res, ok, ◌>>=◌, byte_at, within}
-use Rattle.sheet.specs.Expression.{Expr, Arguments, argument, no_more, Body, Function, no_function, Scope, Parsed, Passed, same_widths, read_expr}
+use Rattle.sheet.specs.Reading.{ok, byte_at, within}
+use Rattle.sheet.specs.Expression.{Expr, Function, no_function, Scope, Parsed, Passed, same_widths, read_expr}
 use Rattle.sheet.specs.Statement.{is_register, Form, an_empty, an_assign, a_later, a_sequence, an_if, an_if_else, a_while, a_forever, a_wait, form_of}
 use Rattle.sheet.specs.Functions.{read_widths, Bodied, body_form, read_body, body_scope, function_of, Made, read_function, Defined, read_functions}
 use Rattle.sheet.specs.Answers.{definitions_of}
@@ -27,8 +27,8 @@ use Rattle.sheet.proofs.Sections.{widths-part}
 use Rattle.evaluation.specs.declared.Evaluated.{Evaluated}
 use Rattle.evaluation.specs.declared.Frame.{Frame}
 use Rattle.evaluation.specs.Evaluation.{frame, eval, eval_all, run}
-use Rattle.evaluation.specs.Widths.{BodyTyped, AllTyped}
-use Rattle.evaluation.specs.Bytes.{Calling, variable_node, unary_node, binary_node, conditional_node, inner_node, node_at, work_at, skip_body, result_form, turn_form, if_form, else_form, form_at, run_at, arguments_at, call_node, calls_at}
+use Rattle.evaluation.specs.Widths.{BodyTyped}
+use Rattle.evaluation.specs.Bytes.{variable_node, unary_node, binary_node, conditional_node, inner_node, node_at, work_at, skip_body, result_form, turn_form, if_form, else_form, form_at, run_at, arguments_at, call_node, calls_at}
 use Rattle.evaluation.proofs.Bytes.{calls-defined}
 use Rattle.evaluation.proofs.Evaluation.{worth, FitAll, frame-fits, all_fit, run_fits, TypedFunctions, all_typed, read-typed}
 use Rattle.evaluation.proofs.Functions.{widths-sound, only-target, body_typed, all-widths, functions-typed, none-typed}
@@ -330,6 +330,7 @@ module _ (s ds : List ℕ) where
 
     step : (d p : ℕ) {q : Parsed Expr} → Reads c s d p q → work_at (calls_at n s ds) d s ws f p ≡ worth g q
     unfolding work_at node_at inner_node variable_node unary_node binary_node conditional_node eval
+    step zero p {q = q} x' = elim x' [ ]
     step (suc d) p (a-variable {v = v} m h e l) = rw (m, e) (λ i. record { value = agree.same v l i; width = leading v l i; next = p + 2 })
     step (suc d) p (a-constant m w h e l) = rw (m, w.same, e) refl
     step (suc d) p (an-unknown m w) = rw (m, w.same) refl

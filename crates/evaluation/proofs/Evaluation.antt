@@ -3,7 +3,7 @@
 use mathlib.Core.Path.{◌≡◌, refl, ap, ◌∙◌}
 use mathlib.Core.Bool.{Bool, true, false, ◌||◌, ◌&&◌}
 use mathlib.Core.List.{List, [], ◌∷◌, ◌++◌}
-use Prim.Native.Nat.{ℕ, zero, suc, ◌+◌, ◌≤◌, ◌<◌}
+use Prim.Native.Nat.{ℕ, zero, suc, ◌≤◌, ◌<◌}
 use native.Mathlib.Omega.{arith}
 use native.Mathlib.Decide.{dec_lt}
 use lib.ListN.{length, get_or, length-append, get_or-append}
@@ -34,6 +34,7 @@ worth env q = record { value = eval env q.item; width = q.width; next = q.next }
 plain-eval : {c : Scope} {s : List ℕ} (d : ℕ) {p : ℕ} {q : Parsed Expr} (env : ℕ → Value) → c.declared ≡ 0 → Reads c s d p q →
     eval_at d s c.widths env p ≡ worth env q
 unfolding eval_at work_at node_at inner_node variable_node unary_node binary_node conditional_node eval
+plain-eval {c = c} {s = s} zero {p = p} {q = q} env z x'' = elim x'' [ ]
 plain-eval (suc d) env z (a-variable m h e l) = rw (m, e) refl
 plain-eval (suc d) env z (a-constant m w h e l) = rw (m, w.same, e) refl
 plain-eval (suc d) env z (an-unknown m w) = rw (m, w.same) refl
@@ -83,6 +84,7 @@ module _ {c : Scope} {s : List ℕ} {d : ℕ} (inner : (p : ℕ) (q : Parsed Exp
 depth-typed : {c : Scope} {s : List ℕ} (d : ℕ) {p : ℕ} {q : Parsed Expr} → TypedFunctions c.functions → Reads c s d p q →
     Typed c.widths q.item q.width
 unfolding Typed
+depth-typed {c = c} {s = s} zero {p = p} {q = q} t x'' = elim x'' [ ]
 depth-typed (suc d) t (a-variable m h e l) = (l, refl)
 depth-typed (suc d) t (a-constant m w h e l) = (w.least, w.most, l, refl)
 depth-typed (suc d) t (an-unknown m w) = (w.least, w.most, refl)

@@ -2,15 +2,15 @@
 use mathlib.Core.Path.{◌≡◌, refl, sym, ap, ◌∙◌}
 use mathlib.Core.Bool.{Bool, true, false, ◌&&◌}
 use mathlib.Core.List.{List, [], ◌∷◌, ◌++◌}
-use Prim.Native.Nat.{ℕ, zero, suc, ◌+◌, ◌-◌, ◌≤◌, ◌<◌}
+use Prim.Native.Nat.{ℕ, zero, suc, ◌+◌, ◌≤◌, ◌<◌}
 use native.Mathlib.Omega.{arith}
 use native.Mathlib.Decide.{dec_lt}
 use lib.ListN.{length, get_or, take, length-append, get_or-append}
 use lib.Seq.{get_or_at, take-suc, take_all}
 use lib.Dec.{leb, ltb, eqb}
 use borrow.Author.Tests.{leb-true, ltb-true, eqb-true}
-use Rattle.sheet.specs.Reading.{Res, ok, ◌>>=◌, byte_at, within}
-use Rattle.sheet.specs.Expression.{Body, nothing, result, in_turn, if_then, if_else, Function, no_function, Scope, Parsed, Expr, read_expr}
+use Rattle.sheet.specs.Reading.{Res, ok, byte_at, within}
+use Rattle.sheet.specs.Expression.{Function, no_function, Scope, Parsed, Expr, read_expr}
 use Rattle.sheet.specs.Statement.{is_register, Form, an_empty, an_assign, a_later, a_sequence, an_if, an_if_else, a_while, a_forever, a_wait, form_of}
 use Rattle.sheet.specs.Functions.{read_widths, Bodied, body_form, read_body, body_scope, function_of, Made, read_function, Defined, read_functions}
 use Rattle.sheet.proofs.Reading.{no≢ok, ok-injective, bind_ok, check-ok, within-ok}

@@ -1,21 +1,20 @@
 -- What isn't run is passed: the place after it is the reader's. Assumes nothing.
 use mathlib.Core.Path.{◌≡◌, refl, sym, ap, ◌∙◌}
 use mathlib.Core.List.{List, [], ◌∷◌, ◌++◌}
-use Prim.Native.Nat.{ℕ, zero, suc, ◌+◌, ◌-◌, ◌≤◌, ◌<◌}
+use Prim.Native.Nat.{ℕ, zero, suc, ◌+◌, ◌≤◌, ◌<◌}
 use native.Mathlib.Omega.{arith}
 use native.Mathlib.Decide.{dec_lt}
-use lib.ListN.{length, get_or, take, drop, set, length-append, length-set, get_or-append}
-use lib.Seq.{sets, get_or_at, take_at, take-append-le, take-take, get_or-take, get_or-drop, get_or-set_same, get_or-set_other, length-take-le}
-use lib.Dec.{ltb, eqb}
+use lib.ListN.{length, get_or, take, set, length-append, length-set, get_or-append}
+use lib.Seq.{sets, get_or_at, take_at, take-append-le, take-take, get_or-take, get_or-set_same, get_or-set_other, length-take-le}
+use lib.Dec.{eqb}
 use borrow.Author.Tests.{lt-ltb}
-use Rattle.values.specs.Values.{pick}
-use Rattle.sheet.specs.Reading.{Res, ok, ◌>>=◌, byte_at, within}
-use Rattle.sheet.specs.Expression.{Expr, Body, Function, no_function, Scope, Parsed, Passed, read_expr}
+use Rattle.sheet.specs.Reading.{ok, byte_at, within}
+use Rattle.sheet.specs.Expression.{Expr, Function, no_function, Scope, Parsed, Passed, read_expr}
 use Rattle.sheet.specs.Statement.{is_register, Form, an_empty, an_assign, a_later, a_sequence, an_if, an_if_else, a_while, a_forever, a_wait, form_of}
 use Rattle.sheet.specs.Functions.{read_widths, Bodied, body_form, read_body, body_scope, function_of, Made, read_function, Defined, read_functions}
 use Rattle.sheet.specs.Parts.{definition_at}
 use Rattle.sheet.proofs.Reading.{no≢ok, ok-injective, bind_ok, check-ok, byte-ok, within-ok}
-use Rattle.sheet.proofs.Expression.{Reads, a-variable, a-constant, an-unknown, a-unary, a-binary, a-conditional, a-call, ReadsAll, no_arguments, an-argument, derive, reads-after}
+use Rattle.sheet.proofs.Expression.{Reads, a-variable, a-constant, an-unknown, a-unary, a-binary, a-conditional, a-call, ReadsAll, no_arguments, an-argument, derive}
 use Rattle.sheet.proofs.Statements.{form_map, form-map}
 use Rattle.evaluation.specs.Bytes.{passed, operands_of, skip_node, skip_at, skip_form, skip_body}
 use Rattle.evaluation.proofs.Functions.{widths-sound}
@@ -121,6 +120,7 @@ module _ (c : Scope) (s ds : List ℕ) (standing : Standing s ds c.declared c.fu
 
   pub skip-reads : (d p : ℕ) {q : Parsed Expr} → Reads c s d p q → skip_at d s ds p ≡ q.next
   unfolding skip_node operands_of passed
+  skip-reads zero p {q = q} x' = elim x' [ ]
   skip-reads (suc d) p (a-variable m h e l) = skip_step d p (omega arith) m refl
   skip-reads (suc d) p (a-constant m w h e l) = skip_step d p (omega arith) m refl
   skip-reads (suc d) p (an-unknown m w) = let b = w.below in skip_step d p (omega arith) m refl

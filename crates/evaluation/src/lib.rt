@@ -2,6 +2,7 @@
 // Each function equals its definition in specs/Bytes for any bytes whatever: where the sheet's reader accepted
 // the expression, that is `eval` of its tree (proofs/Calls).
 #![tactic(auto)]
+
 ghost use Rattle.std.specs.Prelude.{◌≡◌, ◌+◌, ◌-◌, ◌<◌, length, get_or, drop, set};
 ghost use Rattle.values.specs.Cells.{cell_at};
 ghost use Rattle.sheet.specs.Parts.{definition_at};

@@ -25,7 +25,7 @@ use Rattle.events.specs.Calls.{state_fits, judged, choose_in, choose, input_of, 
 use Rattle.events.specs.Calls.{run_in, run_list, run_by, plain_choice, run_plain}
 use Rattle.events.specs.Refused.{RunRefused, the-sheet, a-later-function, a-barred-body, the-state, the-user}
 use Rattle.events.specs.Steps.{Step, Instant, Alike}
-use Rattle.events.specs.Runs.{Refuses, a-sheet, a-state, Accepts, RunRefuses, a-call, a-user, ListRun, PlainRun, refused-call, a-run, a-plain-run, Demand2}
+use Rattle.events.specs.Runs.{Refuses, a-sheet, a-state, Accepts, RunRefuses, a_call, a-user, ListRun, PlainRun, refused-call, a-run, a-plain-run, Demand2}
 use Rattle.events.proofs.Runs.{over-run_in, chain-run_in, plainly-run_by, length-choices_by, ended-plain, says}
 use Rattle.events.proofs.Fits.{fits-state}
 use Rattle.events.proofs.Steps.{step-choose_in, alike-choose_in, instant-instant_in, alike-instant_in}
@@ -154,7 +154,7 @@ module _ {A : Type 0} (s : List ℕ) (st : State) (u : ℕ) (bad : ℕ → A) (g
   judged-run = by (judged-judged s st bad (λ m. pick (ltb u users) (good m) (bad 46))) (ltb u users) refl
     where
       by : {r : A} → Judged s st bad (λ m. pick (ltb u users) (good m) (bad 46)) r → (t : Bool) → ltb u users ≡ t → RunJudged r
-      by (refuses x q) t h = run-refused (a-call x) q
+      by (refuses x q) t h = run-refused (a_call x) q
       by (called k q) true h = run-called k (ltb-true u users h) (q ∙ (rw h refl))
       by (called k q) false h = run-refused (a-user k (ltb-false u users h)) (q ∙ (rw h refl))
 

@@ -30,7 +30,7 @@ use Rattle.events.specs.Cycle.{code_of, wire_expr, wire_variable, all_below, is_
 use Rattle.events.specs.Calls.{unset, due_below, started, width_of, pending_fits, state_fits, refusal, performed, choose_in, input_of, inputs_fit, timed, instant_refusal, instant_in}
 use Rattle.events.specs.Steps.{latest, Calm, Fired, goes_on, stays, Marked, was-due, reads-changed, not-due, Acts, assigns, defers, jumps, goes_in, passes-by, settles, commits, Step, Instant}
 use Rattle.events.proofs.Cycle.{absurd-bool, and_left, and_right, all-below, below_all, wire_expr-past, Variable, a-register, no_register, register?}
-use Rattle.events.proofs.Choices.{is_some-none, none-is_some, sound-current, Ready, ready-refusal, user-refusal, room-refusal, choose_in-accepted, choose_in-refused, accepted-instant, instant_in-accepted, instant_in-refused}
+use Rattle.events.proofs.Choices.{is_some-none, none-is_some, sound-current, ready-refusal, user-refusal, room-refusal, choose_in-accepted, choose_in-refused, accepted-instant, instant_in-accepted, instant_in-refused}
 use Rattle.events.proofs.Steps.{step-performed, instant-feed}
 
 -- ---- Fits: "31 state doesn't fit the sheet (value or pending too wide; place outside its thread ..; mark or pending past the

@@ -1,5 +1,5 @@
 -- "A refused call alters nothing", as specs/Refused states it for each call. Assumes nothing.
-use mathlib.Core.Path.{◌≡◌, refl, ap, sym, ◌∙◌}
+use mathlib.Core.Path.{◌≡◌, refl, ap}
 use mathlib.Core.Logic.{◌≢◌}
 use mathlib.Core.Bool.{Bool, true, false}
 use mathlib.Core.List.{List, []}
@@ -19,9 +19,9 @@ use Rattle.events.specs.declared.Verdict.{Verdict}
 use Rattle.events.specs.declared.Verdict.TheVariants.{Quiet, Spent, Stopped, Refused}
 use Rattle.events.specs.declared.Rested.{Rested}
 use Rattle.events.specs.Cycle.{items, enabled, any_enabled, any_pending, quiet}
-use Rattle.events.specs.Calls.{started, start_of, start, spend, by_user, refusal, choose_in, choose, run_in, run_list}
+use Rattle.events.specs.Calls.{started, start_of, start, spend, refusal, choose_in, choose, run_in, run_list}
 use Rattle.events.specs.Calls.{resting, run_by, plain_choice, run_plain, instant_refusal, instant_in, instant}
-use Rattle.events.specs.Runs.{Refuses, a-sheet, a-state, RunRefuses, a-call, a-user, Over, all-ran, refused}
+use Rattle.events.specs.Runs.{Refuses, a-sheet, a-state, RunRefuses, a_call, a-user, Over, all-ran, refused}
 use Rattle.events.specs.Refused.{RunRefused, the-sheet, the-state, the-user, Unaltered}
 use Rattle.events.proofs.Choices.{by_user-below, state-refused, instant_in-accepted, instant_in-refused}
 use Rattle.events.proofs.Runs.{over-run_in}
@@ -71,7 +71,7 @@ refuses-number s st (a-sheet {n = n} {p = p} e) = numbered s n p e
 refuses-number s st (a-state e f) = the-state
 
 run-number : (s : List ℕ) (st : State) (u : ℕ) {n : ℕ} → RunRefuses s st u n → RunRefused n
-run-number s st u (a-call x) = refuses-number s st x
+run-number s st u (a_call x) = refuses-number s st x
 run-number s st u (a-user k l) = the-user
 
 -- The number of a choice of one of the four users is none of a refused run.

@@ -17,7 +17,7 @@ use Prim.Native.Nat.{ℕ, zero, suc, ◌+◌, ◌≤◌, ◌<◌}
 use native.Mathlib.Decide.{ℕ_discrete, dec_lt}
 use native.Mathlib.Numerals.{add-one}
 use native.Mathlib.Omega.{arith}
-use lib.ListN.{length, get_or, take}
+use lib.ListN.{length, take}
 use lib.Seq.{length-take-le, take-length}
 use lib.Dec.{eqb}
 use borrow.Author.Tests.{not-false, eq-eqb, ne_eqb}
@@ -33,7 +33,7 @@ use Rattle.events.specs.declared.Verdict.TheVariants.{Quiet, Spent, Stopped}
 use Rattle.events.specs.declared.Rested.{Rested}
 use Rattle.events.specs.Verdict.{number_of_verdict}
 use Rattle.events.specs.Cycle.{items, any_below, enabled, any_enabled, any_pending, quiet}
-use Rattle.events.specs.Calls.{spend, refusal, choose_in, onward, run_in, resting, run_by, choices_by, lowest, plain_choice}
+use Rattle.events.specs.Calls.{spend, choose_in, onward, run_in, resting, run_by, choices_by, lowest, plain_choice}
 pub use Rattle.events.specs.Runs.{Chain, done, after, Over, all-ran, refused, Ended, at_rest, spent, stopped}
 use Rattle.events.specs.Runs.{Plainest, the-lowest, the-commit, Plainly, rests, goes, Says}
 use Rattle.events.proofs.Cycle.{absurd-bool, or_left, or_right, none_below}

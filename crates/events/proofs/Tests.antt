@@ -1,7 +1,7 @@
 -- Each test of the simulation cycle holds exactly where its relation of specs/Tests does. Assumes nothing.
 use mathlib.Core.Path.{◌≡◌, refl, sym, ap, subst, ◌∙◌}
 use mathlib.Core.Logic.{◌≢◌}
-use mathlib.Core.Bool.{Bool, true, false, not, ◌&&◌, ◌||◌, or-true}
+use mathlib.Core.Bool.{Bool, true, false, not, ◌||◌, or-true}
 use mathlib.Core.List.{List, [], ◌∷◌}
 use Prim.Native.Nat.{ℕ, ◌+◌, ◌-◌, ◌≤◌, ◌<◌}
 use native.Mathlib.Omega.{arith}
@@ -12,7 +12,7 @@ use Rattle.values.specs.declared.Value.{Value}
 use Rattle.values.specs.declared.Edge.{Edge}
 use Rattle.values.specs.declared.Edge.TheVariants.{Change, Posedge, Negedge}
 use Rattle.values.specs.Edges.{fires}
-use Rattle.values.proofs.Values.{same→≡, ≡→same, ≢→same}
+use Rattle.values.proofs.Values.{≡→same, ≢→same}
 use Rattle.values.proofs.Edges.{moves_from, moves-to, moves-by}
 use Rattle.sheet.specs.Expression.{Expr}
 use Rattle.sheet.specs.Module.{Module}
@@ -22,7 +22,7 @@ use Rattle.state.specs.declared.State.{State}
 use Rattle.state.specs.State.{pending_of}
 use Rattle.events.specs.Cycle.{current, is_wait, items, is_some, enabled, any_enabled, any_pending, quiet, terms_fire, wait_fires}
 use Rattle.events.specs.Tests.{Enabled, off-a-wait, due, Still, TermFires, any-change, leaves-0, comes-to-1, leaves-1, comes-to-0, Fires, first, later, Tests}
-use Rattle.events.proofs.Cycle.{absurd-bool, and_left, and_right, below_none}
+use Rattle.events.proofs.Cycle.{absurd-bool, below_none}
 use Rattle.events.proofs.Choices.{enabled-thread, enabled-wire, none-enabled, enabled-none, none-pending, none-is_some, quiet-enabled, quiet-pending}
 
 -- ---- enabled

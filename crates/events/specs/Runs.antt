@@ -2,14 +2,13 @@
 -- allows, with the state that step leaves; each step the cycle allows is accepted until a counter is full." Document 02, [7]: "what can
 -- stop a choice in demands 2 and 3 is now its user's used allowance". specs/Steps says what a step is, this page what the calls answer;
 -- `Demand2` is the whole claim. proofs/Accepted proves it.
-use Rattle.std.specs.Prelude.{ℕ, ◌+◌, ◌≤◌, ◌<◌, ◌≡◌, ◌≢◌, ◌↔◌, true, false, List, [], ◌∷◌, length, get_or, take}
+use Rattle.std.specs.Prelude.{ℕ, ◌≤◌, ◌<◌, ◌≡◌, ◌≢◌, ◌↔◌, true, false, List, [], ◌∷◌, length, get_or, take}
 use Rattle.sheet.specs.Reading.{ok, no}
 use Rattle.sheet.specs.Expression.{Expr}
 use Rattle.sheet.specs.Module.{Module, read}
 use Rattle.state.specs.declared.State.{State}
 use Rattle.state.specs.State.{Shaped, full, users, count_of, allowance_of}
 use Rattle.events.specs.declared.Inputs.{Inputs}
-use Rattle.events.specs.declared.Chosen.{Chosen}
 use Rattle.events.specs.declared.Ran.{Ran}
 use Rattle.events.specs.declared.Verdict.TheVariants.{Quiet, Spent, Stopped, Refused}
 use Rattle.events.specs.declared.Rested.{Rested}

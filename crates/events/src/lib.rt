@@ -1,6 +1,7 @@
 // What the calls of the event simulator are given and answer (document 01, "The simulation cycle"). The calls themselves stand
 // in `simulator`, what they answer is defined in specs/.
 #![tactic(auto)]
+
 use state::State;
 
 // The input values of an instant, the clock's first: numbers, and the marks of their unknown bits.

@@ -1,6 +1,6 @@
 -- Where a statement was read, the text over its bytes is that of its tree.
 use mathlib.Core.Path.{◌≡◌, refl, sym, ap, ◌∙◌}
-use Prim.Native.Nat.{ℕ, zero, suc, ◌+◌, ◌*◌, ◌≤◌, ◌<◌}
+use Prim.Native.Nat.{ℕ, zero, suc, ◌+◌, ◌*◌, ◌≤◌}
 use native.Mathlib.Omega.{arith}
 use mathlib.Core.Bool.{Bool, true, false, not, ◌&&◌, ◌||◌}
 use mathlib.Core.List.{List, ◌++◌, append_assoc}
@@ -10,7 +10,7 @@ use Rattle.values.specs.Values.{pick}
 use Rattle.sheet.specs.declared.EdgeTerm.{EdgeTerm}
 use Rattle.sheet.specs.Reading.{ok}
 use Rattle.sheet.specs.Expression.{Expr, Scope, Parsed, tree}
-use Rattle.sheet.specs.Statement.{Form, an_empty, an_assign, a_later, a_sequence, an_if, an_if_else, a_while, a_forever, a_wait}
+use Rattle.sheet.specs.Statement.{an_empty, an_assign, a_later, a_sequence, an_if, an_if_else, a_while, a_forever, a_wait}
 use Rattle.sheet.specs.Statement.{forever, Body}
 use Rattle.sheet.proofs.Expression.{derive}
 use Rattle.sheet.proofs.Statements.{ReadsTerms, form_map}
@@ -20,19 +20,19 @@ use Rattle.pseudocode.specs.Filling.{after}
 use Rattle.pseudocode.proofs.Skipping.{Counted, skip-reads}
 use Rattle.writing.specs.Ascii.{ascii}
 use Rattle.writing.specs.Numbers.{decimal}
-use Rattle.writing.specs.Buffer.{Text, filled, puts}
+use Rattle.writing.specs.Buffer.{Text, puts}
 use Rattle.writing.proofs.Buffer.{puts-append}
 use Rattle.verilog.specs.Verilog.{◌&◌, indent, expr_text}
 use Rattle.verilog.specs.Printing.{Shown, shown, shown_at}
 use Rattle.verilog.proofs.Reading.{shown-reads, terms-reads}
-use Rattle.explaining.specs.Explaining.{counted, Ahead, nothing, sets, defers, both, when, choice, stop, stopping, joined, going}
+use Rattle.explaining.specs.Explaining.{counted, Ahead, nothing, both, when, choice, stop, stopping, joined, going}
 use Rattle.explaining.specs.Explaining.{Search, absent, found, followed, first, behind as remaining, ahead, heading_text}
 use Rattle.explaining.specs.Explaining.{ahead_text, search_text, point_text, points_text, thread_text}
 use Rattle.explaining.specs.Walking.{Stage, stage, said, deeper, inside, round_at, anew, closed, switched}
 use Rattle.explaining.specs.Walking.{sequence_at, forever_at, if_at, if_else_at, while_at}
 use Rattle.explaining.specs.Walking.{assign_line, condition_line, wait_line}
 use Rattle.explaining.specs.Walking.{assign_at, condition_at, wait_at, form_at, stmt_at}
-use Rattle.explaining.specs.Walking.{point_at, points_at, thread_at, body_at}
+use Rattle.explaining.specs.Walking.{point_at, points_at, thread_at}
 use Rattle.explaining.proofs.Walking.{stmt-at}
 
 -- ---- texts put one after the other

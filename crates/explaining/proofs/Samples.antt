@@ -4,7 +4,6 @@ use Prim.Native.Nat.{ℕ}
 use Prim.Native.String.{String}
 use mathlib.Core.List.{List, [], ◌∷◌, ◌++◌}
 use Rattle.values.specs.declared.Edge.TheVariants.{Posedge}
-use Rattle.sheet.specs.declared.EdgeTerm.{EdgeTerm}
 use Rattle.sheet.specs.Expression.{Expr, variable}
 use Rattle.sheet.specs.Statement.{Stmt, later, sequence, while, wait}
 use Rattle.pseudocode.specs.Filling.{after}

@@ -2,17 +2,17 @@
 use mathlib.Core.Path.{◌≡◌, refl, sym, ap, ◌∙◌}
 use Prim.Native.Nat.{ℕ, zero, suc, ◌+◌, ◌*◌, ◌≤◌, ◌<◌}
 use native.Mathlib.Omega.{arith}
-use mathlib.Core.Bool.{Bool, true, false, ◌&&◌}
+use mathlib.Core.Bool.{true, false, ◌&&◌}
 use mathlib.Core.List.{List, ◌∷◌}
 use lib.ListN.{length, get_or, length-map, get_or-eq_default}
-use lib.Dec.{leb, eqb}
-use borrow.Author.Tests.{lt-ltb, leb-true}
+use lib.Dec.{leb}
+use borrow.Author.Tests.{lt-ltb}
 use Rattle.sheet.specs.declared.SheetRead.{SheetRead}
-use Rattle.sheet.specs.Reading.{Res, ok, no, ◌>>=◌, ◌>>◌, check}
+use Rattle.sheet.specs.Reading.{Res, ok, no}
 use Rattle.sheet.specs.Expression.{Expr, Scope, tree, located}
 use Rattle.sheet.specs.Statement.{Form, an_empty, an_assign, a_later, a_sequence, an_if, an_if_else, a_while, a_forever, a_wait}
 use Rattle.sheet.specs.Statement.{Stmt, empty, forever, size, Body, read_stmt}
-use Rattle.sheet.specs.Module.{Module, map_module, Listed, read_threads, Sheet, read_sheet, read}
+use Rattle.sheet.specs.Module.{Module, map_module, Listed, read_threads, Sheet, read_sheet}
 use Rattle.sheet.specs.Answers.{definitions_of, layout_of, sheet_answer}
 use Rattle.sheet.proofs.Reading.{bind_ok, check-ok, ok-injective}
 use Rattle.sheet.proofs.Statements.{ReadsStmt, an-empty, an-assign, a-later, a-sequence, an-if, an-if-else, a-while, a-forever, a-wait}

@@ -2,7 +2,7 @@
 -- "Our reviewers read statements, never places."). It is the meaning of what remains to do there (crate meaning), printed: up to the
 -- next wait no loop comes round, so that a `while` is an `if`, a `forever` its body, and what stands behind a part that surely waits
 -- falls away.
-use Rattle.std.specs.Prelude.{ℕ, zero, suc, ◌+◌, Bool, true, false, ◌&&◌, ◌||◌, List, [], ◌++◌}
+use Rattle.std.specs.Prelude.{ℕ, zero, suc, ◌+◌, Bool, true, false, ◌&&◌, ◌||◌, List, []}
 use Rattle.values.specs.Values.{pick, ◌is◌then◌else◌}
 use Rattle.sheet.specs.declared.EdgeTerm.{EdgeTerm}
 use Rattle.sheet.specs.Reading.{Res, ok, no}
@@ -13,7 +13,7 @@ use Rattle.pseudocode.specs.Filling.{after}
 use Rattle.nextstate.specs.Rules.{body_of, loops_wait}
 use Rattle.writing.specs.Ascii.{ascii}
 use Rattle.writing.specs.Numbers.{decimal}
-use Rattle.writing.specs.Buffer.{Text, filled, puts}
+use Rattle.writing.specs.Buffer.{filled, puts}
 use Rattle.naming.specs.Naming.{name_of}
 use Rattle.verilog.specs.Verilog.{◌&◌, indent, expr_text, terms_text, Answer, answer}
 

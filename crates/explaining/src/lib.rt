@@ -2,6 +2,7 @@
 // statements, written into a lent buffer of 65,536 bytes.
 // Every contract says: place in the sheet, wait's number, buffer and new position are what the definition leaves.
 #![tactic(auto)]
+
 ghost use Rattle.std.specs.Prelude.{◌≡◌, not, ◌&&◌, ◌||◌, true, ◌+◌, ◌<◌, ◌≤◌};
 ghost use Rattle.writing.specs.Buffer.{filled, puts};
 ghost use Rattle.naming.specs.Naming.{name_of};

@@ -1,8 +1,6 @@
 -- What the lent arrays hold after a cycle run, and after many. Assumes nothing.
-use mathlib.Core.Path.{◌≡◌, refl, ap, sym, ◌∙◌}
-use Prim.Native.Nat.{ℕ}
+use mathlib.Core.Path.{◌≡◌}
 use borrow.Author.Tests.{eq-eqb, ne_eqb}
-use lib.Dec.{eqb}
 use Rattle.nextstate.specs.declared.Clocked.{Clocked}
 use Rattle.cycles.specs.declared.Cycled.{Cycled}
 use Rattle.exports.specs.Clocked.{Arrays, arrays, after_cycle, after_cycles}

@@ -20,7 +20,6 @@ use Rattle.saved.proofs.Saved.{loaded-shaped, loaded-bounded, saved-loaded}
 use Rattle.events.specs.declared.Chosen.{Chosen}
 use Rattle.events.specs.declared.Ran.{Ran}
 use Rattle.events.specs.declared.Rested.{Rested}
-use Rattle.events.specs.declared.Verdict.TheVariants.{Refused}
 use Rattle.events.specs.Calls.{start, start_of}
 use Rattle.events.specs.Rows.{whole_rows}
 use Rattle.batch.specs.declared.Cycled as many
@@ -35,7 +34,7 @@ use Rattle.prepared.proofs.Claims as single-proofs
 use Rattle.prepared_cycles.specs.declared.Cycled.{Cycled}
 use Rattle.prepared_cycles.specs.Cycles.{cycled}
 use Rattle.prepared_cycles.specs.Phases.{cycles_at}
-use Rattle.prepared_cycles.specs.Traces.{rounds, has_room, trace_cycles, traced_cycles, trace_at, traced_at}
+use Rattle.prepared_cycles.specs.Traces.{rounds, has_room, trace_cycles, trace_at, traced_at}
 use Rattle.prepared_cycles.specs.Claims as cycles
 use Rattle.prepared_cycles.proofs.Claims as cycles-proofs
 use Rattle.nextstate.specs.CycleRun as run
@@ -43,12 +42,12 @@ use Rattle.nextstate.specs.CycleRun.{tables_fit, tables_in, extractable}
 use Rattle.nextstate.specs.Extraction.{right_lengths}
 use Rattle.clock_run.specs.Running.{registers_fit_on, cycle_on}
 use Rattle.clock_run.specs.Rounds.{ended_at}
-use Rattle.clock_run.specs.Traces.{Traced, traced, trace_rows, trace_on}
-use Rattle.cycles.specs.Preparing.{Filled, filled_in, filled_or, tables_number, prepared_number, prepared}
+use Rattle.clock_run.specs.Traces.{traced, trace_rows, trace_on}
+use Rattle.cycles.specs.Preparing.{filled_in, filled_or, tables_number, prepared_number, prepared}
 use Rattle.exports.specs.Exports.{number_of}
 use Rattle.exports.specs.Clocked.{after_cycle}
 use Rattle.exports.specs.Saved.{started_in, unfit, number_on, bytes_on, told_on, ran, rested, verdict_on, cycled_as}
-use Rattle.exports.specs.Plans.{number_at, verdict_at, cycled_at, untraced, trace_number}
+use Rattle.exports.specs.Plans.{number_at, verdict_at, cycled_at, trace_number}
 use Rattle.exports.specs.PlanClaims.{Alike, Tell, Same, SameTrace, OnTheSheet, PrepareKeeps, trace_refused, TraceKeeps}
 use Rattle.exports.specs.PlanClaims.{ClockPrepareKeeps, ClockCycleKeeps, clock_trace_refused, ClockTraceKeeps}
 

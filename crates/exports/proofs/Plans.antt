@@ -1,9 +1,8 @@
 -- The number of a trace on no saved state; what the lent arrays hold after many cycles on prepared tables, and after a trace of them. Assumes nothing.
-use mathlib.Core.Path.{◌≡◌, refl, ap, sym, ◌∙◌}
+use mathlib.Core.Path.{◌≡◌, refl}
 use mathlib.Core.List.{List}
 use Prim.Native.Nat.{ℕ, ◌/◌, ◌≤◌, ◌<◌}
 use borrow.Author.Tests.{eq-eqb, ne_eqb, le-leb, lt-leb}
-use lib.Dec.{eqb}
 use lib.ListN.{length}
 use Rattle.prepared_cycles.specs.Traces.{rounds}
 use Rattle.nextstate.specs.declared.Registers.{Registers}

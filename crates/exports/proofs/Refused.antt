@@ -6,7 +6,7 @@ use mathlib.Core.List.{List}
 use mathlib.Core.Option.{Option, none, some}
 use Prim.Native.Nat.{ℕ}
 use borrow.Author.Tests.{ne_eqb}
-use lib.Dec.{eqb, ltb}
+use lib.Dec.{ltb}
 use Rattle.dispatch.proofs.Claims.{planes-kept}
 use Rattle.values.specs.Values.{pick}
 use Rattle.sheet.specs.Reading.{Res, ok, no}
@@ -18,7 +18,6 @@ use Rattle.state.specs.State.{users}
 use Rattle.saved.specs.Saved.{saved, loaded}
 use Rattle.saved.specs.Older.{brought_over}
 use Rattle.saved.proofs.Saved.{saved-loaded}
-use Rattle.events.specs.declared.Inputs.{Inputs}
 use Rattle.events.specs.declared.Chosen.{Chosen}
 use Rattle.events.specs.declared.Ran.{Ran}
 use Rattle.events.specs.declared.Rested.{Rested}
@@ -35,7 +34,7 @@ use Rattle.cycles.specs.declared.Cycled as many
 use Rattle.cycles.specs.Many.{ended, at_once, cycles_of, cycles_in, cycles_or, cycles_run}
 use Rattle.verilog_source.proofs.Compiled as Text
 use Rattle.verilog_labels.proofs.Claims as Labels
-use Rattle.exports.specs.Clocked.{Arrays, after_cycle, after_cycles}
+use Rattle.exports.specs.Clocked.{after_cycle, after_cycles}
 use Rattle.exports.specs.Saved.{brought_into, started_in, number_on, bytes_on, told_on, ran, rested, verdict_on, cycled_as}
 use Rattle.exports.specs.Refused.{TextKeeps, NamesKeep}
 use Rattle.exports.specs.Refused.{ListKeeps, BringKeeps, StartKeeps, Keeps, ChooseKeeps, InstantKeeps, ExtractKeeps, CycleKeeps, CyclesKeep, DispatchKeeps}

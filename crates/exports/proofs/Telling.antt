@@ -1,12 +1,12 @@
 -- What the calls on words leave in lent arrays. Assumes nothing.
-use mathlib.Core.Path.{◌≡◌, refl, sym, ap, ◌∙◌}
+use mathlib.Core.Path.{◌≡◌}
 use mathlib.Core.List.{List}
 use Prim.Native.Nat.{ℕ, ◌≤◌, ◌<◌}
 use borrow.Author.Tests.{eq-eqb, ne_eqb, lt-ltb, le-ltb}
 use lib.Seq.{sets}
 use Rattle.hextext.specs.declared.Decoded.{Decoded}
 use Rattle.hextext.specs.Decoding.{decoded, bytes_of}
-use Rattle.writing.specs.Buffer.{Text, filled, puts}
+use Rattle.writing.specs.Buffer.{filled, puts}
 use Rattle.witness.specs.declared.Witness.{Witness}
 use Rattle.findings.specs.Findings.{witness_words}
 use Rattle.exports.specs.Words.{decoded_in, found_in}

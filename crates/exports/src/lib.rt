@@ -1,6 +1,7 @@
 // The functions that C and Rust call. A slice passes as a pointer and its length, an array or a number as a pointer. A refused call
 // leaves every lent byte and word as it was (specs/Refused); what it tells beside its number is its answer.
 #![tactic(auto)]
+
 pub mod dispatcher;
 pub mod plan_calls;
 pub mod plan_cycles;

@@ -1,5 +1,6 @@
 // Extraction (document 01, "Extraction and the cycle run"): the next-state expressions of a sheet, as nodes and rows in lent words.
 #![tactic(auto)]
+
 mod express;
 pub mod filling;
 mod walk;

@@ -1,5 +1,6 @@
 // What is found wrong, in words: each function puts the words of its definition in specs/ into a lent buffer.
 #![tactic(auto)]
+
 ghost use Rattle.std.specs.Prelude.{◌≡◌};
 ghost use Rattle.writing.specs.Buffer.{filled, puts};
 ghost use Rattle.findings.specs.Findings.{hex_words, input_words, name_words, two};

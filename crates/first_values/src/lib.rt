@@ -1,6 +1,7 @@
 // The first values of registers out of a file: which line gives which register its value, and which line is wrong. Each function equals
 // its definition in specs/.
 #![tactic(auto)]
+
 ghost use Rattle.std.specs.Prelude.{◌≡◌, ◌≤◌, length, slice_index};
 ghost use Rattle.first_values.specs.FirstValues.{ends, run_end, register_of, value_in, marked, with_value, valued};
 ghost use Rattle.first_values.specs.FirstValues.{word_taken, line_taken, lines_taken};

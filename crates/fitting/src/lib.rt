@@ -1,5 +1,6 @@
 // 25: are rows of inputs whole? The function equals its definition in events' specs/Rows, for every argument.
 #![tactic(auto)]
+
 ghost use Rattle.std.specs.Prelude.{◌≡◌};
 ghost use Rattle.events.specs.Rows.{whole_rows};
 

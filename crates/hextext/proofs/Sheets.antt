@@ -69,7 +69,7 @@ unfolding read read_head
 sheet-no-text s e =
     let r = bind_ok (read_sheet (tree s) s) _ e in
     let p = parts (tree s) s r.1 in
-    let a = bind_ok (first_at s 0) _ p.head_read in
+    let a = bind_ok (first_at s 0) _ p.head-read in
     let b = bind_ok (within 1 32 3 s 1) _ a.2 in
     let c = bind_ok (within 0 32 3 s 2) _ b.2 in
     let d = bind_ok (within 1 8 3 s 3) _ c.2 in

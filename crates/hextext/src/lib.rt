@@ -1,6 +1,7 @@
 // A sheet given as hex text. Blanks (space, tab, CR), line ends and comments, from `#` to the end of the line, are skipped; two
 // hex digits of either case, which stand together, make a byte. Each function equals its definition in specs/, for every text.
 #![tactic(auto)]
+
 ghost use Rattle.std.specs.Prelude.{◌≡◌};
 ghost use Rattle.std.proofs.lemmas.List.Edits.{sets};
 ghost use Rattle.hextext.specs.Characters.{digit_of, is_blank, is_gap, is_text};

@@ -1,6 +1,7 @@
 // The names of variables out of a names file: which line names which variable, and which line is wrong. Each function equals its
 // definition in specs/.
 #![tactic(auto)]
+
 ghost use Rattle.std.specs.Prelude.{◌≡◌};
 ghost use Rattle.labels.specs.Labels.{is_other, is_taken, mark, labelled, named, line_taken, lines_taken};
 

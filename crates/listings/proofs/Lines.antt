@@ -7,7 +7,7 @@ use lib.ListN.{length, get_or, replicate, length-replicate}
 use lib.Seq.{sets}
 use lib.Dec.{leb}
 use Rattle.sheet.specs.declared.SheetRead.{SheetRead}
-use Rattle.sheet.specs.Reading.{Res, ok, no, ◌>>=◌, ◌>>◌}
+use Rattle.sheet.specs.Reading.{Res, ok, no}
 use Rattle.sheet.specs.Expression.{Expr, Scope, located}
 use Rattle.sheet.specs.Statement.{Stmt, empty, size, Body, read_stmt}
 use Rattle.sheet.specs.Module.{Module, read_threads, Sheet, read_sheet, read}

@@ -1,5 +1,6 @@
 // The listing of a sheet (document 01, "Samples from the stands"): read, translated, and written into a lent buffer.
 #![tactic(auto)]
+
 ghost use Rattle.std.specs.Prelude.{◌≡◌, ◌≤◌, length, get_or};
 ghost use Rattle.std.proofs.lemmas.List.Edits.{sets};
 ghost use Rattle.writing.specs.Buffer.{filled, puts};

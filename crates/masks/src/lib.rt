@@ -1,6 +1,7 @@
 // Sets of up to 32 marks, kept as the binary digits of a number. Each function equals its definition
 // in specs/, for every argument.
 #![tactic(auto)]
+
 ghost use Rattle.std.specs.Prelude.{◌≡◌, true, false, get_or, set};
 ghost use Rattle.masks.specs.Masks.{bits, either, first, any_mark};
 

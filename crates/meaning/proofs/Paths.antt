@@ -1,6 +1,6 @@
 -- Paths of a thread alone: instructions one after the other, none of them a wait, with what they write. Two paths make one
 -- (path-then), and a path has a first part of any length (path-cut). Assumes nothing.
-use Prim.Native.Nat.{ℕ, zero, suc, ◌+◌, ◌≤◌}
+use Prim.Native.Nat.{ℕ, zero, suc, ◌+◌, ◌-◌, ◌≤◌}
 use mathlib.Core.Path.{◌≡◌, refl, sym, ap, ◌∙◌, subst}
 use mathlib.Core.Bool.{false}
 use mathlib.Core.List.{List, [], ◌∷◌, ◌++◌, append-nil, append_assoc}
@@ -12,7 +12,8 @@ use Rattle.sheet.specs.Module.{Module}
 use Rattle.evaluation.specs.Evaluation.{eval}
 use Rattle.pseudocode.specs.Translation.{Instr, wait!, set!, later!, go, ifnot}
 use Rattle.events.specs.Cycle.{code_of, instr_at, is_wait}
-use Rattle.threads.specs.Alone.{Local, exec, turn}
+use Rattle.threads.specs.Alone.{Local, exec, turn, put_pending}
+use Rattle.nextstate.specs.Book.{put}
 use Rattle.meaning.specs.Meaning.{Write, stored, deferred, values_after}
 use Rattle.meaning.specs.Thread.{pending_after}
 
@@ -21,7 +22,7 @@ use Rattle.meaning.specs.Thread.{pending_after}
 pub values-append : (f : ℕ → Value) (ws us : List Write) → values_after f (ws ++ us) ≡ values_after (values_after f ws) us
 unfolding values_after
 values-append f [] us = refl
-values-append f (stored t a ∷ ws) us = values-append _ ws us
+values-append f (stored t a ∷ ws) us = values-append (put f t a) ws us
 values-append f (deferred t a ∷ ws) us = values-append f ws us
 
 pub pending-append : (m : Module Expr) (o : ℕ → Option Value) (ws us : List Write) →
@@ -29,7 +30,7 @@ pub pending-append : (m : Module Expr) (o : ℕ → Option Value) (ws us : List 
 unfolding pending_after
 pending-append m o [] us = refl
 pending-append m o (stored t a ∷ ws) us = pending-append m o ws us
-pending-append m o (deferred t a ∷ ws) us = pending-append m _ ws us
+pending-append m o (deferred t a ∷ ws) us = pending-append m (put_pending o (t - m.scope.inputs) a) ws us
 
 -- ---- moved: at another place, with writes made
 

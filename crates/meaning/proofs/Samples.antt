@@ -15,7 +15,7 @@ use Rattle.sheet.specs.Statement.{Stmt, empty, assign, later, sequence, while, f
 use Rattle.sheet.specs.Module.{Module, read}
 use Rattle.nextstate.specs.Rules.{runs_away, rule}
 use Rattle.nextstate.proofs.Samples.{reading, judging, turning}
-use Rattle.meaning.specs.Meaning.{Write, stored, deferred, values_after, Course, ends, stops, prefixed, followed, nothing, meaning}
+use Rattle.meaning.specs.Meaning.{Write, stored, deferred, values_after, ends, stops, prefixed, followed, nothing, meaning}
 use Rattle.meaning.specs.Waking.{WaitToWait}
 use Rattle.meaning.proofs.Waking.{of-a-sheet}
 

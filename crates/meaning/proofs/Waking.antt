@@ -1,24 +1,21 @@
 -- A thread from wait to wait (from-wait-to-wait, of-a-sheet, the claims of specs/Waking): the claim of specs/Thread told by what it
 -- waits for, and what a choice or an instant leaves of a thread at a wait. Assumes nothing.
-use Prim.Native.Nat.{ℕ, ◌+◌, ◌<◌}
+use Prim.Native.Nat.{ℕ, ◌+◌}
 use mathlib.Core.Path.{◌≡◌, refl, sym, ap, ◌∙◌, subst}
 use mathlib.Core.Bool.{true, false}
 use mathlib.Core.List.{List}
-use lib.ListN.{length}
-use native.Mathlib.Omega.{arith}
-use Rattle.values.specs.declared.Value.{Value}
 use Rattle.values.specs.declared.Edge.TheVariants.{Change}
 use Rattle.sheet.specs.declared.EdgeTerm.{EdgeTerm}
 use Rattle.sheet.specs.Expression.{Expr}
 use Rattle.sheet.specs.Statement.{Stmt}
 use Rattle.sheet.specs.Module.{Module}
-use Rattle.pseudocode.specs.Translation.{Instr, wait!, set!, later!, go, ifnot}
+use Rattle.pseudocode.specs.Translation.{Instr, wait! }
 use Rattle.state.specs.declared.State.{State}
 use Rattle.state.specs.State.{value_of, place_of}
-use Rattle.events.specs.Cycle.{code_of, instr_at, current, is_wait, terms_fire, wait_fires}
-use Rattle.events.specs.Steps.{Calm, Fired, goes_on, stays, Acts, assigns, defers, jumps, goes_in, passes-by, settles, commits, Instant}
+use Rattle.events.specs.Cycle.{code_of, instr_at, current, is_wait, wait_fires}
+use Rattle.events.specs.Steps.{Calm, Fired, goes_on, stays, Acts, assigns, defers, jumps, goes_in, passes-by, settles, commits}
 use Rattle.events.proofs.Cycle.{absurd-bool, terms-quiet, current-place}
-use Rattle.meaning.specs.Thread.{behind, Lasts, whole, Stands, at-start, behind-wait, alone, Goes}
+use Rattle.meaning.specs.Thread.{behind, whole, Stands, at-start, behind-wait, Goes}
 use Rattle.meaning.specs.Waking.{Doing, Waiting, Leg, Woken, WaitToWait, FromWaitToWait, OfASheet}
 use Rattle.meaning.specs.Waking as waking
 use Rattle.meaning.proofs.Thread.{as_written, rule-17}

@@ -1,6 +1,7 @@
 // What breaks a rule of extraction: in words with the names of the variables, put into a lent buffer, and which item of a Verilog text it
 // is. Each function equals its definition in specs/. The words without a variable are those of `findings`.
 #![tactic(auto)]
+
 mod items;
 
 ghost use Rattle.std.specs.Prelude.{◌≡◌};

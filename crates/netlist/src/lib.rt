@@ -2,6 +2,7 @@
 // graph, from lent tables of any contents. What is printed goes into a lent buffer of 65,536 bytes; such a contract says: buffer and
 // new position are what putting the text at the old position gives.
 #![tactic(auto)]
+
 mod counting;
 mod dot;
 mod printing;

@@ -1,10 +1,9 @@
 -- The nodes of a call, computed.
 use mathlib.Core.Path.{◌≡◌, refl}
-use mathlib.Core.List.{List, [], ◌∷◌}
-use Prim.Native.Nat.{ℕ}
+use mathlib.Core.List.{[], ◌∷◌}
 use Rattle.sheet.specs.Reading.{ok}
 use Rattle.sheet.specs.Expression.{Expr, variable, constant, binary, call, no_more, argument, result, in_turn, if_then}
-use Rattle.nextstate.specs.Nodes.{Node, a_variable, a_constant, an_unknown, a_binary, a_branch}
+use Rattle.nextstate.specs.Nodes.{a_variable, a_constant, an_unknown, a_binary, a_branch}
 use Rattle.nextstate.specs.Walk.{emit, express}
 
 -- "its arguments, an unknown node for the result": f(5), whose body is f = a.

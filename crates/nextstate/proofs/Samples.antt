@@ -15,7 +15,7 @@ use Rattle.values.specs.Edges.{edge_of}
 use Rattle.values.specs.Operators as operators
 use Rattle.sheet.specs.declared.EdgeTerm.{EdgeTerm}
 use Rattle.sheet.specs.Reading.{ok, no, byte_at, within, word, word_of, word_at}
-use Rattle.sheet.specs.Expression.{Expr, variable, constant, unknown, unary, binary, kind_of, variable_at, node, read_expr, tree}
+use Rattle.sheet.specs.Expression.{Expr, variable, constant, unary, binary, kind_of, variable_at, node, read_expr, tree}
 use Rattle.sheet.specs.Statement.{Stmt, empty, assign, later, sequence, if_then, if_else, while, forever, wait, size, is_register, read_terms, narrow, narrow_all, form_of, assignment, form, read_stmt}
 use Rattle.sheet.specs.Functions.{read_widths, read_functions}
 use Rattle.sheet.specs.Module.{Module, inputs_of, first_at, function_count, widths_at, read_head, read_wires, read_threads, whole_sheet, read_sheet, read}

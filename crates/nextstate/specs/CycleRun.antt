@@ -3,7 +3,7 @@ use Rattle.std.specs.Prelude.{ℕ, zero, suc, ◌+◌, ◌-◌, ◌^◌, Bool, t
 use Rattle.values.specs.declared.Value.{Value}
 use Rattle.values.specs.Values.{pick, known, ones, nowhere, fits}
 use Rattle.values.specs.Planes.{value_at, number_of, marks_of}
-use Rattle.sheet.specs.Reading.{Res, ok, no, ◌>>=◌, ◌>>◌}
+use Rattle.sheet.specs.Reading.{Res, ok, no, ◌>>=◌}
 use Rattle.sheet.specs.Expression.{Expr}
 use Rattle.sheet.specs.Statement.{is_register}
 use Rattle.sheet.specs.Module.{Module, read}

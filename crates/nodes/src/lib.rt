@@ -1,6 +1,7 @@
 // The nodes of lent tables: a node from its four words, and its width in a table. Each function equals its definition in specs/ for words of
 // any contents.
 #![tactic(auto)]
+
 ghost use Rattle.std.specs.Prelude.{◌≡◌, get_or};
 ghost use Rattle.nextstate.specs.Nodes.{node_from, node_at};
 ghost use Rattle.nodes.specs.Cells.{node_of, operator_of, size_in};

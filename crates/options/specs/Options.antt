@@ -1,6 +1,6 @@
 -- The words of a command line, taken one after the other. A slot keeps the number of the word that it is given by, from 1 on, and where it
 -- takes a number, that number.
-use Rattle.std.specs.Prelude.{Bool, true, false, ◌&&◌, List, [], ◌∷◌, ℕ, length, get_or, set, replicate, ltb, leb, eqb}
+use Rattle.std.specs.Prelude.{Bool, false, ◌&&◌, List, [], ◌∷◌, ℕ, length, get_or, set, replicate, ltb, leb, eqb}
 use Rattle.values.specs.Values.{pick, ◌is◌then◌else◌}
 use Rattle.stimulus.specs.Counting.{counted}
 use Rattle.stimulus.specs.Numbers.{number_of}

@@ -1,7 +1,7 @@
 -- The tables of the command line: the words of commands and options, and which option goes with which command.
 -- Slots: from 1 on the options that take the next word, from 20 on those that stand alone, 30 the module, 31 the inputs, from 32 on the
 -- options that go with every command: 32 the status, 33 help, 34 the version; 35 the work, which stands alone too.
-use Rattle.std.specs.Prelude.{Bool, true, false, not, ◌&&◌, ◌||◌, List, [], ◌∷◌, ℕ, ◌+◌, length, get_or, ltb, leb, eqb}
+use Rattle.std.specs.Prelude.{Bool, true, false, not, ◌&&◌, ◌||◌, List, [], ◌∷◌, ℕ, ◌+◌, length, get_or, ltb, eqb}
 use Prim.Native.String.{String}
 use Rattle.values.specs.Values.{pick, ◌is◌then◌else◌}
 use Rattle.writing.specs.Ascii.{ascii}

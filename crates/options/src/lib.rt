@@ -1,6 +1,7 @@
 // What the words of a command line ask for: taken one by one, and judged at the end. Each function equals its definition in specs/,
 // for every word. An option is a row of a table: a slot that keeps the number of the word it is given by.
 #![tactic(auto)]
+
 mod judging;
 mod tables;
 

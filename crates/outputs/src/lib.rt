@@ -1,5 +1,6 @@
 // Files that a command writes, and when it tells how far it has come. Each function equals its definition in specs/Outputs.
 #![tactic(auto)]
+
 ghost use Rattle.std.specs.Prelude.{◌≡◌};
 ghost use Rattle.writing.specs.Buffer.{filled, puts};
 ghost use Rattle.outputs.specs.Outputs.{aim_of, part_name, is_told, common};

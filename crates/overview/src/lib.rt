@@ -2,6 +2,7 @@
 // specs/, for bytes and tables of any contents. What is said goes into a lent buffer of 65,536 bytes; such a contract says: buffer and new
 // position are what putting the text at the old position gives.
 #![tactic(auto)]
+
 mod found;
 mod heads;
 mod lines;

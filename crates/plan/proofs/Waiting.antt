@@ -8,7 +8,7 @@ use lib.ListN.{get_or}
 use Rattle.values.specs.Values.{pick}
 use Rattle.pseudocode.specs.declared.EdgeTerms.{EdgeTerms}
 use Rattle.plan.specs.declared.Instruction.{Instruction}
-use Rattle.plan.specs.declared.Instruction.TheVariants.{Wait, Act}
+use Rattle.plan.specs.declared.Instruction.TheVariants.{Wait}
 use Rattle.plan.specs.Sections.{code_place}
 use Rattle.plan.specs.Plan.{decode, fetch_at, terms_at, waits_at}
 

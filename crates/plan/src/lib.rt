@@ -1,6 +1,7 @@
 // A plan: all that is worked out once from a sheet, in one table of words that is lent to every call. Words of any contents are
 // a plan: a word that names no cell names cell 0, other numbers count modulo 256.
 #![tactic(auto)]
+
 ghost use Rattle.std.specs.Prelude.{◌≡◌, ◌%◌, ◌<◌};
 ghost use Rattle.pseudocode.specs.Instruction.{no_term};
 ghost use Rattle.pseudocode.specs.Fetching.{term_at};

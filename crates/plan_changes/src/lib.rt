@@ -2,6 +2,7 @@
 // fire (document 01, "The simulation cycle"). Each function equals its definition in specs/ for plans, cells and places of any
 // contents.
 #![tactic(auto)]
+
 ghost use Rattle.std.specs.Prelude.{◌≡◌, ◌<◌};
 ghost use Rattle.masks.specs.Masks.{bits};
 ghost use Rattle.events.specs.Cycle.{any_below};

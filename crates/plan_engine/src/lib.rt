@@ -2,6 +2,7 @@
 // function equals its definition in specs/ for plans and states of any contents. Of a user's count and allowance only the room that
 // is left is asked.
 #![tactic(auto)]
+
 ghost use Rattle.std.specs.Prelude.{◌≡◌, List, ℕ, ◌<◌, ◌-◌};
 ghost use Rattle.values.specs.Planes.{value_at};
 ghost use Rattle.masks.specs.Masks.{bits};

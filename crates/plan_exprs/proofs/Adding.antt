@@ -1,5 +1,5 @@
 -- Laws of add_at by the tests of the code. Assumes nothing.
-use mathlib.Core.Path.{◌≡◌, refl, sym, ap, ◌∙◌}
+use mathlib.Core.Path.{◌≡◌, refl, ◌∙◌}
 use mathlib.Core.List.{List}
 use Prim.Native.Nat.{ℕ, zero, suc, ◌+◌, ◌-◌, ◌≤◌, ◌<◌}
 use native.Mathlib.Numerals.{sub-one}
@@ -9,7 +9,7 @@ use Rattle.values.specs.Operators.{unary_width, binary_width}
 use Rattle.sheet.specs.Reading.{word_of}
 use Rattle.plan.specs.Plan.{width_at}
 use Rattle.plan_exprs.specs.declared.Added.{Added}
-use Rattle.plan_exprs.specs.Flatten.{Adding, adding, made, none, emit, add_unary, add_binary, add_conditional, add_node, add_at}
+use Rattle.plan_exprs.specs.Flatten.{adding, made, none, emit, add_unary, add_binary, add_conditional, add_node, add_at}
 
 module _ (s : List ℕ) (p n : ℕ) (ws : List ℕ) where
   pub add_none : (d : ℕ) → d ≡ 0 → add_at d s p n ws ≡ made (none p n) ws

@@ -1,16 +1,16 @@
 -- An expression that the sheet's reader accepted lies flattened in the plan. Assumes nothing.
-use mathlib.Core.Path.{◌≡◌, refl, sym, ap, ◌∙◌}
+use mathlib.Core.Path.{◌≡◌, refl, sym, ◌∙◌}
 use mathlib.Core.Logic.{◌≢◌}
 use mathlib.Core.Bool.{Bool, true, false}
 use mathlib.Core.List.{List}
-use Prim.Native.Nat.{ℕ, zero, suc, ◌+◌, ◌*◌, ◌%◌, ◌^◌, ◌<◌, ◌≤◌}
-use native.Mathlib.Nat.{mod-eq_of_lt, not-suc-le-zero}
+use Prim.Native.Nat.{ℕ, zero, suc, ◌+◌, ◌*◌, ◌^◌, ◌<◌, ◌≤◌}
+use native.Mathlib.Nat.{not-suc-le-zero}
 use native.Mathlib.Omega.{arith}
 use borrow.Author.Tests.{lt-ltb}
-use lib.Dec.{ltb, eqb}
+use lib.Dec.{eqb}
 use lib.ListN.{length, get_or, set, length-set}
 use lib.Seq.{get_or-set_same, get_or-set_other}
-use Rattle.values.specs.Values.{pick, ◌is◌then◌else◌}
+use Rattle.values.specs.Values.{pick}
 use Rattle.values.specs.Operators.{unary_width, binary_width}
 use Rattle.values.proofs.Values.{below_wider}
 use Rattle.sheet.specs.Reading.{word_of}
@@ -385,6 +385,7 @@ module _ (c : Scope) (alone : c.declared ≡ 0) (s : List ℕ) (size : length s 
   flat-by : (d : ℕ) {p : ℕ} {q : Parsed Expr} (n : ℕ) (ws : List ℕ) → Widths vs ws → n + count q.item ≤ 4176
       → Reads c s d p q → Laid (length vs) n ws q (add_at d s p n ws)
   unfolding count
+  flat-by zero {p = p} {q = q} n ws w r x3 = elim x3 [ ]
   flat-by (suc d) {p = p} n ws w r (reading.a-variable {v = v} m h e l) =
       rw (at-variable s d p n ws (omega arith) v m e) (variable-laid vs n v (p + 2) ws w l)
   flat-by (suc d) {p = p} n ws w r (reading.a-constant {w = x} {v = v} m b h e l) =
@@ -413,7 +414,7 @@ module _ (c : Scope) (alone : c.declared ≡ 0) (s : List ℕ) (size : length s 
       rw (at-conditional s d p n ws (omega arith) m)
       (conditional-step s (add_at d s) (length vs) n (p + 2) ws w.long f y a z g
       (flat-by d (n + count f.item + count a.item) t2.words (after-widths vs t.words t2 z w2) (omega arith) x2) r)
-  flat-by (suc d) n ws w r (reading.a_call m h e l f es x) = absurd (no-function c alone l)
+  flat-by (suc d) n ws w r (reading.a-call m h e l f es x) = absurd (no-function c alone l)
 
   pub add-flat : {d p : ℕ} {q : Parsed Expr} (n : ℕ) (ws : List ℕ) → Widths vs ws → n + count q.item ≤ 4176
       → Reads c s d p q → Laid (length vs) n ws q (add_at d s p n ws)

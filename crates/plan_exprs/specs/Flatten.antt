@@ -1,6 +1,6 @@
 -- The expression at a place of a sheet, laid out as nodes in a plan's words from node n on: operands first, left first.
 -- Defined for any bytes; proofs/Flatten says that where the sheet's reader accepted, it lies there as `Flat` says.
-use Rattle.std.specs.Prelude.{List, ℕ, zero, suc, ◌+◌, ◌*◌, ltb, get_or, set}
+use Rattle.std.specs.Prelude.{List, ℕ, zero, suc, ◌+◌, ltb, get_or, set}
 use Rattle.values.specs.Values.{pick, ◌is◌then◌else◌}
 use Rattle.values.specs.Operators.{unary_width, binary_width}
 use Rattle.sheet.specs.Reading.{word_of}

@@ -1,5 +1,6 @@
 // Expressions of a sheet laid out as nodes in a plan.
 #![tactic(auto)]
+
 ghost use Rattle.std.specs.Prelude.{◌≡◌};
 ghost use Rattle.plan.specs.Plan.{plan_of};
 ghost use Rattle.plan_exprs.specs.Flatten.{put_node, more, emit, none, made, add_at};

@@ -41,6 +41,7 @@ total-append (i ∷ is) js = let e = total-append is js in omega arith
 -- By its depth; a call has no nodes.
 expr-room : {c : Scope} {s : List ℕ} (d : ℕ) {p : ℕ} {q : Parsed Expr} → Reads c s d p q → p + 2 * count q.item ≤ q.next
 unfolding count
+expr-room {c = c} {s = s} zero {p = p} {q = q} x' = elim x' [ ]
 expr-room (suc d) (reading.a-variable m h e l) = omega arith
 expr-room (suc d) (reading.a-constant m w h e l) = omega arith
 expr-room (suc d) (reading.an-unknown m w) = omega arith
@@ -48,8 +49,8 @@ expr-room (suc d) (reading.a-unary m o a) = let x = expr-room d a in omega arith
 expr-room (suc d) (reading.a-binary m o a b e) = let x = expr-room d a in let y = expr-room d b in omega arith
 expr-room (suc d) (reading.a-conditional m o q a b e) =
     let z = expr-room d q in let x = expr-room d a in let y = expr-room d b in omega arith
-expr-room (suc d) (reading.a_call m h e l f es w) =
-    let x = reads-after (reading.a_call {d = d} m h e l f es w) in omega arith
+expr-room (suc d) (reading.a-call m h e l f es w) =
+    let x = reads-after (reading.a-call {d = d} m h e l f es w) in omega arith
 
 located-room : (s : List ℕ) (c : Scope) (p : ℕ) {e : Parsed ℕ} → located s c p ≡ ok e → p + 2 * count (expr_at s c e.item) ≤ e.next
 unfolding located tree

@@ -1,6 +1,7 @@
 // The plan of a sheet that was read, filled once: counts, widths, readers, watchers and sizes, then the nodes of each wire and of each
 // thread's instructions. Each function equals its definition in specs/Filling for any bytes and words.
 #![tactic(auto)]
+
 ghost use Rattle.std.specs.Prelude.{◌≡◌, ◌%◌, ◌<◌, ◌≤◌};
 ghost use Rattle.tables.specs.Readers.{at_most};
 ghost use Rattle.plan_fill.specs.Filling.{up_to, put_four, copy_word, put_width, watch_term, watch_instr, watch_place};

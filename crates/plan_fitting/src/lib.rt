@@ -1,6 +1,7 @@
 // 31 and 25: does a state fit a plan's counts, widths and thread sizes, do an instant's inputs? Each function equals its definition in
 // specs/Fitting, for plans and states of any contents.
 #![tactic(auto)]
+
 ghost use Rattle.std.specs.Prelude.{◌≡◌, false, get_or};
 ghost use Rattle.std.proofs.Math.Option.{none, some};
 ghost use Rattle.values.specs.Values.{pick, fits};

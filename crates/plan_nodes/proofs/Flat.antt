@@ -2,7 +2,7 @@
 use mathlib.Core.Path.{◌≡◌, refl, sym, ap, ◌∙◌}
 use mathlib.Core.Bool.{true}
 use mathlib.Core.List.{List}
-use Prim.Native.Nat.{ℕ, zero, suc, ◌+◌, ◌-◌, ◌%◌, ◌^◌, ◌<◌, ◌≤◌}
+use Prim.Native.Nat.{ℕ, suc, ◌+◌, ◌-◌, ◌%◌, ◌<◌, ◌≤◌}
 use native.Mathlib.Omega.{arith}
 use native.Mathlib.Nat.{mod-eq_of_lt}
 use lib.ListN.{length, get_or, set, length-set}
@@ -12,7 +12,7 @@ use Rattle.values.specs.Values.{known, all_unknown}
 use Rattle.values.specs.Operators as operators
 use Rattle.values.proofs.Values.{fits-known, fits-unknown}
 use Rattle.values.proofs.Operators.{fits-small, unary-small, binary-small, choice-small}
-use Rattle.sheet.specs.Expression.{Expr, variable, constant, unknown, unary, binary, conditional}
+use Rattle.sheet.specs.Expression.{Expr}
 use Rattle.evaluation.specs.Evaluation.{eval}
 use Rattle.values.specs.Cells.{small, cell_of, cell_at}
 use Rattle.values.proofs.Cells.{at_small, at_set_same, at_same}

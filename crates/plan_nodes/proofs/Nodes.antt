@@ -1,15 +1,14 @@
 -- Laws of one node, by its kind, and of the loop over nodes. Assumes nothing.
-use mathlib.Core.Path.{◌≡◌, refl, sym, ap, ◌∙◌}
+use mathlib.Core.Path.{◌≡◌, ap, ◌∙◌}
 use mathlib.Core.List.{List}
 use Prim.Native.Nat.{ℕ, zero, suc, ◌+◌, ◌-◌, ◌%◌, ◌<◌, ◌≤◌}
 use native.Mathlib.Omega.{arith}
 use native.Mathlib.Numerals.{add-one}
 use borrow.Author.Tests.{lt-ltb, le-ltb, eq-eqb, ne_eqb, le-leb, lt-leb}
-use lib.ListN.{get_or}
 use Rattle.values.specs.declared.Value.{Value}
 use Rattle.values.specs.Values.{pick, known, all_unknown, holds}
 use Rattle.values.specs.Operators.{unary, binary, choice}
-use Rattle.values.specs.Cells.{cell_of, value_of, cell_at}
+use Rattle.values.specs.Cells.{cell_of}
 use Rattle.plan.specs.Sections.{slot_of}
 use Rattle.plan.specs.Plan.{Node, node}
 use Rattle.plan_nodes.specs.Nodes.{leaf_of, worth_of, work_node, work_from, work}

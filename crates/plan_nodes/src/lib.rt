@@ -1,5 +1,6 @@
 // Nodes worked out in one plane of cells: the variables' cells first, then the nodes' own. Defined for nodes of any contents.
 #![tactic(auto)]
+
 ghost use Rattle.std.specs.Prelude.{◌≡◌, ◌<◌};
 ghost use Rattle.values.specs.Cells.{cell_of, cell_at};
 ghost use Rattle.plan.specs.Plan.{node, plan_of};

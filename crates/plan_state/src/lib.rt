@@ -1,6 +1,7 @@
 // A state's planes into cells and back, its marks into masks and back, and the threads that stand off a wait. Each function equals its
 // definition in specs/ for plans and states of any contents.
 #![tactic(auto)]
+
 ghost use Rattle.std.specs.Prelude.{◌≡◌, replicate};
 ghost use Rattle.values.specs.Cells.{number_in, marks_in};
 ghost use Rattle.masks.specs.Masks.{bits};

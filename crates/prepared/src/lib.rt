@@ -1,6 +1,7 @@
 // A sheet prepared once, and the event simulator's calls on its plan. Each function equals its definition in specs/Prepared, for sheets,
 // plans and states of any contents.
 #![tactic(auto)]
+
 ghost use Rattle.std.specs.Prelude.{◌≡◌, List, ℕ, ◌<◌, get_or};
 ghost use Rattle.values.specs.Values.{ones};
 ghost use Rattle.state.specs.State.{full};

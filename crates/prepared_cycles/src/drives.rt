@@ -5,7 +5,7 @@ ghost use Rattle.plan.specs.Plan.{plan_of};
 ghost use Rattle.prepared_cycles.specs.Drives.{next_seed, drawn_choice, drawn_most, going_of, on_plan};
 ghost use Rattle.prepared_cycles.specs.Drives.{draw, drawn, plainly, to_rest, drive};
 
-use crate::phases::{later, refusal};
+use crate::instants::{later, refusal};
 use crate::{Standing, Went};
 use events::Inputs;
 use plan::{Cells, PlanTable};

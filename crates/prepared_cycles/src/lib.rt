@@ -2,8 +2,9 @@
 // cells, and it is packed at the end; a trace writes what each of them leaves into a lent array. Each function equals its definition in
 // specs/, for plans, states and rows of any contents.
 #![tactic(auto)]
+
 mod drives;
-mod phases;
+mod instants;
 mod rows;
 mod traces;
 
@@ -124,7 +125,7 @@ fn run_phases(plan: &PlanTable, st: State, user: u8, value: &[u32], unknown: &[u
     let mut p: usize = 0;
     while p < n {
         let a = rows::inputs_at(plan, value, unknown, p);
-        let f = phases::phase(plan, &mut cells, &mut pending, &mut places, standing, a);
+        let f = instants::phase(plan, &mut cells, &mut pending, &mut places, standing, a);
         standing = f.standing;
         if f.number != 0 {
             return ended(&cells, &pending, places, standing, p, f.number, f.running);
@@ -186,7 +187,7 @@ fn trace_phases(
     let mut p: usize = 0;
     while p < n {
         let a = rows::inputs_at(plan, value, unknown, p);
-        let f = phases::phase(plan, &mut cells, &mut pending, &mut stood, standing, a);
+        let f = instants::phase(plan, &mut cells, &mut pending, &mut stood, standing, a);
         standing = f.standing;
         if f.number != 0 {
             return ended(&cells, &pending, stood, standing, p, f.number, f.running);

@@ -215,7 +215,7 @@ unfolding definitions_of
 sheet-counted expr s e =
     let x = sections expr s e in
     let n = x.head.scope.declared in
-    let most = (headed s x.head_read).functions-most in
+    let most = (headed s x.head-read).functions-most in
     rw x.made
     (functions-counted n n [] s x.head.next (replicate 8 0) 0 refl (omega arith) refl (counted_none s (replicate 8 0)) x.functions-read)
 
@@ -223,7 +223,7 @@ pub compile-law : CompileLaw
 compile-law s code r e long =
     let x = sections (located s) s e in
     let c = scope_with x.head x.functions in
-    let counts = headed s x.head_read in
+    let counts = headed s x.head-read in
     let few : c.inputs + c.registers ≤ 256 = omega (arith, counts.inputs-most, counts.registers-most) in
     let ds = definitions_of r.definitions in
     let counted : Counted s ds c.functions = subst (λ (q : Sheet ℕ). Counted s ds q.contents.scope.functions) x.made (sheet-counted (located s) s e) in

@@ -5,10 +5,10 @@ use native.Mathlib.Omega.{arith}
 use native.Mathlib.Numerals.{sub-one}
 use mathlib.Core.Bool.{Bool, true, false}
 use mathlib.Core.List.{List, [], ◌∷◌, ◌++◌}
-use lib.ListN.{length, get_or, set, replicate, take, drop, length-append, length-set, get_or-append}
+use lib.ListN.{length, get_or, set, length-append, length-set, get_or-append}
 use lib.Seq.{sets, get_or_at, get_or-set_same, get_or-set_other, length-take-le}
-use lib.Dec.{ltb, leb, eqb}
-use borrow.Author.Tests.{lt-ltb, le-ltb, ltb-true, ltb-false, le-leb, lt-leb, leb-true, leb-false}
+use lib.Dec.{ltb, leb}
+use borrow.Author.Tests.{lt-ltb, le-ltb, ltb-true, ltb-false, le-leb, lt-leb, leb-true}
 use Rattle.values.specs.Values.{pick}
 use Rattle.sheet.specs.Reading.{Res, ok, no, within}
 use Rattle.sheet.specs.Expression.{Expr, Function, no_function, Scope, Parsed, Passed, Kind, a_variable, a_constant, an_unknown, a_unary, a_binary, a_conditional, a_call, kind_of, read_expr, tree, located}
@@ -171,6 +171,7 @@ module _ (c : Scope) (s ds : List ℕ) (short : length s ≤ 8192) (counted : Co
   -- By the depth.
   skips : (d : ℕ) {p : ℕ} {q : Parsed Expr} → Reads c s d p q → skip_at d s ds p ≡ q.next
   unfolding skip_node map_of
+  skips zero {p = p} {q = q} x' = elim x' [ ]
   skips (suc d) {p} (a-variable m h e l) = skip-map d p a_variable (omega arith) m
   skips (suc d) {p} (a-constant m w h e l) = skip-map d p a_constant (omega arith) m
   skips (suc d) {p} (an-unknown m w) = let b = w.below in skip-map d p an_unknown (omega arith) m

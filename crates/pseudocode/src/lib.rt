@@ -1,6 +1,7 @@
 // Pseudo-code: the instructions of a module's threads (document 01, "Values and pseudo-code").
 // A code table is filled once from a sheet that was accepted; `fetch` builds an instruction from it.
 #![tactic(auto)]
+
 ghost use Rattle.std.specs.Prelude.{◌≡◌, ◌+◌};
 ghost use Rattle.pseudocode.specs.Skipping.{argument_count, skip_arguments, skip_at};
 ghost use Rattle.pseudocode.specs.Filling.{first_word, store, after, emit, filling, filled, fill_assign, fill_sequence, fill_if, fill_if_else, fill_while, fill_forever, fill_at};

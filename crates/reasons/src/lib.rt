@@ -1,6 +1,7 @@
 // Every refusal in words, by its number. The words stand in two tables, a line for each number; each contract says that the buffer and
 // the new position are what putting that line gives.
 #![tactic(auto)]
+
 ghost use Rattle.std.specs.Prelude.{◌≡◌, drop};
 ghost use Rattle.writing.specs.Buffer.{filled, puts};
 ghost use Rattle.reasons.specs.Reasons.{first_line, other_lines, line_of, reason, allowed};

@@ -1,15 +1,15 @@
 // The replay program: a script of calls on standard input, a line for each of its records on standard output. Everything that
 // matters is in the library; a script of any bytes is run as far as it goes.
 #![tactic(auto)]
-ghost use Rattle.std.specs.Prelude.{◌<◌};
-ghost use Rattle.io.specs.Counts.{IsPrefixLen};
+
+ghost use Rattle.std.specs.Prelude.{◌<◌, ◌≤◌, length};
 
 use dispatch::Dispatched;
 use events::{Chosen, Inputs, Ran, Verdict};
-use libc::{STDIN_FILENO, STDOUT_FILENO};
 use nextstate::{Clocked, Registers};
 use saved::Brought;
 use state::{Counters, State};
+use std::io::{Print, Read};
 
 // Whether the script goes on, and the state that the next record finds.
 #[derive(Clone, Copy)]
@@ -74,19 +74,20 @@ struct Lent {
 
 // ---- writing
 
-fn say(text: &[u8]) {
-    io::write_all(STDOUT_FILENO, text);
+// A line that nobody takes is lost, and the script goes on.
+fn say(rt: &HostRuntime, text: &[u8]) {
+    let _ = rt.write_all(text);
 }
 
-fn say_number(n: u64) {
-    io::print_decimal(STDOUT_FILENO, n);
+fn say_number(rt: &HostRuntime, n: u64) {
+    let _ = rt.print(n);
 }
 
 // A word, a blank and a number, and the end of the line.
-fn say_line(word: &[u8], n: u8) {
-    say(word);
-    say_number(n as u64);
-    say(b"\n");
+fn say_line(rt: &HostRuntime, word: &[u8], n: u8) {
+    say(rt, word);
+    say_number(rt, n as u64);
+    say(rt, b"\n");
 }
 
 // One of the sixteen digits.
@@ -105,37 +106,37 @@ fn put_hex(b: u8, text: &mut [u8; 1024], n: usize) -> usize {
 }
 
 // The first bytes of a text.
-fn say_first(text: &[u8], n: usize) {
+fn say_first(rt: &HostRuntime, text: &[u8], n: usize) {
     if n <= text.len() {
-        say(&text[..n]);
+        say(rt, &text[..n]);
     }
 }
 
-fn say_text(text: &[u8; 1024], n: usize) {
-    say_first(text, n);
+fn say_text(rt: &HostRuntime, text: &[u8; 1024], n: usize) {
+    say_first(rt, text, n);
 }
 
 // The bytes from an index on in hexadecimal, at most 512 of them.
-fn say_some(bytes: &[u8], from: usize) {
+fn say_some(rt: &HostRuntime, bytes: &[u8], from: usize) {
     let mut text = [0u8; 1024];
     let mut n = 0;
     let mut i = from;
     while i < bytes.len() {
         if n > 1022 {
-            say_text(&text, n);
+            say_text(rt, &text, n);
             return;
         }
         n = put_hex(bytes[i], &mut text, n);
         i += 1;
     }
-    say_text(&text, n);
+    say_text(rt, &text, n);
 }
 
 // The bytes from an index on in hexadecimal.
-fn say_hex(bytes: &[u8], from: usize) {
+fn say_hex(rt: &HostRuntime, bytes: &[u8], from: usize) {
     let mut i = from;
     while i < bytes.len() {
-        say_some(bytes, i);
+        say_some(rt, bytes, i);
         if bytes.len() - i <= 512 {
             return;
         }
@@ -144,13 +145,13 @@ fn say_hex(bytes: &[u8], from: usize) {
 }
 
 // The words from an index on in hexadecimal, four digits each, at most 256 of them.
-fn say_some_words(words: &[u16], from: usize) {
+fn say_some_words(rt: &HostRuntime, words: &[u16], from: usize) {
     let mut text = [0u8; 1024];
     let mut n = 0;
     let mut i = from;
     while i < words.len() {
         if n > 1020 {
-            say_text(&text, n);
+            say_text(rt, &text, n);
             return;
         }
         let w = words[i];
@@ -158,14 +159,14 @@ fn say_some_words(words: &[u16], from: usize) {
         n = put_hex((w % 256) as u8, &mut text, n);
         i += 1;
     }
-    say_text(&text, n);
+    say_text(rt, &text, n);
 }
 
 // All words in hexadecimal.
-fn say_words(words: &[u16]) {
+fn say_words(rt: &HostRuntime, words: &[u16]) {
     let mut i = 0;
     while i < words.len() {
-        say_some_words(words, i);
+        say_some_words(rt, words, i);
         if words.len() - i <= 256 {
             return;
         }
@@ -194,7 +195,7 @@ fn put_turns(turns: u32, busy: bool, text: &mut [u8; 1024], pos: usize) -> usize
 }
 
 // Registers or wires in hexadecimal.
-fn say_values(value: [u32; 32], unknown: [u32; 32]) {
+fn say_values(rt: &HostRuntime, value: [u32; 32], unknown: [u32; 32]) {
     let mut text = [0u8; 1024];
     let mut n = 0;
     let mut r = 0;
@@ -202,11 +203,11 @@ fn say_values(value: [u32; 32], unknown: [u32; 32]) {
         n = put_value(value[r], unknown[r], &mut text, n);
         r += 1;
     }
-    say_text(&text, n);
+    say_text(rt, &text, n);
 }
 
 // The turn records in hexadecimal.
-fn say_turns(turns: [u32; 16], busy: [bool; 16], count: usize) {
+fn say_turns(rt: &HostRuntime, turns: [u32; 16], busy: [bool; 16], count: usize) {
     let mut text = [0u8; 1024];
     let mut n = 0;
     let mut r = 0;
@@ -214,53 +215,69 @@ fn say_turns(turns: [u32; 16], busy: [bool; 16], count: usize) {
         n = put_turns(turns[r], busy[r], &mut text, n);
         r += 1;
     }
-    say_text(&text, n);
+    say_text(rt, &text, n);
 }
 
 // The number picked, or that none is.
-fn say_picked(picked: u8) {
+fn say_picked(rt: &HostRuntime, picked: u8) {
     if picked == 255 {
-        say(b"none");
+        say(rt, b"none");
     } else {
-        say_number(picked as u64);
+        say_number(rt, picked as u64);
     }
 }
 
 // A saved state in hexadecimal, without its form byte.
-fn say_state(bytes: &[u8; 1025]) {
-    say_hex(bytes, 1);
+fn say_state(rt: &HostRuntime, bytes: &[u8; 1025]) {
+    say_hex(rt, bytes, 1);
 }
 
 // The last line of a script that can't be read on.
-fn broken() -> bool {
-    say(b"bad script\n");
+fn broken(rt: &HostRuntime) -> bool {
+    say(rt, b"bad script\n");
     false
 }
 
 // The same, with the state as it was.
-fn bad(st: State) -> Next {
+fn bad(rt: &HostRuntime, st: State) -> Next {
     Next {
-        on: broken(),
+        on: broken(rt),
         state: st,
     }
 }
 
 // ---- reading
 
+// Fills the buffer from the script, up to its end or to a read that fails. How many bytes were there?
+fn read_full(rt: &HostRuntime, buf: &mut [u8]) -> usize
+    ensures { result ≤ length buf.new }
+{
+    let mut input = rt.stdin();
+    let mut done = 0;
+    while done < buf.len() {
+        match input.read(&mut buf[done..]) {
+            Ok(0) => return done,
+            Ok(n) => done += n,
+            Err(_) => return done,
+        }
+    }
+    done
+}
+
 // Fills the buffer from the script. Was there enough?
-fn take(buf: &mut [u8]) -> bool {
+fn take(rt: &HostRuntime, buf: &mut [u8]) -> bool {
     let want = buf.len();
-    io::read_full(STDIN_FILENO, buf) == want
+    read_full(rt, buf) == want
 }
 
 // Fills the buffer's first `n` bytes from the script. How many were there?
-fn take_some(buf: &mut [u8], n: usize) -> usize
-    ensures { IsPrefixLen result buf.new }
+fn take_some(rt: &HostRuntime, buf: &mut [u8], n: usize) -> usize
+    ensures { result ≤ length buf.new }
 {
     if n > buf.len() {
         return 0;
     }
-    io::read_full(STDIN_FILENO, &mut buf[..n])
+    read_full(rt, &mut buf[..n])
 }
 
 // Two bytes, the low one first.
@@ -278,9 +295,9 @@ fn long_word(a: u8, b: u8, c: u8, d: u8) -> u32 {
 }
 
 // One value: four bytes of number, then four bytes of marks.
-fn read_input() -> Input {
+fn read_input(rt: &HostRuntime) -> Input {
     let mut bytes = [0u8; 8];
-    let found = take(&mut bytes);
+    let found = take(rt, &mut bytes);
     Input {
         found,
         value: long_word(bytes[0], bytes[1], bytes[2], bytes[3]),
@@ -289,9 +306,9 @@ fn read_input() -> Input {
 }
 
 // A flag, 0 or 1, and four bytes of number.
-fn read_flagged() -> Flagged {
+fn read_flagged(rt: &HostRuntime) -> Flagged {
     let mut bytes = [0u8; 5];
-    let whole = take(&mut bytes);
+    let whole = take(rt, &mut bytes);
     Flagged {
         found: whole && bytes[0] < 2,
         flag: bytes[0] == 1,
@@ -300,9 +317,9 @@ fn read_flagged() -> Flagged {
 }
 
 // The allowances of four users.
-fn read_allowances() -> Allowed {
+fn read_allowances(rt: &HostRuntime) -> Allowed {
     let mut bytes = [0u8; 16];
-    let found = take(&mut bytes);
+    let found = take(rt, &mut bytes);
     let a = long_word(bytes[0], bytes[1], bytes[2], bytes[3]);
     let b = long_word(bytes[4], bytes[5], bytes[6], bytes[7]);
     let c = long_word(bytes[8], bytes[9], bytes[10], bytes[11]);
@@ -314,13 +331,13 @@ fn read_allowances() -> Allowed {
 }
 
 // Input values: `n` of them, the first 16 are handed on.
-fn read_inputs(n: u8) -> Given {
+fn read_inputs(rt: &HostRuntime, n: u8) -> Given {
     let mut value = [0u32; 16];
     let mut unknown = [0u32; 16];
     let mut found = true;
     let mut k: u8 = 0;
     while k < n && found {
-        let v = read_input();
+        let v = read_input(rt);
         found = v.found;
         if k < 16 {
             value[k as usize] = v.value;
@@ -339,22 +356,22 @@ fn read_inputs(n: u8) -> Given {
 }
 
 // A count and so many input values.
-fn read_given() -> Given {
+fn read_given(rt: &HostRuntime) -> Given {
     let mut count = [0u8; 1];
-    let whole = take(&mut count);
-    let mut g = read_inputs(count[0]);
+    let whole = take(rt, &mut count);
+    let mut g = read_inputs(rt, count[0]);
     g.found = g.found && whole;
     g
 }
 
 // Turn records: `n` of them, the first 16 are handed on.
-fn read_turns(n: u8) -> Turns {
+fn read_turns(rt: &HostRuntime, n: u8) -> Turns {
     let mut busy = [false; 16];
     let mut turns = [0u32; 16];
     let mut found = true;
     let mut k: u8 = 0;
     while k < n && found {
-        let v = read_flagged();
+        let v = read_flagged(rt);
         found = v.found;
         if k < 16 {
             busy[k as usize] = v.flag;
@@ -371,29 +388,29 @@ fn read_turns(n: u8) -> Turns {
 }
 
 // A count and so many turn records.
-fn read_counted() -> Turns {
+fn read_counted(rt: &HostRuntime) -> Turns {
     let mut count = [0u8; 1];
-    let whole = take(&mut count);
-    let mut g = read_turns(count[0]);
+    let whole = take(rt, &mut count);
+    let mut g = read_turns(rt, count[0]);
     g.found = g.found && whole;
     g
 }
 
 // 32 register values and 8 places.
-fn read_registers() -> Handed {
+fn read_registers(rt: &HostRuntime) -> Handed {
     let mut value = [0u32; 32];
     let mut unknown = [0u32; 32];
     let mut places = [0u8; 8];
     let mut found = true;
     let mut r = 0;
     while r < 32 && found {
-        let v = read_input();
+        let v = read_input(rt);
         found = v.found;
         value[r] = v.value;
         unknown[r] = v.unknown;
         r += 1;
     }
-    let whole = take(&mut places);
+    let whole = take(rt, &mut places);
     Handed {
         found: found && whole,
         registers: Registers {
@@ -405,9 +422,9 @@ fn read_registers() -> Handed {
 }
 
 // How many words of each table.
-fn read_lent() -> Lent {
+fn read_lent(rt: &HostRuntime) -> Lent {
     let mut counts = [0u8; 4];
-    let found = take(&mut counts);
+    let found = take(rt, &mut counts);
     Lent {
         found,
         nodes: word(counts[0], counts[1]),
@@ -418,45 +435,46 @@ fn read_lent() -> Lent {
 // ---- the records that leave the state alone: does the script go on?
 
 // `N`: reads the sheet.
-fn do_read(sheet: &[u8]) -> bool {
+fn do_read(rt: &HostRuntime, sheet: &[u8]) -> bool {
     let r = sheet::read(sheet);
-    say(b"read ");
-    say_number(r.number as u64);
-    say(b" ");
-    say_number(r.place as u64);
-    say(b"\n");
+    say(rt, b"read ");
+    say_number(rt, r.number as u64);
+    say(rt, b" ");
+    say_number(rt, r.place as u64);
+    say(rt, b"\n");
     true
 }
 
 // `Q`: the listing.
-fn do_list(sheet: &[u8]) -> bool {
+fn do_list(rt: &HostRuntime, sheet: &[u8]) -> bool {
     let mut text = [0u8; 65536];
     let length = listings::print(sheet, &mut text);
-    say(b"list ");
-    say_hex(&text[..length], 0);
-    say(b"\n");
+    say(rt, b"list ");
+    say_hex(rt, &text[..length], 0);
+    say(rt, b"\n");
     true
 }
 
 // `D`: the state.
-fn do_save(st: State) -> bool {
+fn do_save(rt: &HostRuntime, st: State) -> bool {
     let mut bytes = [0u8; 1025];
     saved::save(st, &mut bytes);
-    say(b"state ");
-    say_state(&bytes);
-    say(b"\n");
+    say(rt, b"state ");
+    say_state(rt, &bytes);
+    say(rt, b"\n");
     true
 }
 
 // `X`: extraction, lent the first words of both.
-fn do_extract(sheet: &[u8], nodes: &mut [u16], rows: &mut [u16]) -> bool {
-    let l = read_lent();
+fn do_extract(rt: &HostRuntime, sheet: &[u8], nodes: &mut [u16], rows: &mut [u16]) -> bool {
+    let l = read_lent(rt);
     let a = l.nodes;
     let b = l.rows;
     if !l.found || a > nodes.len() || b > rows.len() {
-        return broken();
+        return broken(rt);
     }
     say_line(
+        rt,
         b"extract ",
         extraction::extract(sheet, &mut nodes[..a], &mut rows[..b]),
     );
@@ -464,12 +482,12 @@ fn do_extract(sheet: &[u8], nodes: &mut [u16], rows: &mut [u16]) -> bool {
 }
 
 // `T`: all words.
-fn do_tables(nodes: &[u16], rows: &[u16]) -> bool {
-    say(b"nodes ");
-    say_words(nodes);
-    say(b" rows ");
-    say_words(rows);
-    say(b"\n");
+fn do_tables(rt: &HostRuntime, nodes: &[u16], rows: &[u16]) -> bool {
+    say(rt, b"nodes ");
+    say_words(rt, nodes);
+    say(rt, b" rows ");
+    say_words(rt, rows);
+    say(rt, b"\n");
     true
 }
 
@@ -481,57 +499,57 @@ fn store(words: &mut [u16], meant: bool, i: usize, w: u16) {
 }
 
 // `W`: stores one word. Behind the table, a flag, stand an index and a word: a number's low and high half.
-fn do_word(nodes: &mut [u16], rows: &mut [u16]) -> bool {
-    let v = read_flagged();
+fn do_word(rt: &HostRuntime, nodes: &mut [u16], rows: &mut [u16]) -> bool {
+    let v = read_flagged(rt);
     if !v.found {
-        return broken();
+        return broken(rt);
     }
     let i = (v.number % 65536) as usize;
     let w = (v.number / 65536 % 65536) as u16;
     store(nodes, !v.flag, i, w);
     store(rows, v.flag, i, w);
-    say(b"word\n");
+    say(rt, b"word\n");
     true
 }
 
 // What a cycle run gave.
-fn say_cycled(c: Clocked) {
-    say(b"cycle ");
-    say_number(c.number as u64);
-    say(b" ");
+fn say_cycled(rt: &HostRuntime, c: Clocked) {
+    say(rt, b"cycle ");
+    say_number(rt, c.number as u64);
+    say(rt, b" ");
     let value = c.value;
     let unknown = c.unknown;
-    say_values(value, unknown);
+    say_values(rt, value, unknown);
     let places = c.places;
-    say_hex(&places, 0);
+    say_hex(rt, &places, 0);
     let wire = c.wire;
     let unsure = c.unsure;
-    say_values(wire, unsure);
-    say(b"\n");
+    say_values(rt, wire, unsure);
+    say(rt, b"\n");
 }
 
 // A cycle run on lent words.
-fn run_cycle(sheet: &[u8], nodes: &[u16], rows: &[u16]) -> bool {
-    let h = read_registers();
-    let g = read_given();
+fn run_cycle(rt: &HostRuntime, sheet: &[u8], nodes: &[u16], rows: &[u16]) -> bool {
+    let h = read_registers(rt);
+    let g = read_given(rt);
     if !h.found || !g.found {
-        return broken();
+        return broken(rt);
     }
     let before = h.registers;
     let inputs = g.inputs;
-    say_cycled(cycles::cycle(sheet, nodes, rows, before, inputs));
+    say_cycled(rt, cycles::cycle(sheet, nodes, rows, before, inputs));
     true
 }
 
 // `K`: a cycle run on the first words of both.
-fn do_cycle(sheet: &[u8], nodes: &[u16], rows: &[u16]) -> bool {
-    let l = read_lent();
+fn do_cycle(rt: &HostRuntime, sheet: &[u8], nodes: &[u16], rows: &[u16]) -> bool {
+    let l = read_lent(rt);
     let a = l.nodes;
     let b = l.rows;
     if !l.found || a > nodes.len() || b > rows.len() {
-        return broken();
+        return broken(rt);
     }
-    run_cycle(sheet, &nodes[..a], &rows[..b])
+    run_cycle(rt, sheet, &nodes[..a], &rows[..b])
 }
 
 // The dispatcher on the first `n` records.
@@ -546,71 +564,71 @@ fn dispatch_first(busy: &[bool], turns: &mut [u32], n: usize, last: u8) -> Dispa
 }
 
 // `B`: the dispatcher.
-fn do_dispatch() -> bool {
-    let g = read_counted();
+fn do_dispatch(rt: &HostRuntime) -> bool {
+    let g = read_counted(rt);
     let mut last = [0u8; 1];
-    let whole = take(&mut last);
+    let whole = take(rt, &mut last);
     let n = g.count as usize;
     if !g.found || !whole || n > 16 {
-        return broken();
+        return broken(rt);
     }
     let busy = g.busy;
     let mut turns = g.turns;
     let answer = dispatch_first(&busy, &mut turns, n, last[0]);
-    say(b"dispatch ");
-    say_number(dispatch::number_of(answer) as u64);
-    say(b" ");
-    say_picked(dispatch::picked_of(answer));
-    say(b" ");
-    say_turns(turns, busy, n);
-    say(b"\n");
+    say(rt, b"dispatch ");
+    say_number(rt, dispatch::number_of(answer) as u64);
+    say(rt, b" ");
+    say_picked(rt, dispatch::picked_of(answer));
+    say(rt, b" ");
+    say_turns(rt, turns, busy, n);
+    say(rt, b"\n");
     true
 }
 
 // A buffer in hexadecimal.
-fn say_buffer(bytes: &[u8; 8193]) {
-    say_hex(bytes, 0);
+fn say_buffer(rt: &HostRuntime, bytes: &[u8; 8193]) {
+    say_hex(rt, bytes, 0);
 }
 
 // What a text gave, lent the first bytes of a buffer.
-fn say_text_read(text: &[u8], lent: usize) -> bool {
+fn say_text_read(rt: &HostRuntime, text: &[u8], lent: usize) -> bool {
     let mut buffer = [170u8; 8193];
     if lent > 8193 {
-        return broken();
+        return broken(rt);
     }
     let r = verilog_read::read_text(text, &mut buffer[..lent]);
-    say(b"text ");
-    say_number(r.number as u64);
-    say(b" ");
-    say_number(r.length as u64);
-    say(b" ");
-    say_buffer(&buffer);
-    say(b"\n");
+    say(rt, b"text ");
+    say_number(rt, r.number as u64);
+    say(rt, b" ");
+    say_number(rt, r.length as u64);
+    say(rt, b" ");
+    say_buffer(rt, &buffer);
+    say(rt, b"\n");
     true
 }
 
 // `V`: a text's sheet.
-fn do_text() -> bool {
+fn do_text(rt: &HostRuntime) -> bool {
     let mut count = [0u8; 2];
-    if !take(&mut count) {
-        return broken();
+    if !take(rt, &mut count) {
+        return broken(rt);
     }
     let n = word(count[0], count[1]);
     let mut text = [0u8; 65536];
-    let got = take_some(&mut text, n);
+    let got = take_some(rt, &mut text, n);
     let mut room = [0u8; 2];
-    let whole = take(&mut room);
+    let whole = take(rt, &mut room);
     if got < n || !whole {
-        return broken();
+        return broken(rt);
     }
-    say_text_read(&text[..got], word(room[0], room[1]))
+    say_text_read(rt, &text[..got], word(room[0], room[1]))
 }
 
 // ---- the records that change it
 
 // The line of a call that answers with a number, and the state that it gave back.
-fn told(text: &[u8], c: Chosen) -> Next {
-    say_line(text, c.number);
+fn told(rt: &HostRuntime, text: &[u8], c: Chosen) -> Next {
+    say_line(rt, text, c.number);
     let st = c.state;
     Next {
         on: true,
@@ -619,8 +637,8 @@ fn told(text: &[u8], c: Chosen) -> Next {
 }
 
 // The line of a refused call, and the state as it was.
-fn kept(text: &[u8], number: u8, st: State) -> Next {
-    say_line(text, number);
+fn kept(rt: &HostRuntime, text: &[u8], number: u8, st: State) -> Next {
+    say_line(rt, text, number);
     Next {
         on: true,
         state: st,
@@ -628,48 +646,52 @@ fn kept(text: &[u8], number: u8, st: State) -> Next {
 }
 
 // `S`: the state becomes the start state, unless refused.
-fn do_start(sheet: &[u8], st: State) -> Next {
-    let a = read_allowances();
+fn do_start(rt: &HostRuntime, sheet: &[u8], st: State) -> Next {
+    let a = read_allowances(rt);
     if !a.found {
-        return bad(st);
+        return bad(rt, st);
     }
     let allowances = a.allowances;
     let c = simulator::start(sheet, allowances);
     if c.number != 0 {
-        return kept(b"start ", c.number, st);
+        return kept(rt, b"start ", c.number, st);
     }
-    told(b"start ", c)
+    told(rt, b"start ", c)
 }
 
 // `C`: a choice of a user.
-fn do_choose(sheet: &[u8], st: State) -> Next {
+fn do_choose(rt: &HostRuntime, sheet: &[u8], st: State) -> Next {
     let mut bytes = [0u8; 2];
-    if !take(&mut bytes) {
-        return bad(st);
+    if !take(rt, &mut bytes) {
+        return bad(rt, st);
     }
-    told(b"choose ", simulator::choose(sheet, st, bytes[0], bytes[1]))
+    told(
+        rt,
+        b"choose ",
+        simulator::choose(sheet, st, bytes[0], bytes[1]),
+    )
 }
 
 // `R`: a run over a list of a user's choices.
-fn do_run(sheet: &[u8], st: State) -> Next {
+fn do_run(rt: &HostRuntime, sheet: &[u8], st: State) -> Next {
     let mut front = [0u8; 3];
-    if !take(&mut front) {
-        return bad(st);
+    if !take(rt, &mut front) {
+        return bad(rt, st);
     }
     let n = word(front[1], front[2]);
     let mut choices = [0u8; 65536];
-    let got = take_some(&mut choices, n);
+    let got = take_some(rt, &mut choices, n);
     if got < n {
-        return bad(st);
+        return bad(rt, st);
     }
-    ran(simulator::run(sheet, st, front[0], &choices[..got]))
+    ran(rt, simulator::run(sheet, st, front[0], &choices[..got]))
 }
 
 // The line of a run, and the state that it gave back.
-fn ran(r: Ran) -> Next {
-    say(b"run ");
-    say_number(r.accepted as u64);
-    say_line(b" ", r.number);
+fn ran(rt: &HostRuntime, r: Ran) -> Next {
+    say(rt, b"run ");
+    say_number(rt, r.accepted as u64);
+    say_line(rt, b" ", r.number);
     let left = r.state;
     Next {
         on: true,
@@ -678,34 +700,34 @@ fn ran(r: Ran) -> Next {
 }
 
 // A number, a blank and a word, and the end of the line.
-fn say_line_of(n: u8, word: &[u8]) {
-    say_number(n as u64);
-    say(word);
+fn say_line_of(rt: &HostRuntime, n: u8, word: &[u8]) {
+    say_number(rt, n as u64);
+    say(rt, word);
 }
 
 // How a plain run ended.
-fn say_verdict(v: Verdict) {
+fn say_verdict(rt: &HostRuntime, v: Verdict) {
     match v {
-        Verdict::Quiet => say(b"0 quiet\n"),
-        Verdict::Spent => say(b"0 spent\n"),
-        Verdict::Stopped(n) => say_line_of(n, b" full\n"),
-        Verdict::Refused(n) => say_line_of(n, b" refused\n"),
+        Verdict::Quiet => say(rt, b"0 quiet\n"),
+        Verdict::Spent => say(rt, b"0 spent\n"),
+        Verdict::Stopped(n) => say_line_of(rt, n, b" full\n"),
+        Verdict::Refused(n) => say_line_of(rt, n, b" refused\n"),
     }
 }
 
 // `P`: the plain run of a user.
-fn do_plain(sheet: &[u8], st: State) -> Next {
+fn do_plain(rt: &HostRuntime, sheet: &[u8], st: State) -> Next {
     let mut bytes = [0u8; 3];
-    if !take(&mut bytes) {
-        return bad(st);
+    if !take(rt, &mut bytes) {
+        return bad(rt, st);
     }
     let n = word(bytes[1], bytes[2]) as u16;
     let r = simulator::run_plain(sheet, st, bytes[0], n);
-    say(b"plain ");
-    say_number(r.accepted as u64);
-    say(b" ");
+    say(rt, b"plain ");
+    say_number(rt, r.accepted as u64);
+    say(rt, b" ");
     let v = r.verdict;
-    say_verdict(v);
+    say_verdict(rt, v);
     let left = r.state;
     Next {
         on: true,
@@ -714,27 +736,27 @@ fn do_plain(sheet: &[u8], st: State) -> Next {
 }
 
 // `I`: an instant.
-fn do_instant(sheet: &[u8], st: State) -> Next {
-    let g = read_given();
+fn do_instant(rt: &HostRuntime, sheet: &[u8], st: State) -> Next {
+    let g = read_given(rt);
     if !g.found {
-        return bad(st);
+        return bad(rt, st);
     }
     let a = g.inputs;
-    told(b"instant ", simulator::instant(sheet, st, a))
+    told(rt, b"instant ", simulator::instant(sheet, st, a))
 }
 
 // `L`: the state becomes this one, unjudged.
-fn do_load(st: State) -> Next {
+fn do_load(rt: &HostRuntime, st: State) -> Next {
     let mut bytes = [0u8; 1025];
     bytes[0] = 4;
-    if !take(&mut bytes[1..]) {
-        return bad(st);
+    if !take(rt, &mut bytes[1..]) {
+        return bad(rt, st);
     }
     let l = saved::load(&bytes);
     if !l.found {
-        return bad(st);
+        return bad(rt, st);
     }
-    say(b"load\n");
+    say(rt, b"load\n");
     let loaded = l.state;
     Next {
         on: true,
@@ -743,28 +765,28 @@ fn do_load(st: State) -> Next {
 }
 
 // `M`: a saved state of any form is brought over by the sheet; the state becomes it, unless refused.
-fn do_bring(sheet: &[u8], st: State) -> Next {
+fn do_bring(rt: &HostRuntime, sheet: &[u8], st: State) -> Next {
     let mut count = [0u8; 2];
     let mut bytes = [0u8; 65536];
-    if !take(&mut count) {
-        return bad(st);
+    if !take(rt, &mut count) {
+        return bad(rt, st);
     }
     let n = word(count[0], count[1]);
-    let got = take_some(&mut bytes, n);
-    let a = read_allowances();
+    let got = take_some(rt, &mut bytes, n);
+    let a = read_allowances(rt);
     if got < n || !a.found {
-        return bad(st);
+        return bad(rt, st);
     }
     let allowances = a.allowances;
-    brought(saved::bring_over(sheet, &bytes[..got], allowances), st)
+    brought(rt, saved::bring_over(sheet, &bytes[..got], allowances), st)
 }
 
 // The line of what was brought over, and the state from there on.
-fn brought(b: Brought, st: State) -> Next {
+fn brought(rt: &HostRuntime, b: Brought, st: State) -> Next {
     if b.number != 0 {
-        return kept(b"bring ", b.number, st);
+        return kept(rt, b"bring ", b.number, st);
     }
-    say_line(b"bring ", 0);
+    say_line(rt, b"bring ", 0);
     let state = b.state;
     Next { on: true, state }
 }
@@ -772,40 +794,47 @@ fn brought(b: Brought, st: State) -> Next {
 // ---- the script
 
 // A record that leaves the state alone.
-fn told_of(letter: u8, sheet: &[u8], st: State, nodes: &mut [u16], rows: &mut [u16]) -> bool {
+fn told_of(
+    rt: &HostRuntime,
+    letter: u8,
+    sheet: &[u8],
+    st: State,
+    nodes: &mut [u16],
+    rows: &mut [u16],
+) -> bool {
     match letter {
-        b'N' => do_read(sheet),
-        b'Q' => do_list(sheet),
-        b'D' => do_save(st),
-        b'X' => do_extract(sheet, nodes, rows),
-        b'T' => do_tables(nodes, rows),
-        b'W' => do_word(nodes, rows),
-        b'K' => do_cycle(sheet, nodes, rows),
-        b'B' => do_dispatch(),
-        b'V' => do_text(),
-        _ => broken(),
+        b'N' => do_read(rt, sheet),
+        b'Q' => do_list(rt, sheet),
+        b'D' => do_save(rt, st),
+        b'X' => do_extract(rt, sheet, nodes, rows),
+        b'T' => do_tables(rt, nodes, rows),
+        b'W' => do_word(rt, nodes, rows),
+        b'K' => do_cycle(rt, sheet, nodes, rows),
+        b'B' => do_dispatch(rt),
+        b'V' => do_text(rt),
+        _ => broken(rt),
     }
 }
 
 // One record. The end of the script stands where a letter could.
-fn record(sheet: &[u8], st: State, nodes: &mut [u16], rows: &mut [u16]) -> Next {
+fn record(rt: &HostRuntime, sheet: &[u8], st: State, nodes: &mut [u16], rows: &mut [u16]) -> Next {
     let mut letter = [0u8; 1];
-    if !take(&mut letter) {
+    if !take(rt, &mut letter) {
         return Next {
             on: false,
             state: st,
         };
     }
     match letter[0] {
-        b'S' => do_start(sheet, st),
-        b'C' => do_choose(sheet, st),
-        b'R' => do_run(sheet, st),
-        b'P' => do_plain(sheet, st),
-        b'I' => do_instant(sheet, st),
-        b'L' => do_load(st),
-        b'M' => do_bring(sheet, st),
+        b'S' => do_start(rt, sheet, st),
+        b'C' => do_choose(rt, sheet, st),
+        b'R' => do_run(rt, sheet, st),
+        b'P' => do_plain(rt, sheet, st),
+        b'I' => do_instant(rt, sheet, st),
+        b'L' => do_load(rt, st),
+        b'M' => do_bring(rt, sheet, st),
         _ => Next {
-            on: told_of(letter[0], sheet, st, nodes, rows),
+            on: told_of(rt, letter[0], sheet, st, nodes, rows),
             state: st,
         },
     }
@@ -830,35 +859,36 @@ fn zero() -> State {
 }
 
 // All records, on tables whose words are all 43690 at first. A proved loop has to end, and nothing says that a script does: so it
-// counts its turns down, from a number that no run uses up.
-fn records(sheet: &[u8]) {
+// counts its turns, up to a number that no run uses up.
+fn records(rt: &HostRuntime, sheet: &[u8]) {
     let mut nodes = [43690u16; 16385];
     let mut rows = [43690u16; 1057];
     let mut next = Next {
         on: true,
         state: zero(),
     };
-    let mut turns = u64::MAX;
-    while turns > 0 && next.on {
+    for _ in 0..u64::MAX {
+        if !next.on {
+            return;
+        }
         let st = next.state;
-        next = record(sheet, st, &mut nodes, &mut rows);
-        turns -= 1;
+        next = record(rt, sheet, st, &mut nodes, &mut rows);
     }
 }
 
 // The head: the form, 4, the sheet's length and the sheet.
-fn main() {
+fn main(rt: HostRuntime) {
     let mut head = [0u8; 3];
     let mut sheet = [0u8; 65536];
-    if !take(&mut head) || head[0] != 4 {
-        say(b"bad script\n");
+    if !take(&rt, &mut head) || head[0] != 4 {
+        say(&rt, b"bad script\n");
         return;
     }
     let n = word(head[1], head[2]);
-    let got = take_some(&mut sheet, n);
+    let got = take_some(&rt, &mut sheet, n);
     if got < n {
-        say(b"bad script\n");
+        say(&rt, b"bad script\n");
         return;
     }
-    records(&sheet[..got]);
+    records(&rt, &sheet[..got]);
 }

@@ -1,6 +1,7 @@
 // The four runs of a comparison: how far they came, the verdict over the rows of their traces, chunk by chunk, and how it ends. Each
 // function equals its definition in specs/.
 #![tactic(auto)]
+
 mod meeting;
 
 ghost use Rattle.std.specs.Prelude.{◌≡◌, ◌<◌};

@@ -2,6 +2,7 @@
 // registers each thread writes and which variables it reads, how statements wait, and the lowest rule that is broken.
 // Each function equals its definition in specs/ for bytes and tables of any contents.
 #![tactic(auto)]
+
 ghost use Rattle.std.specs.Prelude.{◌≡◌, not, ◌&&◌, ◌||◌};
 ghost use Rattle.masks.specs.Masks.{bits};
 ghost use Rattle.nextstate.specs.Rules.{is_posedge};

@@ -1,6 +1,6 @@
 -- What holds of saved states: form 4 is got back, forms 1 to 3 are brought over, other bytes are no state. proofs/Saved and proofs/Over
 -- have the proofs.
-use Rattle.std.specs.Prelude.{◌≡◌, ◌≢◌, Bool, false, List, [], ℕ, ◌^◌, ◌≤◌, ◌<◌, length, get_or}
+use Rattle.std.specs.Prelude.{◌≡◌, ◌≢◌, Bool, false, List, ℕ, ◌^◌, ◌≤◌, ◌<◌, length, get_or}
 use Rattle.std.proofs.Math.Option.{none, some}
 use Rattle.values.specs.declared.Value.{Value}
 use Rattle.values.specs.Values.{pick, known, all_unknown}

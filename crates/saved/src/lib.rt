@@ -1,5 +1,6 @@
 // The saved form of a state: written, read, and brought over from the older forms.
 #![tactic(auto)]
+
 mod bringing;
 mod fields;
 mod loading;

@@ -1,5 +1,5 @@
 -- The ways through the reader of bodies and of functions: one law for each; and the answers of both.
-use mathlib.Core.Path.{◌≡◌, refl, sym, ap, ◌∙◌}
+use mathlib.Core.Path.{◌≡◌, refl, sym, ◌∙◌}
 use Prim.Native.Nat.{ℕ, zero, suc, ◌+◌, ◌-◌, ◌≤◌, ◌<◌}
 use native.Mathlib.Omega.{arith}
 use native.Mathlib.Numerals.{sub-one}
@@ -7,12 +7,11 @@ use mathlib.Core.List.{List}
 use mathlib.Core.Bool.{true, false}
 use mathlib.Core.Logic.{◌⊎◌, inl, inr}
 use lib.ListN.{length, get_or, take, drop}
-use lib.Dec.{eqb}
 use borrow.Author.Tests.{eq-eqb, ne_eqb}
-use Rattle.sheet.specs.Reading.{Res, ok, no, ◌>>=◌, ◌>>◌, within}
+use Rattle.sheet.specs.Reading.{Res, ok, no, ◌>>=◌, within}
 use Rattle.sheet.specs.Expression.{Expr, Body, result, in_turn, if_then, if_else, Function, Scope, Parsed, read_expr, located}
-use Rattle.sheet.specs.Statement.{is_register, Form, an_empty, an_assign, a_later, a_sequence, an_if, an_if_else, a_while, a_forever, a_wait, form_of}
-use Rattle.sheet.specs.Functions.{read_widths, Bodied, body_form, read_body, body_scope, function_of, Made, read_function}
+use Rattle.sheet.specs.Statement.{is_register, Form, an_assign, a_later, a_sequence, an_if, an_if_else, a_while, a_forever, a_wait, form_of}
+use Rattle.sheet.specs.Functions.{read_widths, Bodied, body_form, read_body, body_scope, function_of, read_function}
 use Rattle.sheet.specs.Answers.{expr_answer}
 use Rattle.sheet.specs.Parts.{scope_of, body_answer, function_answer}
 use Rattle.sheet.specs.declared.ExprRead as ExprRead

@@ -4,10 +4,9 @@ use Prim.Native.Nat.{ℕ}
 use mathlib.Core.List.{List, [], ◌∷◌, ◌++◌}
 use lib.ListN.{replicate}
 use Rattle.values.specs.Operators.{unary_width, binary_width}
-use Rattle.values.specs.Edges.{edge_of}
-use Rattle.sheet.specs.Reading.{ok, no, byte_at, within, word, word_of, word_at}
-use Rattle.sheet.specs.Expression.{variable, binary, call, no_more, argument, Body, result, if_else, Function, no_function, kind_of, variable_at, function_at, arguments_at, same_widths, node, read_expr, tree, located}
-use Rattle.sheet.specs.Statement.{later, is_register, read_terms, narrow, narrow_all, size, form_of, assignment, form, read_stmt}
+use Rattle.sheet.specs.Reading.{ok, no, byte_at, within}
+use Rattle.sheet.specs.Expression.{variable, binary, call, no_more, argument, Body, result, if_else, no_function, kind_of, variable_at, function_at, arguments_at, same_widths, node, read_expr, tree, located}
+use Rattle.sheet.specs.Statement.{later, is_register, size, form_of, assignment, form, read_stmt}
 use Rattle.sheet.specs.Functions.{read_widths, body_form, read_body, body_scope, function_of, read_function, read_functions}
 use Rattle.sheet.specs.Module.{inputs_of, first_at, function_count, widths_at, read_head, read_wires, read_threads, whole_sheet, read_whole}
 use Rattle.sheet.specs.Answers.{starts_of, definitions_of, layout_of, sheet_answer}

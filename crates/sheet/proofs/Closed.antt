@@ -12,8 +12,6 @@ use Rattle.sheet.specs.Expression.{Function, Scope, Parsed, located}
 use Rattle.sheet.specs.Statement.{Stmt}
 use Rattle.sheet.specs.Functions.{read_widths, Defined, read_functions}
 use Rattle.sheet.specs.Module.{Listed, inputs_of, first_at, function_count, widths_at, Head, read_head, with_functions, read_wires, read_threads, Sheet, whole_sheet, read_sheet}
-use Rattle.sheet.specs.Answers.{sheet_answer}
-use Rattle.sheet.specs.declared.SheetRead.{SheetRead}
 use Rattle.sheet.proofs.Reading.{ok-injective, bind_ok, check-ok, byte-ok}
 use Rattle.sheet.proofs.Sections.{count_none}
 

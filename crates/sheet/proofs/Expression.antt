@@ -1,7 +1,7 @@
 -- Laws of reading expressions. `Reads` says, without the reader, which bytes are an expression: `derive` and `accept`
 -- show that the reader accepts those and no others. Every other law of expressions goes by `Reads`.
 use mathlib.Core.Path.{◌≡◌, refl, sym, ap, ◌∙◌}
-use Prim.Native.Nat.{ℕ, zero, suc, ◌+◌, ◌-◌, ◌^◌, ◌≤◌, ◌<◌}
+use Prim.Native.Nat.{ℕ, zero, suc, ◌+◌, ◌^◌, ◌≤◌, ◌<◌}
 use native.Mathlib.Omega.{arith}
 use mathlib.Core.List.{List, [], ◌∷◌}
 use mathlib.Core.Bool.{Bool, true, false, ◌&&◌}
@@ -10,7 +10,7 @@ use lib.Dec.{ltb, eqb}
 use borrow.Author.Tests.{lt-ltb, ltb-true, eq-eqb, eqb-true}
 use Rattle.values.specs.Values.{pick}
 use Rattle.values.specs.Operators.{unary_width, binary_width}
-use Rattle.sheet.specs.Reading.{Res, ok, no, ◌>>=◌, ◌>>◌, byte_at, within, word_of, word_at}
+use Rattle.sheet.specs.Reading.{Res, ok, no, byte_at, within, word_of, word_at}
 use Rattle.sheet.specs.Expression.{Expr, variable, constant, unknown, unary, binary, conditional, call, no_more, argument, no_function, Scope, Parsed, Kind, a_variable, a_constant, an_unknown, a_unary, a_binary, a_conditional, a_call, kind_of, variable_at, function_at, Passed, arguments_at, same_widths, node, read_expr}
 use Rattle.sheet.proofs.Reading.{no≢ok, ok-injective, bind_ok, check-ok, byte-ok, byte-at, Within, within-ok, within-at, word_ok, word-at}
 
@@ -96,6 +96,7 @@ all_after inner (an-argument {e = e} x es) =
 
 -- An expression ends after its start and within the sheet: by its depth.
 ends : {c : Scope} {s : List ℕ} (d : ℕ) {p : ℕ} {q : Parsed Expr} → Reads c s d p q → (p < q.next) × (q.next ≤ length s)
+ends {c = c} {s = s} zero {p = p} {q = q} x' = elim x' [ ]
 ends (suc d) (a-variable m h e l) = (omega arith, omega arith)
 ends (suc d) (a-constant m w h e l) = (omega arith, omega arith)
 ends (suc d) (an-unknown m w) = let b = w.below in (omega arith, omega arith)
@@ -239,6 +240,7 @@ accept-all inner (an-argument {e = e} x es) = simp (inner _ e x, accept-all inne
 
 accepts : {c : Scope} {s : List ℕ} (d : ℕ) {p : ℕ} {q : Parsed Expr} → Reads c s d p q → read_expr d c s p ≡ ok q
 unfolding node map_of Allowed
+accepts {c = c} {s = s} zero {p = p} {q = q} x' = elim x' [ ]
 accepts {c} {s} (suc d) {p = p} (a-variable m h e l) =
     accept-node c s d p a_variable tt (omega arith) m ∙ simp (variable-at c.widths s (p + 1) h e l)
 accepts {c} {s} (suc d) {p = p} (a-constant {w = w} {v = v} m b h e l) =
@@ -260,7 +262,7 @@ accepts {c} {s} (suc d) {p = p} (a-conditional m w q a b e) =
     ∙ simp (within-at 10 10 6 s (p + 1) w, accepts d q, accepts d a, accepts d b, eq-eqb _ _ e)
 accepts {c} {s} (suc d) {p = p} (a-call m h e l f es w) =
     accept-node c s d p a_call (omega arith) (omega arith) m
-    ∙ simp (function-at c s (p + 1) h e l f, accept-all (λ i q r. accepts d r) es, w)
+    ∙ simp (function-at c s (p + 1) h e l f, accept-all (λ i q (r : Reads c s d i q). accepts d r) es, w)
 
 pub accept : {c : Scope} {s : List ℕ} {d p : ℕ} {q : Parsed Expr} → Reads c s d p q → read_expr d c s p ≡ ok q
 accept {d = d} r = accepts d r

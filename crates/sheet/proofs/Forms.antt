@@ -14,7 +14,7 @@ use Rattle.values.specs.Edges.{edge_of}
 use Rattle.sheet.specs.declared.EdgeTerm.{EdgeTerm}
 use Rattle.sheet.specs.Reading.{Res, ok, no, ◌>>=◌, ◌>>◌, check, byte_at, within}
 use Rattle.sheet.specs.Expression.{Parsed, Scope, variable_at, located}
-use Rattle.sheet.specs.Statement.{empty, assign, later, sequence, if_then, if_else, while, forever, wait, size, is_register, Body, read_terms, narrow, narrow_all, Form, an_empty, an_assign, a_later, a_sequence, an_if, an_if_else, a_while, a_forever, a_wait, form_of, assignment, form, read_stmt}
+use Rattle.sheet.specs.Statement.{empty, assign, sequence, if_then, if_else, while, forever, wait, size, is_register, Body, read_terms, narrow, narrow_all, Form, an_empty, an_assign, a_later, a_sequence, an_if, an_if_else, a_while, a_forever, a_wait, form_of, assignment, form, read_stmt}
 use Rattle.sheet.specs.Answers.{stmt_answer}
 use Rattle.sheet.proofs.Reading.{no≢ok, ok-injective, bind_ok, check-ok, byte-ok, byte-at, byte-end, within-ok}
 use Rattle.sheet.proofs.Expression.{variable-ok}

@@ -14,5 +14,4 @@ pub mod Passing
 pub mod Samples
 pub mod Calls
 pub mod Order
-pub mod Walks
 pub mod Stages

@@ -1,5 +1,5 @@
 -- Every refusal of a sheet has one of document 01's numbers 1 to 11 or document 02's 44 and 45, so 0 is free to say "accepted".
-use mathlib.Core.Path.{◌≡◌, refl}
+use mathlib.Core.Path.{◌≡◌}
 use Prim.Native.Nat.{ℕ, zero, suc, ◌+◌, ◌-◌, ◌^◌, ◌≤◌}
 use native.Mathlib.Omega.{arith}
 use mathlib.Core.List.{List, [], ◌∷◌, ◌++◌}
@@ -10,8 +10,8 @@ use Rattle.values.specs.Values.{pick}
 use Rattle.sheet.specs.Reading.{Res, ok, no, ◌>>=◌, ◌>>◌, check, byte_at, within, word_at}
 use Rattle.sheet.specs.Expression.{Expr, Function, Scope, no_function, Parsed, Kind, a_variable, a_constant, an_unknown, a_unary, a_binary, a_conditional, a_call, kind_of, variable_at, function_at, arguments_at, same_widths, node, read_expr, tree, located}
 use Rattle.sheet.specs.Statement.{Stmt, assign, later, is_register, Body, size, read_terms, narrow_all, Form, an_empty, an_assign, a_later, a_sequence, an_if, an_if_else, a_while, a_forever, a_wait, form_of, assignment, form, read_stmt}
-use Rattle.sheet.specs.Functions.{Bodied, body_form, read_body, body_scope, function_of, read_function, read_functions, read_widths}
-use Rattle.sheet.specs.Module.{inputs_of, first_at, function_count, widths_at, Head, with_functions, read_head, read_wires, read_threads, whole_sheet, read_sheet}
+use Rattle.sheet.specs.Functions.{Bodied, body_form, read_body, body_scope, read_function, read_functions, read_widths}
+use Rattle.sheet.specs.Module.{inputs_of, first_at, function_count, widths_at, with_functions, read_head, read_wires, read_threads, whole_sheet, read_sheet}
 
 -- ---- Numbered: refused, if at all, with a number from 1 to 11, or with 44 or 45
 

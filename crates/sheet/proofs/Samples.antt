@@ -7,9 +7,9 @@ use Rattle.values.specs.declared.Edge.TheVariants.{Posedge}
 use Rattle.values.specs.Operators.{unary_width, binary_width}
 use Rattle.values.specs.Edges.{edge_of}
 use Rattle.sheet.specs.Reading.{Res, ok, no, byte_at, within, word, word_of, word_at}
-use Rattle.sheet.specs.Expression.{Expr, variable, constant, unary, binary, no_function, kind_of, variable_at, function_at, arguments_at, same_widths, node, read_expr, tree, located}
+use Rattle.sheet.specs.Expression.{Expr, variable, constant, unary, binary, kind_of, variable_at, node, read_expr, tree, located}
 use Rattle.sheet.specs.Statement.{Stmt, empty, later, sequence, if_then, forever, wait, size, is_register, read_terms, narrow, narrow_all, form_of, assignment, form, read_stmt}
-use Rattle.sheet.specs.Functions.{body_form, read_body, body_scope, function_of, read_function, read_functions, read_widths}
+use Rattle.sheet.specs.Functions.{read_functions, read_widths}
 use Rattle.sheet.specs.Module.{Module, inputs_of, first_at, function_count, widths_at, read_head, read_wires, read_threads, whole_sheet, read_sheet, read}
 use Rattle.sheet.specs.Answers.{starts_of, definitions_of, layout_of, sheet_answer}
 

@@ -10,7 +10,7 @@ use lib.Dec.{ltb, leb, eqb}
 use lib.Seq.{drop-cons}
 use borrow.Author.Tests.{lt-ltb, le-ltb, le-leb, lt-leb, leb-true, eq-eqb, ne_eqb}
 use Rattle.values.specs.Values.{pick}
-use Rattle.sheet.specs.Reading.{Res, ok, no, ◌>>=◌, ◌>>◌, byte_at, within}
+use Rattle.sheet.specs.Reading.{Res, ok, no, ◌>>=◌, byte_at, within}
 use Rattle.sheet.specs.Expression.{Scope, Parsed, located}
 use Rattle.sheet.specs.Statement.{Stmt, Body, size, read_stmt}
 use Rattle.sheet.specs.Functions.{read_widths, Defined, read_functions}

@@ -8,7 +8,7 @@ use lib.ListN.{length, take, drop, replicate}
 use lib.Dec.{ltb, leb, eqb}
 use borrow.Author.Tests.{le-leb, lt-leb, leb-true, leb-false, eq-eqb, ne_eqb, eqb-true, eqb-false}
 use Rattle.sheet.specs.Reading.{Res, ok, no, ◌>>=◌, ◌>>◌, check, within, word_of, word_at}
-use Rattle.values.specs.Values.{pick, fits}
+use Rattle.values.specs.Values.{pick}
 use Rattle.sheet.specs.Expression.{Expr, constant, Scope, Parsed, a_constant, node, located}
 use Rattle.sheet.specs.Statement.{Stmt}
 use Rattle.sheet.specs.Functions.{read_widths, Defined, read_functions}
@@ -25,7 +25,7 @@ use Rattle.sheet.specs.declared.WiresRead.{WiresRead}
 use Rattle.sheet.specs.declared.FunctionsRead.{FunctionsRead}
 use Rattle.sheet.specs.declared.SheetRead.{SheetRead}
 use Rattle.sheet.proofs.Reading.{check-ok, bind_ok}
-use Rattle.sheet.proofs.Sections.{Headed, headed, head-read, whole_long, whole-head, whole-functions, body-wires, body-threads, body-over, body-made, answer-sheet, wires-count, threads-count}
+use Rattle.sheet.proofs.Sections.{headed, head-read, whole_long, whole-head, whole-functions, body-wires, body-threads, body-over, body-made, answer-sheet, wires-count, threads-count}
 use Rattle.sheet.proofs.Outlines.{outline, Similar, functions-told, wires-similar, threads-similar}
 
 -- ---- a number of four bytes; n bytes are left

@@ -1,7 +1,7 @@
 -- Laws of reading statements. `ReadsStmt` says, without the reader, which bytes are a statement: `derive-stmt` and
 -- `accept-stmt` show that the reader accepts those and no others. Every other law of statements goes by `ReadsStmt`.
 use mathlib.Core.Path.{◌≡◌, refl, sym, ap, ◌∙◌}
-use Prim.Native.Nat.{ℕ, zero, suc, ◌+◌, ◌-◌, ◌*◌, ◌≤◌, ◌<◌}
+use Prim.Native.Nat.{ℕ, zero, suc, ◌+◌, ◌*◌, ◌≤◌, ◌<◌}
 use native.Mathlib.Omega.{arith}
 use mathlib.Core.List.{List, [], ◌∷◌}
 use mathlib.Core.Bool.{Bool, true, false}
@@ -11,7 +11,7 @@ use borrow.Author.Tests.{eq-eqb, eqb-true}
 use Rattle.values.specs.Values.{pick}
 use Rattle.values.specs.Edges.{edge_of}
 use Rattle.sheet.specs.declared.EdgeTerm.{EdgeTerm}
-use Rattle.sheet.specs.Reading.{Res, ok, ◌>>=◌, ◌>>◌, byte_at, within}
+use Rattle.sheet.specs.Reading.{Res, ok, byte_at, within}
 use Rattle.sheet.specs.Expression.{Parsed, Scope, variable_at}
 use Rattle.sheet.specs.Statement.{Stmt, empty, assign, later, sequence, if_then, if_else, while, forever, wait, is_register, Body, read_terms, narrow_all, Form, an_empty, an_assign, a_later, a_sequence, an_if, an_if_else, a_while, a_forever, a_wait, form_of, assignment, form, read_stmt}
 use Rattle.sheet.proofs.Reading.{no≢ok, ok-injective, bind_ok, check-ok, byte-ok, byte-at, Within, within-ok, within-at}

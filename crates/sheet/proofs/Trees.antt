@@ -1,7 +1,7 @@
 -- A sheet read with its expressions kept as places is the sheet read with its expressions kept as trees:
 -- the same refusals, and the same module once the tree at each place is put for the place.
 use mathlib.Core.Path.{◌≡◌, refl, ap}
-use Prim.Native.Nat.{ℕ, zero, suc, ◌+◌, ◌-◌}
+use Prim.Native.Nat.{ℕ, zero, suc, ◌+◌}
 use mathlib.Core.List.{List, [], map}
 use mathlib.Core.Bool.{Bool, true, false}
 use lib.ListN.{length, get_or}

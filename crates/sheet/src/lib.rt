@@ -1,5 +1,6 @@
 // The sheet: bytes to module (document 01, "The sheet", with document 02, [5]), numbers 1 to 11, 44 and 45.
 #![tactic(auto)]
+
 mod body;
 pub mod bytes;
 mod expr;

@@ -1,6 +1,7 @@
 // Operators and constants as Verilog writes them, put into a lent buffer of 65,536 bytes.
 // Every contract says: buffer and new position are what putting the text at the old position gives.
 #![tactic(auto)]
+
 ghost use Rattle.std.specs.Prelude.{◌≡◌};
 ghost use Rattle.writing.specs.Buffer.{filled, puts};
 ghost use Rattle.signs.specs.Signs.{sign, operands, lead, constant_text, unknown_text};

@@ -2,6 +2,7 @@
 // Each public call equals its definition in events' specs/Calls, for every sheet, state, choice, list and input.
 // A call reads the sheet, prepares its plan, and runs on that plan.
 #![tactic(auto)]
+
 ghost use Rattle.std.specs.Prelude.{◌≡◌};
 ghost use Rattle.events.specs.Calls.{start, choose, run_list, run_plain, instant};
 

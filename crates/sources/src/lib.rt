@@ -1,6 +1,7 @@
 // Where a command's module comes from: a sheet, or Verilog text. The words that say so are taken here, all others by `options`. And
 // what the command makes of a text: the names of its variables, and its sheet written out.
 #![tactic(auto)]
+
 ghost use Rattle.std.specs.Prelude.{◌≡◌, ◌<◌, length};
 ghost use Rattle.writing.specs.Buffer.{filled, puts};
 ghost use Rattle.naming.specs.Naming.{same_text};

@@ -13,7 +13,7 @@ use Rattle.hextext.specs.Characters.{digit_of}
 use Rattle.stimulus.specs.declared.Number.{Number}
 use Rattle.stimulus.specs.declared.Bits.{Bits}
 use Rattle.stimulus.specs.Numbers.{number, base, grown, grown_by, is_letter_x, is_x, is_hex}
-use Rattle.stimulus.specs.Numbers.{is_letter_b, is_bits, quote_at, is_sized, bits, doubled, spelt, spelt_by, ahead}
+use Rattle.stimulus.specs.Numbers.{is_letter_b, is_bits, quote_at, is_sized, bits, doubled, spelt, spelt_by}
 
 -- ---- grown: the three rows, for either base
 

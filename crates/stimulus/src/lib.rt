@@ -1,6 +1,7 @@
 // The lines of the two files that stand beside a sheet: a line of inputs, which is a clock cycle, and a line of the names file.
 // Each function equals its definition in specs/, for every line.
 #![tactic(auto)]
+
 mod names;
 mod numbers;
 mod pieces;

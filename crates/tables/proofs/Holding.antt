@@ -5,15 +5,15 @@ use mathlib.Core.List.{List, [], ◌∷◌, map}
 use Prim.Native.Nat.{ℕ, zero, suc, ◌+◌, ◌≤◌, ◌<◌}
 use native.Mathlib.Nat.{not-suc-le-zero, le_of_suc-le-suc, le_refl}
 use native.Mathlib.Omega.{arith}
-use lib.ListN.{length, get_or, drop, length-take, length-map, replicate, get_or-map, get_or-append, get_or-eq_default}
+use lib.ListN.{length, get_or, drop, length-map, replicate, get_or-map, get_or-append, get_or-eq_default}
 use lib.Seq.{sets-eq}
-use lib.Dec.{ltb, leb, eqb}
+use lib.Dec.{ltb, eqb}
 use borrow.Author.Tests.{ltb-true, ltb-false}
 use Rattle.sheet.specs.declared.EdgeTerm.{EdgeTerm}
 use Rattle.sheet.specs.Reading.{ok}
 use Rattle.sheet.specs.Expression.{Expr, unknown, Scope, located, expr_at}
 use Rattle.sheet.specs.Statement.{Stmt, empty, size, map_stmt}
-use Rattle.sheet.specs.Module.{Module, map_module, Listed, read_wires, read_threads, Sheet, read_sheet, read}
+use Rattle.sheet.specs.Module.{Module, map_module, Listed, read_wires, Sheet, read_sheet, read}
 use Rattle.sheet.specs.Answers.{starts_of, definitions_of}
 use Rattle.sheet.proofs.Reading.{bind_ok, check-ok, ok-injective}
 use Rattle.sheet.proofs.Sections.{wires-count, threads-count, headed}
@@ -80,7 +80,7 @@ pub accepted : (s : List ℕ) (r : Sheet ℕ) → read_sheet (located s) s ≡ o
 accepted s r e =
     let x = sections (located s) s e in
     let c = scope_with x.head x.functions in
-    let h = headed s x.head_read in
+    let h = headed s x.head-read in
     let few : c.inputs + c.registers ≤ 256 = omega (arith, h.inputs-most, h.registers-most) in
     let w = wires-count (located s) c s x.head.wires (c.inputs + c.registers) x.functions.next x.wires-read in
     let t = threads-count (located s) c s x.head.threads x.wires.next x.threads-read in

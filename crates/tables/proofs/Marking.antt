@@ -11,10 +11,9 @@ use lib.Dec.{eqb}
 use lib.ListN.{length, get_or, set, length-set, replicate}
 use lib.Seq.{get_or-set_same, get_or-set_other}
 use Rattle.values.specs.Values.{pick}
-use Rattle.sheet.specs.Expression.{Expr, no_function, Scope, Parsed, Passed}
+use Rattle.sheet.specs.Expression.{Expr, Scope, Parsed, Passed}
 use Rattle.sheet.proofs.Expression.{Reads, a-variable, a-constant, an-unknown, a-unary, a-binary, a-conditional, a-call, ReadsAll, no_arguments, an-argument}
 use Rattle.evaluation.specs.Evaluation.{reads, reads_all}
-use Rattle.pseudocode.specs.Skipping.{argument_count}
 use Rattle.pseudocode.proofs.Skipping.{Counted}
 use Rattle.masks.specs.Masks.{bits, mask}
 use Rattle.masks.proofs.Masks.{length-bits, bits-mask, any_none, any-bits}
@@ -106,6 +105,7 @@ module _ (c : Scope) (s ds : List ℕ) (counted : Counted s ds c.functions) (few
   -- By the depth.
   walks : (d : ℕ) {p : ℕ} {q : Parsed Expr} → Reads c s d p q → (rs : List ℕ) → length rs ≡ 80 → Walked k rs (mark_at d s ds k p rs) q
   unfolding mark_at mark_node mark_binary mark_conditional reads
+  walks zero {p = p} {q = q} x'' rs long = elim x'' [ ]
   walks (suc d) (a-variable {v = v} m h e l) rs long =
       rw (m, e) (record { next = refl; marks = marks-variable k v rs hk (omega arith) long })
   walks (suc d) (a-constant m w h e l) rs long = rw m (record { next = refl; marks = marks-none k rs long })

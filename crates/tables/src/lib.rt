@@ -1,6 +1,7 @@
 // Tables filled once from an accepted sheet: for each variable the wires that read it, and whether a wait names it.
 // Each function equals its definition in specs/Readers for any bytes and words.
 #![tactic(auto)]
+
 ghost use Rattle.std.specs.Prelude.{◌≡◌};
 ghost use Rattle.pseudocode.specs.Fetching.{fetch_at};
 ghost use Rattle.tables.specs.Readers.{at_most, marking, mark_variable, mark_binary, mark_conditional, mark_arguments, mark_at, readers_below};

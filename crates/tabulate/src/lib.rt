@@ -1,5 +1,6 @@
 // A run as a table of text, put into a lent buffer line by line: titles, cycles and values.
 #![tactic(auto)]
+
 ghost use Rattle.std.specs.Prelude.{◌≡◌, ◌-◌, ◌<◌, length, get_or};
 ghost use Rattle.values.specs.Cells.{cell_at};
 ghost use Rattle.writing.specs.Numbers.{decimal};

@@ -1,7 +1,7 @@
 -- What the program prints fits the buffer: a line has at most 16 characters, and three for each byte that its statement
 -- takes in the sheet; there are at most 2,048 lines and 8,192 bytes.
 use mathlib.Core.Path.{◌≡◌, refl, ap}
-use Prim.Native.Nat.{ℕ, zero, suc, ◌+◌, ◌-◌, ◌*◌, ◌^◌, ◌≤◌, ◌<◌}
+use Prim.Native.Nat.{ℕ, zero, suc, ◌+◌, ◌*◌, ◌^◌, ◌≤◌, ◌<◌}
 use native.Mathlib.Nat.{pow-le-pow_right}
 use native.Mathlib.Omega.{arith}
 use mathlib.Core.List.{List, [], ◌∷◌, ◌++◌}
@@ -13,8 +13,8 @@ use Rattle.values.specs.Edges.{edge_of, edge_number}
 use Rattle.values.specs.declared.Edge.{Edge}
 use Rattle.values.specs.declared.Edge.TheVariants.{Change, Posedge, Negedge}
 use Rattle.sheet.specs.declared.EdgeTerm.{EdgeTerm}
-use Rattle.sheet.specs.Reading.{Res, ok, no, ◌>>=◌, ◌>>◌}
-use Rattle.sheet.specs.Expression.{Expr, no_function, Scope, Parsed, Passed, tree}
+use Rattle.sheet.specs.Reading.{Res, ok, no}
+use Rattle.sheet.specs.Expression.{Expr, Scope, Parsed, Passed, tree}
 use Rattle.sheet.specs.Statement.{Stmt, empty, assign, later, sequence, if_then, if_else, while, forever, wait, size, is_register, Body, read_stmt}
 use Rattle.sheet.specs.Module.{Module, Listed, read_threads, read_sheet, read}
 use Rattle.sheet.proofs.Reading.{bind_ok, check-ok, ok-injective}
@@ -43,6 +43,7 @@ length-all inner (an-argument {p = p} {e = e} x es) = simp length-append (omega 
 module _ {c : Scope} {s : List ℕ} (b : length c.widths ≤ 100) (few : c.declared ≤ 100) where
   lengths : (d : ℕ) {p : ℕ} {q : Parsed Expr} → Reads c s d p q → length (show_expr q.item) + 1 + 3 * p ≤ 3 * q.next
   unfolding show_expr
+  lengths zero {p = p} {q = q} x' = elim x' [ ]
   lengths (suc d) (a-variable {v = v} m h e l) = omega (arith, length-decimal 1 v (omega arith))
   lengths (suc d) (a-constant {w = w} {v = v} m k h e l) =
       let x : w ≤ 32 = k.most in
@@ -246,7 +247,7 @@ length-listing s e =
     let r = bind_ok (read_sheet (tree s) s) _ e in
     let x = sections (tree s) s r.1 in
     let c = scope_with x.head x.functions in
-    let h = headed s x.head_read in
+    let h = headed s x.head-read in
     let i = h.inputs-most in
     let g = h.registers-most in
     let t = h.threads-most in

@@ -6,7 +6,7 @@ use mathlib.Core.List.{List, [], ◌∷◌, ◌++◌, map}
 use lib.ListN.{length, length-map}
 use lib.Dec.{leb}
 use Rattle.sheet.specs.declared.EdgeTerm.{EdgeTerm}
-use Rattle.sheet.specs.Reading.{Res, ok, no, ◌>>=◌, ◌>>◌}
+use Rattle.sheet.specs.Reading.{Res, ok, no}
 use Rattle.sheet.specs.Expression.{Expr, Scope, Parsed, tree, located, expr_at}
 use Rattle.sheet.specs.Statement.{Stmt, size, map_stmt, Body, read_stmt}
 use Rattle.sheet.specs.Module.{map_module, Listed, read_threads, Sheet, read_sheet}

@@ -13,7 +13,7 @@ use borrow.Author.Tests.{lt-ltb, le-ltb, ne_eqb}
 use Rattle.values.specs.Values.{pick}
 use Rattle.sheet.specs.declared.EdgeTerm.{EdgeTerm}
 use Rattle.sheet.specs.Reading.{word_of}
-use Rattle.sheet.specs.Expression.{Expr, no_function, Scope, Parsed, Passed}
+use Rattle.sheet.specs.Expression.{Expr, Scope, Parsed, Passed}
 use Rattle.sheet.proofs.Expression.{Reads, a-variable, a-constant, an-unknown, a-unary, a-binary, a-conditional, a-call, ReadsAll, no_arguments, an-argument}
 use Rattle.pseudocode.specs.Skipping.{argument_count}
 use Rattle.pseudocode.proofs.Skipping.{arguments-most, Counted}
@@ -160,6 +160,7 @@ module _ (c : Scope) (s ds : List ℕ) (counted : Counted s ds c.functions) wher
   -- By the depth.
   shows : (d : ℕ) {p : ℕ} {q : Parsed Expr} → Reads c s d p q → shown_at d s ds p ≡ shown q.next (show_expr q.item)
   unfolding operands_of mark_of behind show_expr
+  shows zero {p = p} {q = q} x' = elim x' [ ]
   shows (suc d) {p} (a-variable m h e l) =
       shown-suc s ds d p _ _ (record { inside = omega arith; map = sym m; after = sym e }) ∙ node-variable _ s ds p 0x02 _ refl
   shows (suc d) {p} (a-constant m w h e l) =

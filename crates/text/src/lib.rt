@@ -1,6 +1,7 @@
 // The listing's text (document 01, "Samples from the stands"), written into a lent buffer of 65,536 bytes.
 // Every contract says: buffer and new position are what putting the text at the old position gives.
 #![tactic(auto)]
+
 ghost use Rattle.std.specs.Prelude.{◌≡◌, ◌∷◌, [], get_or, length};
 ghost use Rattle.pseudocode.specs.Instruction.{no_term};
 ghost use Rattle.writing.specs.Numbers.{decimal};

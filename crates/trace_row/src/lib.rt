@@ -1,6 +1,7 @@
 // A row of a trace: a cell for each variable, and behind the cells the places of the threads. Each function equals its definition for
 // slices of any length.
 #![tactic(auto)]
+
 ghost use Rattle.std.specs.Prelude.{◌≡◌, get_or};
 ghost use Rattle.values.specs.Cells.{cell_at};
 ghost use Rattle.trace_row.specs.TraceRow.{place_in, row_of};

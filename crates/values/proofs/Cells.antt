@@ -1,6 +1,6 @@
 -- Laws of cells: a small value comes back from its cell, every cell stands for such a value, and a plane after a store. Whoever cites
 -- these need not open the form. Assumes nothing.
-use Rattle.std.proofs.Common.{◌≡◌, ℕ, ◌+◌, ◌*◌, ◌/◌, ◌%◌, ◌<◌, Bool, true, false, ◌≢◌, List, length, get_or, set, sym, refl, ap, ◌∙◌, mod-lt, mod-eq_of_lt, zero-add, arith, lit<, get_or-set_other, get_or-set_same}
+use Rattle.std.proofs.Common.{◌≡◌, ℕ, ◌+◌, ◌*◌, ◌%◌, ◌<◌, true, ◌≢◌, List, length, get_or, set, ap, ◌∙◌, mod-lt, mod-eq_of_lt, zero-add, lit<, get_or-set_other, get_or-set_same}
 use native.Mathlib.Nat.{add-mul-mod_self_right, add-mul-div_right, div-eq_of_lt}
 use Rattle.values.specs.declared.Value.{Value}
 use Rattle.values.specs.Cells.{small, cell_of, number_in, marks_in, value_of, cell_at}

@@ -1,6 +1,7 @@
 // Values, operators, conditions and edges (document 01, "Values and pseudo-code", "The simulation cycle"; document 02, request [4]), and
 // the cell of a value. Each function equals its definition in specs/, for every argument.
 #![tactic(auto)]
+
 ghost use Rattle.std.specs.Prelude.{◌≡◌, ◌%◌, ◌^◌, ◌<◌, nat_lt, slice_index};
 ghost use Rattle.values.specs.Values.{pick, known, ones, all_unknown, fits, holds, same};
 ghost use Rattle.values.specs.Operators.{unary_width, unary, flag, possible, marked, between, outside, certain};

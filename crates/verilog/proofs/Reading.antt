@@ -12,11 +12,11 @@ use Rattle.values.specs.Values.{pick}
 use Rattle.values.proofs.Values.{and_left, and_right}
 use Rattle.sheet.specs.declared.EdgeTerm.{EdgeTerm}
 use Rattle.sheet.specs.declared.SheetRead.{SheetRead}
-use Rattle.sheet.specs.Reading.{Res, ok, no, ◌>>=◌, ◌>>◌, check, byte_at, within}
+use Rattle.sheet.specs.Reading.{Res, ok, no, byte_at, within}
 use Rattle.sheet.specs.Expression.{Expr, Function, no_function, Scope, Parsed, Passed, read_expr, tree, located}
 use Rattle.sheet.specs.Statement.{Stmt, sequence, size, is_register, Body, Form, an_empty, an_assign, a_later, a_sequence, an_if, an_if_else, a_while, a_forever, a_wait, form_of, read_stmt}
 use Rattle.sheet.specs.Functions.{read_widths, Bodied, body_form, read_body, body_scope, function_of, Made, read_function, Defined, read_functions}
-use Rattle.sheet.specs.Module.{map_module, Listed, widths_at, Head, with_functions, read_head, read_wires, read_threads, Sheet, whole_sheet, read_sheet, read}
+use Rattle.sheet.specs.Module.{map_module, Listed, widths_at, Head, with_functions, read_head, read_wires, read_threads, Sheet, whole_sheet, read_sheet}
 use Rattle.sheet.specs.Answers.{definitions_of, layout_of, blank, sheet_answer}
 use Rattle.sheet.proofs.Reading.{no≢ok, bind_ok, check-ok, ok-injective, byte-ok, within-ok}
 use Rattle.sheet.proofs.Expression.{Reads, a-variable, a-constant, an-unknown, a-unary, a-binary, a-conditional, a-call, ReadsAll, no_arguments, an-argument, derive}
@@ -25,7 +25,6 @@ use Rattle.sheet.proofs.Sections.{widths-part, wires-count, threads-count, heade
 use Rattle.sheet.proofs.Closed.{whole}
 use Rattle.sheet.proofs.Trees.{map_res, trees, sheet-located, read-located}
 use Rattle.sheet.proofs.Numbers.{numbered-no, located-numbered, sheet-numbered}
-use Rattle.pseudocode.specs.Skipping.{argument_count}
 use Rattle.pseudocode.proofs.Skipping.{Counted, counted_none, functions-counted}
 use Rattle.writing.specs.Ascii.{ascii}
 use Rattle.writing.specs.Numbers.{decimal}
@@ -33,8 +32,8 @@ use Rattle.writing.specs.Buffer.{Text, filled, puts}
 use Rattle.naming.specs.Naming.{name_of}
 use Rattle.signs.specs.Signs.{sign, operands, lead}
 use Rattle.signs.proofs.Signs.{operands-one, operands-two, lead-first, lead-last}
-use Rattle.verilog.specs.Verilog.{◌&◌, indent, before, waiting, nesting, single, front, expr_text, arguments_text, term_text, terms_text, sequence_text, stmt_text, wires_text, opening, remainder, opened_text, thread_text, threads_text, declarations_text, statement_of, own_name, function_head, function_end, function_text, functions_text, module_text, answer, printed, verilog_of}
-use Rattle.verilog.specs.Printing.{Shown, shown, behind, lead_at, operands_at, word_at, shape_of, bodies_of, flat, inner_level, end_at, closing_at, shown_at, term_at, terms_at, assign_at, condition_at, wait_at, heading_at, form_at, stmt_at, declarations_at, wire_at, wires_at, block_at, waiting_at, opens_at, thread_at, threads_at, definition_of, definition_at, definitions_at, module_at}
+use Rattle.verilog.specs.Verilog.{◌&◌, indent, waiting, nesting, single, front, expr_text, arguments_text, term_text, terms_text, sequence_text, stmt_text, wires_text, opening, remainder, opened_text, thread_text, threads_text, declarations_text, statement_of, own_name, function_text, functions_text, module_text, answer, printed, verilog_of}
+use Rattle.verilog.specs.Printing.{Shown, shown, behind, lead_at, operands_at, word_at, shape_of, bodies_of, flat, inner_level, end_at, closing_at, shown_at, term_at, terms_at, assign_at, condition_at, wait_at, heading_at, form_at, stmt_at, declarations_at, wire_at, wires_at, block_at, waiting_at, thread_at, threads_at, definition_of, definition_at, definitions_at, module_at}
 use Rattle.verilog.proofs.Printing as Printing
 
 -- ---- a statement by its heading and its bodies
@@ -86,6 +85,7 @@ module _ (name : ℕ → List ℕ) (c : Scope) (s ds : List ℕ) (counted : Coun
   shown_by : (d : ℕ) {p : ℕ} {q : Parsed Expr} → Reads c s d p q
       → shown_at name s ds d p ≡ shown q.next (expr_text name q.item)
   unfolding behind expr_text
+  shown_by zero {p = p} {q = q} x' = elim x' [ ]
   shown_by (suc d) {p = p} (a-variable m h e l) =
       Printing.shown-suc name s ds d p _ _ (omega arith) (sym m) (sym e) ∙ Printing.node-variable name s ds _ p 0x02 _ refl
   shown_by (suc d) {p = p} (a-constant m w h e l) =

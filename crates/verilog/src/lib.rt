@@ -1,6 +1,7 @@
 // The module as Verilog text (specs/Verilog.antt), written into a lent buffer of 65,536 bytes.
 // Every contract says: next place in the sheet, buffer and new position are what printing the text at the old position leaves.
 #![tactic(auto)]
+
 ghost use Rattle.std.specs.Prelude.{◌≡◌, ◌+◌, ◌-◌, ◌<◌, ◌≤◌, length};
 ghost use Rattle.values.specs.Edges.{edge_of};
 ghost use Rattle.writing.specs.Buffer.{filled, puts};

@@ -77,7 +77,7 @@ module _ (c : Scope) (s : List ℕ) where
       let x = spells-split (encode_stmt (returned b)) (encode_threads (map returned bs)) r in
       let n : size (returned b) + 1 ≤ 256 = rw (returned-size b) t.1 in
       then-or _ (less 64 p (spells-stmt (returned b) (returned-built c 64 b t.0) x.0))
-      (rw (le-leb (size (returned b) + 1) 256 n) (then-or _ (threads-less bs t.2 x.1) fine))
+      (rw (le-leb (size (returned b) + 1) 256 n) (then-or _ (threads-less {p = p + length (encode_stmt (returned b))} bs t.2 x.1) fine))
 
 -- ---- the sheet
 

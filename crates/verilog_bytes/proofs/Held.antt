@@ -3,7 +3,7 @@
 use mathlib.Core.Path.{◌≡◌, refl, sym, ap, ◌∙◌}
 use mathlib.Core.Bool.{Bool, true, false}
 use mathlib.Core.List.{List, [], ◌∷◌, ◌++◌, append_assoc, append-nil}
-use Prim.Native.Nat.{ℕ, suc, ◌+◌, ◌-◌, ◌≤◌, min}
+use Prim.Native.Nat.{ℕ, suc, ◌+◌, ◌≤◌, min}
 use native.Mathlib.Omega.{arith}
 use lib.Dec.{ltb}
 use lib.ListN.{length, take, drop, set, length-append, length-set, take-append-drop}
@@ -51,7 +51,9 @@ pub held-puts : {bs l : List ℕ} {p : ℕ} (xs : List ℕ) → Held bs p l
     → Held (puts (filled bs p) xs).bytes (puts (filled bs p) xs).at (l ++ xs)
 held-puts {bs} {l} {p} [] held = rw (puts-nil (filled bs p), append-nil l) held
 held-puts {bs} {l} {p} (x ∷ xs) held =
-    rw (puts-cons (filled bs p) x xs, ← append_assoc l (x ∷ []) xs) (held-puts xs (held-put x held))
+    let t = put (filled bs p) x in
+    rw (puts-cons (filled bs p) x xs, ← append_assoc l (x ∷ []) xs)
+    (held-puts {bs = t.bytes} {l = l ++ (x ∷ [])} {p = t.at} xs (held-put x held))
 
 -- ---- two parts turned
 

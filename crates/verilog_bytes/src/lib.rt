@@ -1,6 +1,7 @@
 // Bytes put in front of others in a buffer of 65,536 bytes: where there is room the others are moved on; else they are written
 // behind, and then the two are turned.
 #![tactic(auto)]
+
 ghost use Rattle.std.specs.Prelude.{◌≡◌, ◌&&◌, ◌∷◌, [], ◌+◌, ◌-◌, ◌≤◌, ltb, leb};
 ghost use Rattle.writing.specs.Buffer.{filled, puts};
 ghost use Rattle.verilog_bytes.specs.Turning.{reversed, turned, moved, fronted};

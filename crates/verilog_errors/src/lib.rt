@@ -2,6 +2,7 @@
 // caret, the token that stands there, the tokens that could have stood there, the rule that a name breaks, and words outside the forms.
 // Each function equals its definition in specs/, for every text and every place.
 #![tactic(auto)]
+
 mod choices;
 mod faults;
 mod found;

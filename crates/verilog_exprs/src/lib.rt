@@ -1,6 +1,7 @@
 // Expressions of a Verilog text, from the table of its tokens (verilog_tokens, specs/Table), written as a sheet has them into a buffer of
 // 65,536 bytes. Every contract says: answer and buffer are what the definition of the same name leaves, for tables of any contents.
 #![tactic(auto)]
+
 mod constants;
 mod operators;
 mod rows;

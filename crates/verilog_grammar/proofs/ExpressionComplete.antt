@@ -1,8 +1,8 @@
 -- Every expression at table 5-4's precedence and association is what the reader makes of its tokens.
 -- Assumes nothing.
-use mathlib.Core.Path.{◌≡◌, refl, sym, ap, ◌∙◌}
+use mathlib.Core.Path.{◌≡◌, refl, ◌∙◌}
 use mathlib.Core.Bool.{Bool, true, false}
-use mathlib.Core.List.{List, [], ◌∷◌}
+use mathlib.Core.List.{List, ◌∷◌}
 use mathlib.Core.Option.{Option, none as nothing, some as just}
 use Prim.Native.Nat.{ℕ, zero, suc, ◌+◌, ◌≤◌, ◌<◌}
 use native.Mathlib.Omega.{arith}
@@ -15,7 +15,7 @@ use Rattle.naming.specs.Naming.{same_text}
 use Rattle.verilog_tokens.specs.Tokens.{Token, terminal, name, number, known, unknown, Name}
 use Rattle.verilog_grammar.specs.AnnexA.{mark, Unary, negation, complement, Binary, unary_sign, binary_sign, Number, sized, sized_x, spell_number, Expression, Primary, only, prefixed, joined, chosen, identified, numbered, bracketed, spell, spell_primary}
 use Rattle.verilog_grammar.specs.Conditions.{precedence, level, Grouped, GroupedPrimary}
-use Rattle.verilog_grammar.specs.Reader.{Res, ok, no, Reader, bind, give, is_mark, starts, if_next, expect, is_name, ident, size, valued, identifier, constant, brackets, atom, primary, prefix, plain, operand, operator, join, turn, climb, choice, arms, start, reader, expression}
+use Rattle.verilog_grammar.specs.Reader.{ok, Reader, give, is_mark, starts, if_next, is_name, ident, size, valued, identifier, constant, brackets, atom, primary, prefix, plain, operand, operator, join, turn, climb, choice, arms, start, reader, expression}
 use Rattle.verilog_grammar.proofs.Steps.{expected, next-is, next-not}
 use Rattle.verilog_grammar.proofs.Operators.{leads, leads_by, binds, binds_by, precedence-from, level-from, binds-leads, operator-sign}
 

@@ -2,7 +2,7 @@
 -- Assumes nothing.
 use mathlib.Core.Path.{◌≡◌, refl, sym, ap, ◌∙◌}
 use mathlib.Core.Bool.{Bool, true, false}
-use mathlib.Core.List.{List, [], ◌∷◌}
+use mathlib.Core.List.{List, ◌∷◌}
 use mathlib.Core.Option.{Option, none as nothing, some as just}
 use Prim.Native.Nat.{ℕ, zero, suc, ◌+◌, ◌≤◌, ◌<◌}
 use native.Mathlib.Omega.{arith}
@@ -11,10 +11,10 @@ use lib.ListN.{length}
 use borrow.Author.Tests.{leb-true, leb-false}
 use Rattle.values.specs.Values.{pick}
 use Rattle.writing.specs.Ascii.{ascii}
-use Rattle.verilog_tokens.specs.Tokens.{Token, terminal, name, Name}
-use Rattle.verilog_grammar.specs.AnnexA.{mark, Unary, negation, complement, Binary, unary_sign, binary_sign, Number, Expression, Primary, only, prefixed, joined, chosen, identified, numbered, bracketed, spell, spell_primary}
+use Rattle.verilog_tokens.specs.Tokens.{Token, terminal}
+use Rattle.verilog_grammar.specs.AnnexA.{mark, Unary, negation, complement, Binary, unary_sign, binary_sign, Expression, Primary, joined, spell, spell_primary}
 use Rattle.verilog_grammar.specs.Conditions.{precedence, level, Grouped, GroupedPrimary}
-use Rattle.verilog_grammar.specs.Reader.{Res, ok, no, Reader, bind, give, refuse, starts, if_next, expect, is_name, ident, size, valued, identifier, constant, brackets, atom, primary, prefix, plain, operand, operator, join, turn, climb, choice, arms, start, reader, expression}
+use Rattle.verilog_grammar.specs.Reader.{ok, Reader, bind, give, refuse, if_next, is_name, size, valued, identifier, constant, brackets, atom, primary, prefix, plain, operand, operator, join, turn, climb, choice, arms, start, reader, expression}
 use Rattle.verilog_grammar.proofs.Steps.{no≢ok, ok-item, ok-rest, stepped, after, named, next-ok, size_ok, valued-ok}
 use Rattle.verilog_grammar.proofs.Operators.{leads, binds, binds_by, precedence-from, precedence-to, leads-to, binds-leads, leads-query, leads-closer}
 

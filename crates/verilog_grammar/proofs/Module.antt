@@ -1,17 +1,16 @@
 -- The claims: what is read has a derivation, what has one is read, and all derivations of the same tokens mean the same.
 -- Assumes nothing.
 use mathlib.Core.Path.{◌≡◌, refl, sym, ap, ◌∙◌}
-use mathlib.Core.Bool.{Bool, true, false}
 use mathlib.Core.List.{List, [], ◌∷◌}
-use Prim.Native.Nat.{ℕ, zero, suc, ◌+◌, ◌≤◌, ◌<◌}
+use Prim.Native.Nat.{ℕ, zero, suc}
 use Prim.Native.String.{String}
 use lib.ListN.{length}
 use Rattle.writing.specs.Ascii.{ascii}
-use Rattle.verilog_tokens.specs.Tokens.{Token, terminal, name, number, Name}
-use Rattle.verilog_grammar.specs.AnnexA.{mark, spell, spell_statement, Listed, one, also, spell_listed, spell_name, Range, no_range, down_to, spell_range, NetAssignment, spell_net, Item, input, reg, wire, assign, always, spell_declared, spell_part, spell_parts, ModuleDeclaration, yield}
+use Rattle.verilog_tokens.specs.Tokens.{Token, name, number, Name}
+use Rattle.verilog_grammar.specs.AnnexA.{mark, Listed, one, also, spell_listed, spell_name, Range, no_range, down_to, spell_range, spell_net, Item, input, reg, wire, assign, always, spell_declared, spell_part, spell_parts, yield}
 use Rattle.verilog_grammar.specs.Conditions.{Every, GroupedNet, SettledPart, SettledParts, Counts}
-use Rattle.verilog_grammar.specs.Meaning.{Kind, an_input, a_register, a_wire, Driven, Part, declares, drives, runs, Source, width_of, list_of, same, stmt_of, driven_of, part_of, parts_of, meaning, expr_of}
-use Rattle.verilog_grammar.specs.Reader.{Res, ok, no, Reader, bind, give, refuse, starts, if_next, expect, ident, unsigned, naught, expression, further_listed, listed, list, statement, bounds, range, declaration, net_assignment, continuous_assign, always_construct, module_item, module_end, module_more, module_items, ended, read_module}
+use Rattle.verilog_grammar.specs.Meaning.{Kind, an_input, a_register, a_wire, Driven, Part, declares, drives, runs, Source, width_of, list_of, same, driven_of, part_of, parts_of, meaning}
+use Rattle.verilog_grammar.specs.Reader.{ok, Reader, give, refuse, ident, unsigned, naught, expression, further_listed, listed, list, statement, bounds, range, declaration, net_assignment, continuous_assign, always_construct, module_item, module_end, module_more, module_items, ended, read_module}
 use Rattle.verilog_grammar.specs.Claims.{Derivation, OnlyDerived, AllDerived, OneMeaning}
 use Rattle.verilog_grammar.proofs.Steps.{no≢ok, ok-item, ok-rest, stepped, after, named, next-ok, ident-ok, unsigned-ok, naught-ok}
 use Rattle.verilog_grammar.proofs.ExpressionSound.{expression-sound}

@@ -1,20 +1,19 @@
 -- Every module whose parts count means what the reader makes of its tokens.
 -- Assumes nothing.
-use mathlib.Core.Path.{◌≡◌, refl, sym, ap, ◌∙◌}
-use mathlib.Core.Bool.{Bool, true, false}
+use mathlib.Core.Path.{◌≡◌, refl, ◌∙◌}
+use mathlib.Core.Bool.{Bool, false}
 use mathlib.Core.List.{List, [], ◌∷◌}
 use Prim.Native.Nat.{ℕ, zero, suc, ◌+◌, ◌≤◌, ◌<◌}
 use Prim.Native.String.{String}
 use native.Mathlib.Omega.{arith}
 use lib.ListN.{length}
-use Rattle.values.specs.Values.{pick}
 use Rattle.writing.specs.Ascii.{ascii}
 use Rattle.naming.specs.Naming.{same_text}
-use Rattle.verilog_tokens.specs.Tokens.{Token, terminal, name, number, Name}
-use Rattle.verilog_grammar.specs.AnnexA.{mark, Expression, spell, Statement, spell_statement, Listed, one, also, spell_listed, spell_name, Range, no_range, down_to, spell_range, NetAssignment, spell_net, Item, input, reg, wire, assign, always, spell_declared, spell_part, spell_parts, ModuleDeclaration, yield}
-use Rattle.verilog_grammar.specs.Conditions.{Grouped, Every, GroupedNet, SettledPart, SettledParts, Counts}
-use Rattle.verilog_grammar.specs.Meaning.{Kind, an_input, a_register, a_wire, Driven, Part, declares, drives, runs, Source, width_of, list_of, same, stmt_of, driven_of, part_of, parts_of, meaning}
-use Rattle.verilog_grammar.specs.Reader.{Res, ok, no, Reader, bind, give, is_mark, starts, if_next, expect, ident, unsigned, naught, expression, further_listed, listed, list, statement, bounds, range, declaration, net_assignment, continuous_assign, always_construct, module_item, module_end, module_more, module_items, ended, read_module}
+use Rattle.verilog_tokens.specs.Tokens.{Token, name, number, Name}
+use Rattle.verilog_grammar.specs.AnnexA.{mark, spell, Statement, spell_statement, Listed, one, also, spell_listed, spell_name, Range, no_range, down_to, spell_range, NetAssignment, spell_net, Item, input, reg, wire, assign, always, spell_declared, spell_part, spell_parts, ModuleDeclaration, yield}
+use Rattle.verilog_grammar.specs.Conditions.{Every, GroupedNet, SettledPart, SettledParts, Counts}
+use Rattle.verilog_grammar.specs.Meaning.{Kind, an_input, a_register, a_wire, Part, declares, drives, runs, width_of, list_of, same, stmt_of, driven_of, part_of, parts_of, meaning}
+use Rattle.verilog_grammar.specs.Reader.{ok, Reader, give, is_mark, starts, if_next, ident, unsigned, naught, further_listed, listed, list, bounds, range, declaration, net_assignment, continuous_assign, always_construct, module_item, module_end, module_more, module_items, ended, read_module}
 use Rattle.verilog_grammar.proofs.Steps.{expected, next-is, next-not}
 use Rattle.verilog_grammar.proofs.Operators.{leads}
 use Rattle.verilog_grammar.proofs.ExpressionComplete.{longer, leads-close, leads-semicolon, leads-comma, expression-read}

@@ -1,20 +1,19 @@
 -- Samples, computed: expressions grouped by table 5-4, and statements.
 -- Assumes nothing.
 use mathlib.Core.Path.{◌≡◌, refl}
-use mathlib.Core.Bool.{Bool, true, false}
-use mathlib.Core.List.{List, [], ◌∷◌, map}
+use mathlib.Core.List.{List, [], ◌∷◌}
 use Prim.Native.Nat.{ℕ}
 use Prim.Native.String.{String}
-use Rattle.values.specs.declared.Edge.TheVariants.{Change, Posedge, Negedge}
+use Rattle.values.specs.declared.Edge.TheVariants.{Change, Posedge}
 use Rattle.sheet.specs.Expression.{Expr, variable, constant, binary}
-use Rattle.sheet.specs.Statement.{Stmt, empty, assign as assigns, later, sequence, if_then, if_else, while, forever, wait}
+use Rattle.sheet.specs.Statement.{Stmt, empty, assign as assigns, later, sequence, if_then, if_else, wait}
 use Rattle.writing.specs.Ascii.{ascii}
 use Rattle.verilog_tokens.specs.Tokens.{Token, tokens}
 use Rattle.verilog_tokens.proofs.Samples.{seen}
-use Rattle.verilog_grammar.specs.AnnexA.{Unary, negation, complement, Binary, plus, minus, equals, less, conjunction, disjunction, exclusive, unary_sign, binary_sign, Expression, only, prefixed, joined, chosen, identified}
+use Rattle.verilog_grammar.specs.AnnexA.{complement, plus, minus, equals, less, conjunction, disjunction, exclusive, unary_sign, binary_sign, Expression, only, prefixed, joined, chosen, identified}
 use Rattle.verilog_grammar.specs.Conditions.{precedence}
 use Rattle.verilog_grammar.specs.Meaning.{up_to, cut, number_expr, nested, block_of, fallback, test, tests, or_empty, case_of, expr_of, primary_of, term_of, unary_number, binary_number}
-use Rattle.verilog_grammar.specs.Reader.{Res, ok, no, is_mark, starts, if_next, expect, is_name, ident, size, valued, known_value, refuse, identifier, constant as constant_primary, brackets, atom, primary, prefix, plain, operand, operator, join, turn, climb, choice, arms, start, reader, expression, condition, edge, change, event, further_events, more_events, events, event_list, event_name, control, blocking_to, nonblocking_to, assignment, null_statement, or_null, else_part, or_else, conditional, while_loop, forever_loop, timing, block_end, block_more, statements, block, colon, default_item, labelled_item, items_end, items_more, items_behind, default_first, label_first, case_items, case_statement, statement_by, statement}
+use Rattle.verilog_grammar.specs.Reader.{ok, no, is_mark, starts, if_next, expect, is_name, ident, size, valued, known_value, refuse, identifier, constant as constant_primary, brackets, atom, primary, prefix, plain, operand, operator, join, turn, climb, choice, arms, start, reader, expression, condition, edge, change, event, further_events, more_events, events, event_list, event_name, control, blocking_to, nonblocking_to, assignment, null_statement, or_null, else_part, or_else, conditional, while_loop, forever_loop, timing, block_end, block_more, statements, block, colon, default_item, labelled_item, items_end, items_more, items_behind, default_first, label_first, case_items, case_statement, statement_by, statement}
 
 -- A text's tokens, with every definition open that reads them.
 unfoldable pub sample : String → List Token

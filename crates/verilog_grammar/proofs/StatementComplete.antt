@@ -1,29 +1,25 @@
 -- Every statement with each `else` at the nearest `if` and one default a case means what the reader makes of its tokens.
 -- Assumes nothing.
-use mathlib.Core.Path.{◌≡◌, refl, sym, ap, ◌∙◌, subst}
+use mathlib.Core.Path.{◌≡◌, refl, sym, ap, ◌∙◌}
 use mathlib.Core.Bool.{Bool, true, false}
 use mathlib.Core.List.{List, [], ◌∷◌, ◌++◌, append_assoc, append-nil}
 use Prim.Native.Nat.{ℕ, zero, suc, ◌+◌, ◌≤◌, ◌<◌}
 use native.Mathlib.Nat.{add-zero}
 use native.Mathlib.Omega.{arith}
-use lib.Dec.{eqb}
 use lib.ListN.{length}
-use Rattle.values.specs.Values.{pick}
-use Rattle.values.specs.declared.Edge.{Edge}
 use Rattle.values.specs.declared.Edge.TheVariants.{Change, Posedge, Negedge}
 use Rattle.sheet.specs.declared.EdgeTerm.{EdgeTerm}
 use Rattle.sheet.specs.Expression.{Expr}
-use Rattle.sheet.specs.Statement.{Stmt, empty, assign as assigns, later, sequence, if_then, if_else, while, forever, wait}
+use Rattle.sheet.specs.Statement.{Stmt, assign as assigns, later, if_then, if_else}
 use Rattle.writing.specs.Ascii.{ascii}
 use Rattle.naming.specs.Naming.{same_text}
-use Rattle.verilog_tokens.specs.Tokens.{Token, terminal, name, number, known, unknown, Name}
+use Rattle.verilog_tokens.specs.Tokens.{Token, name, number, known, Name}
 use Rattle.verilog_grammar.specs.AnnexA.{mark, sized, Expression, spell, Event, changes, rises, falls, or_else as or_event, comma, spell_event, Control, bare, among, spell_control, spell_condition}
 use Rattle.verilog_grammar.specs.AnnexA.{Statement, blocking, nonblocking, selects, whether, either, chain, endless, repeats, after, block as block_tree, OrNull, some, null, Chain, last, last_else, leg, Statements, none, more, CaseItem, labelled, default, default_colon, CaseItems, last_item, item, spell_statement, spell_or_null, spell_chain, spell_all, spell_item, spell_items}
 use Rattle.verilog_grammar.specs.Conditions.{Grouped, is_open, is_open_or_null, is_open_chain, defaults_of, defaults, Settled, SettledOrNull, SettledChain, SettledAll, SettledItem, SettledItems}
-use Rattle.verilog_grammar.specs.Meaning.{Arm, on, otherwise, case_of, block_of, number_expr, expr_of, term_of, terms_of, control_of, stmt_of, or_null_of, chain_of, stmts_of, arm_of, arms_of}
-use Rattle.verilog_grammar.specs.Reader.{Res, ok, no, Reader, bind, give, refuse, is_mark, starts, if_next, expect, ident, size, known_value, expression, condition, edge, change, event, further_events, more_events, events, event_list, event_name, control, blocking_to, nonblocking_to, assignment, null_statement, or_null, else_part, or_else, conditional, while_loop, forever_loop, timing, block_end, block_more, statements, block, colon, default_item, labelled_item, items_end, items_more, items_behind, default_first, label_first, case_items, case_statement, statement_by, statement}
+use Rattle.verilog_grammar.specs.Meaning.{Arm, on, otherwise, number_expr, expr_of, term_of, terms_of, control_of, stmt_of, or_null_of, chain_of, stmts_of, arm_of, arms_of}
+use Rattle.verilog_grammar.specs.Reader.{ok, Reader, give, is_mark, starts, if_next, expect, ident, size, known_value, expression, condition, edge, change, event, further_events, more_events, events, event_list, event_name, control, blocking_to, nonblocking_to, assignment, null_statement, or_null, else_part, or_else, conditional, while_loop, forever_loop, timing, block_end, block_more, statements, block, colon, default_item, labelled_item, items_end, items_more, items_behind, default_first, label_first, case_items, case_statement, statement_by, statement}
 use Rattle.verilog_grammar.proofs.Steps.{expected, next-is, next-not}
-use Rattle.verilog_grammar.proofs.Operators.{leads}
 use Rattle.verilog_grammar.proofs.ExpressionComplete.{longer, leads-close, leads-semicolon, expression-read}
 
 -- ---- what may follow: no `else` behind what ends in an `if` without one

@@ -3,8 +3,8 @@
 -- Assumes nothing.
 use mathlib.Core.Path.{◌≡◌, refl, sym, ap, ◌∙◌}
 use mathlib.Core.Bool.{Bool, true, false, true≢false}
-use mathlib.Core.List.{List, [], ◌∷◌, ◌++◌}
-use Prim.Native.Nat.{ℕ, zero, suc, ◌+◌, ◌≤◌, ◌<◌}
+use mathlib.Core.List.{List, [], ◌∷◌}
+use Prim.Native.Nat.{ℕ, zero, suc, ◌+◌, ◌≤◌}
 use native.Mathlib.Nat.{add-zero}
 use native.Mathlib.Omega.{arith}
 use lib.Dec.{eqb}
@@ -14,18 +14,18 @@ use Rattle.values.specs.Values.{pick}
 use Rattle.values.specs.declared.Edge.TheVariants.{Change, Posedge, Negedge}
 use Rattle.sheet.specs.declared.EdgeTerm.{EdgeTerm}
 use Rattle.sheet.specs.Expression.{Expr}
-use Rattle.sheet.specs.Statement.{Stmt, empty, assign as assigns, later, sequence, if_then, if_else, while, forever, wait}
+use Rattle.sheet.specs.Statement.{Stmt, if_then, while, forever}
 use Rattle.writing.specs.Ascii.{ascii}
 use Rattle.naming.specs.Naming.{same_text}
-use Rattle.verilog_tokens.specs.Tokens.{Token, terminal, name, number, known, Name}
+use Rattle.verilog_tokens.specs.Tokens.{Token, name, number, known, Name}
 use Rattle.verilog_grammar.specs.AnnexA.{mark, sized, Expression, spell, Event, changes, rises, falls, or_else as or_event, comma, spell_event, Control, bare, among, spell_control, spell_condition}
 use Rattle.verilog_grammar.specs.AnnexA.{Statement, blocking, nonblocking, selects, whether, either, endless, repeats, after as after_tree, block as block_tree, OrNull, some, null, Statements, none, more, CaseItem, labelled, default, default_colon, CaseItems, last_item, item, spell_statement, spell_or_null, spell_all, spell_item, spell_items}
 use Rattle.verilog_grammar.specs.Conditions.{Grouped, is_open, is_open_or_null, defaults_of, defaults, Settled, SettledOrNull, SettledAll, SettledItem, SettledItems}
 use Rattle.verilog_grammar.specs.Meaning.{Arm, on, otherwise, case_of, block_of, number_expr, expr_of, term_of, terms_of, control_of, stmt_of, or_null_of, stmts_of, arm_of, arms_of}
-use Rattle.verilog_grammar.specs.Reader.{Res, ok, no, Reader, bind, give, refuse, is_mark, starts, if_next, expect, ident, size, known_value, expression, condition, edge, change, event, further_events, more_events, events, event_list, event_name, control, blocking_to, nonblocking_to, assignment, null_statement, or_null, else_part, or_else, conditional, while_loop, forever_loop, timing, block_end, block_more, statements, block, colon, default_item, labelled_item, items_end, items_more, items_behind, default_first, label_first, case_items, case_statement, statement_by, statement}
+use Rattle.verilog_grammar.specs.Reader.{ok, Reader, give, refuse, is_mark, starts, expect, size, known_value, expression, condition, edge, change, event, further_events, more_events, events, event_list, event_name, control, blocking_to, nonblocking_to, assignment, null_statement, or_null, else_part, or_else, conditional, while_loop, forever_loop, timing, block_end, block_more, statements, block, colon, default_item, labelled_item, items_end, items_more, items_behind, default_first, label_first, case_items, case_statement, statement_by, statement}
 use Rattle.verilog_grammar.proofs.Steps.{no≢ok, ok-item, ok-rest, stepped, after, named, next-ok, expect-ok, size_ok, known_value-ok}
 use Rattle.verilog_grammar.proofs.ExpressionSound.{expression-sound}
-use Rattle.verilog_grammar.proofs.StatementComplete.{Clear, clear}
+use Rattle.verilog_grammar.proofs.StatementComplete.{Clear}
 
 -- What stands before an `else` doesn't end in an `if` without one.
 closed : (b : Bool) (ts : List Token) → Clear b (mark "else" ∷ ts) → b ≡ false

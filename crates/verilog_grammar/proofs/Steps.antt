@@ -1,6 +1,6 @@
 -- Laws of the readers' steps: what a part that was read says of the tokens it was read from.
 -- Assumes nothing.
-use mathlib.Core.Path.{◌≡◌, refl, sym, ap, ◌∙◌, subst}
+use mathlib.Core.Path.{◌≡◌, refl, ap, subst}
 use mathlib.Core.Bool.{Bool, true, false}
 use mathlib.Core.List.{List, [], ◌∷◌}
 use Prim.Native.Nat.{ℕ, zero, suc}
@@ -9,8 +9,8 @@ use Rattle.values.specs.Values.{pick}
 use Rattle.naming.specs.Naming.{same_text}
 use Rattle.naming.proofs.Naming.{same_text-refl, same_text→≡}
 use Rattle.verilog_tokens.specs.Tokens.{Token, terminal, name, number, known, unknown, broken, Name}
-use Rattle.verilog_grammar.specs.AnnexA.{Number, sized, sized_x, spell_number}
-use Rattle.verilog_grammar.specs.Reader.{Res, ok, no, Reader, bind, give, is_mark, starts, if_next, expect, is_name, ident, size, unsigned, naught, valued, known_value}
+use Rattle.verilog_grammar.specs.AnnexA.{Number, spell_number}
+use Rattle.verilog_grammar.specs.Reader.{Res, ok, no, Reader, bind, is_mark, starts, if_next, expect, ident, size, unsigned, naught, valued, known_value}
 
 -- ---- what was read is one thing
 

@@ -1,7 +1,7 @@
 -- Which derivations count (document 02, request [1]): operators "at IEEE 1364's precedence and association", "at most one
 -- `default`", "each `else` at the nearest `if`".
 use Rattle.std.specs.Prelude.{◌≡◌, Bool, true, false, List, [], ◌∷◌, ℕ, ◌+◌, ◌≤◌, ◌<◌}
-use Rattle.verilog_grammar.specs.AnnexA.{Unary, Binary, plus, minus, equals, less, conjunction, disjunction, exclusive, Expression, Primary, only, prefixed, joined, chosen, identified, numbered, bracketed}
+use Rattle.verilog_grammar.specs.AnnexA.{Binary, plus, minus, equals, less, conjunction, disjunction, exclusive, Expression, Primary, only, prefixed, joined, chosen, identified, numbered, bracketed}
 use Rattle.verilog_grammar.specs.AnnexA.{Statement, blocking, nonblocking, selects, whether, either, chain, endless, repeats, after, block, OrNull, some, null, Chain, last, last_else, leg, Statements, none, more, CaseItem, labelled, default, default_colon, CaseItems, last_item, item}
 use Rattle.verilog_grammar.specs.AnnexA.{Listed, one, also, NetAssignment, Item, input, reg, wire, assign, always, ModuleDeclaration}
 

@@ -1,6 +1,6 @@
 -- What a derivation means (document 02, request [1]): the sheet's expressions and statements, over a numbering of the names.
 -- Operands' widths are 0 here: a sheet doesn't write them.
-use Rattle.std.specs.Prelude.{Bool, List, [], ◌∷◌, ◌++◌, ℕ, ◌+◌, ◌%◌, ◌^◌, leb}
+use Rattle.std.specs.Prelude.{List, [], ◌∷◌, ◌++◌, ℕ, ◌+◌, ◌%◌, ◌^◌, leb}
 use Rattle.std.proofs.Math.Option.{Option, none as nothing, some as just}
 use Rattle.values.specs.Values.{pick}
 use Rattle.values.specs.declared.Edge.{Edge}

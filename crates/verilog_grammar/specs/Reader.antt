@@ -2,7 +2,6 @@
 -- derives and nothing else. A refusal holds how many tokens are left where it is met.
 use Rattle.std.specs.Prelude.{Bool, true, false, List, [], ◌∷◌, ℕ, zero, suc, ◌+◌, leb, eqb, length}
 use Rattle.std.proofs.Math.Option.{Option, none as nothing, some as just}
-use Prim.Native.String.{String}
 use Rattle.values.specs.Values.{pick}
 use Rattle.values.specs.declared.Edge.{Edge}
 use Rattle.values.specs.declared.Edge.TheVariants.{Change, Posedge, Negedge}

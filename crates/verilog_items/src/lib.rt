@@ -2,6 +2,7 @@
 // by token in two tables; expressions and statements are written from the buffer's beginning and left there. Each function equals its
 // definition in specs/, for tables of any contents.
 #![tactic(auto)]
+
 mod names;
 
 ghost use Rattle.std.specs.Prelude.{◌≡◌, List, ℕ};

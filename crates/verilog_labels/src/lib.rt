@@ -1,6 +1,7 @@
 // The names of a Verilog text's variables (document 02, request [1]): where in the text each is declared. Each function equals its
 // definition in specs/.
 #![tactic(auto)]
+
 mod rows;
 
 ghost use Rattle.std.specs.Prelude.{◌≡◌, ◌≤◌, length};

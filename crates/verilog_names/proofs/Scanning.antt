@@ -2,7 +2,7 @@
 use mathlib.Core.Path.{◌≡◌, ◌∙◌}
 use mathlib.Core.Bool.{Bool, true, false}
 use mathlib.Core.List.{List, [], ◌∷◌, ◌++◌, map, append_assoc}
-use Prim.Native.Nat.{ℕ, zero, suc, ◌+◌, ◌-◌, ◌<◌, ◌≤◌}
+use Prim.Native.Nat.{ℕ, zero, suc, ◌+◌, ◌<◌, ◌≤◌}
 use native.Mathlib.Omega.{arith}
 use lib.ListN.{length, get_or, take, drop, length-append, length-drop, length-map}
 use lib.Seq.{take_at, sets, sets-eq}
@@ -15,7 +15,6 @@ use Rattle.verilog_tokens.specs.Tokens.{word_token, word, number_token, unsigned
 use Rattle.verilog_tokens.specs.Tokens.{is_unknown, value_token, value_behind, value, base_of, based}
 use Rattle.verilog_tokens.specs.Tokens.{sign_token, sign, Opening, opens_word, opens_number, opens_value, opens_sign, opening, token_by}
 use Rattle.verilog_tokens.specs.Tokens.{gap, goes_on, and_then, from_token, from_gap, located, tokens, places}
-use Rattle.verilog_tokens.specs.Table as Table
 use Rattle.verilog_tokens.specs.Table.{kind_of, number_in, id_of, kinds, numbers}
 use Rattle.verilog_names.specs.Claims.{OfText, OfStored}
 

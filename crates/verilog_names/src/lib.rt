@@ -3,6 +3,7 @@
 // an `assign`, 5 the word `always`) and a declared name's width. Each function equals its definition in specs/, for tables of any
 // contents.
 #![tactic(auto)]
+
 mod faults;
 mod head;
 mod numbers;

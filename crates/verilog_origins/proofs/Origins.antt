@@ -1,11 +1,11 @@
 -- Laws of the search for an item, by the token that a loop has come to. Assumes nothing.
-use mathlib.Core.Path.{◌≡◌, refl, sym, ap, ◌∙◌}
+use mathlib.Core.Path.{◌≡◌, ap, ◌∙◌}
 use mathlib.Core.List.{List}
 use Prim.Native.Nat.{ℕ, suc, ◌+◌, ◌-◌, ◌≤◌, ◌<◌}
 use native.Mathlib.Nat.{sub-zero}
 use native.Mathlib.Omega.{arith}
 use borrow.Author.Tests.{lt-ltb, le-ltb}
-use lib.ListN.{get_or, length}
+use lib.ListN.{get_or}
 use Rattle.writing.specs.Buffer.{Text, filled, puts}
 use Rattle.verilog_scan.specs.Scan.{Scanned}
 use Rattle.verilog_exprs.specs.declared.Put.{Put}

@@ -1,11 +1,11 @@
 -- For a reviewer: the walk by which `origin` finds an item is the writing of the sheet that is judged. proofs/Claims shows it.
-use Rattle.std.specs.Prelude.{◌≡◌, ◌≢◌, true, List, ℕ, suc, ◌≤◌, ◌<◌, length, get_or}
+use Rattle.std.specs.Prelude.{◌≡◌, ◌≢◌, List, ℕ, suc, ◌≤◌, ◌<◌, length}
 use Rattle.writing.specs.Buffer.{Text, filled, puts}
 use Rattle.verilog_tokens.specs.Table.{kinds, numbers}
 use Rattle.verilog_scan.specs.Scan.{starts}
 use Rattle.verilog_source.specs.Compiled.{compiled}
 use Rattle.verilog_exprs.specs.Rows.{row_at}
-use Rattle.verilog_names.specs.Chosen.{capped, has_role}
+use Rattle.verilog_names.specs.Chosen.{capped}
 use Rattle.verilog_names.specs.Head.{head_of}
 use Rattle.verilog_names.specs.Order.{target_of}
 use Rattle.verilog_items.specs.Notes.{Notes}

@@ -4,7 +4,7 @@
 use Rattle.std.specs.Prelude.{List, [], ◌∷◌, ℕ, zero, suc, ◌+◌, ◌-◌, ◌*◌, ◌/◌, ◌%◌, ltb, eqb, get_or}
 use Rattle.std.proofs.lemmas.List.Edits.{sets}
 use Rattle.values.specs.Values.{pick, ◌is◌then◌else◌}
-use Rattle.writing.specs.Buffer.{Text, filled, puts}
+use Rattle.writing.specs.Buffer.{filled, puts}
 use Rattle.verilog_tokens.specs.Table.{kinds, numbers}
 use Rattle.verilog_scan.specs.Scan.{starts}
 use Rattle.verilog_exprs.specs.Rows.{row_at}

@@ -1,6 +1,7 @@
 // Which item of a Verilog text a byte of its sheet was written from (a declaration, an `assign` or an `always`), and where the text has
 // what a refusal of extraction concerns. Each function equals its definition in specs/, for every text.
 #![tactic(auto)]
+
 mod items;
 mod points;
 mod steps;

@@ -42,6 +42,7 @@ module _ {A : Type 0} (R : ℕ → A → Type 0) (bytes : A → List ℕ) (all :
   pub each-held : (n i : ℕ) (xs : List A) (t : Text) (l : List ℕ) → Along R (chosen test n i) xs → HeldIn t l
       → HeldIn (each step n i t) (l ++ all xs)
   unfolding each chosen here
+  each-held zero i (_ ∷ _) t l p h = elim p [ ]
   each-held zero i [] t l none h = rw (empty, append-nil) h
   each-held (suc n) i xs t l p h = by (test i) refl xs p (each-held n (i + 1))
     where
@@ -50,6 +51,7 @@ module _ {A : Type 0} (R : ℕ → A → Type 0) (bytes : A → List ℕ) (all :
           → HeldIn (each step n (i + 1) t) (l ++ all xs))
           → HeldIn (each step n (i + 1) (step i t)) (l ++ all xs)
       by false e xs p go = rw (stays i t e) (go xs t l p h)
+      by true e [] p go = elim p [ ]
       by true e (a ∷ xs) (next r p) go =
           rw (more a xs, ← append_assoc l (bytes a) (all xs)) (go xs (step i t) (l ++ bytes a) p (adds i a t l e r h))
 

@@ -1,6 +1,7 @@
 // Verilog text to a sheet (document 02, request [1]): the tables of the text's tokens, the module read from them, its names numbered,
 // its sheet written and judged. Each function equals its definition in specs/.
 #![tactic(auto)]
+
 mod bytes;
 
 ghost use Rattle.std.specs.Prelude.{◌≡◌, ◌≤◌, length};

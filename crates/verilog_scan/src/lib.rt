@@ -1,6 +1,7 @@
 // The table of a text's tokens: a kind, a number and a place for each. What they are is said in verilog_tokens/specs/Table.antt; specs/
 // here says how the lent tables come to hold them.
 #![tactic(auto)]
+
 mod names;
 
 ghost use Rattle.std.specs.Prelude.{◌≡◌, List, ◌+◌, ◌≤◌, ◌<◌, eqb, length, drop};

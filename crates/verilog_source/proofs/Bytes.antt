@@ -2,9 +2,9 @@
 -- Assumes nothing.
 use mathlib.Core.Path.{◌≡◌, refl}
 use mathlib.Core.Bool.{Bool, true, false}
-use mathlib.Core.List.{List, [], ◌∷◌, ◌++◌, map}
+use mathlib.Core.List.{List, [], ◌∷◌, ◌++◌}
 use mathlib.Core.Option.{Option, none as nothing, some as just}
-use Prim.Native.Nat.{ℕ, ◌≤◌, ◌<◌}
+use Prim.Native.Nat.{ℕ, ◌<◌}
 use native.Mathlib.Omega.{arith}
 use lib.Dec.{leb}
 use lib.ListN.{length}
@@ -24,8 +24,7 @@ use Rattle.verilog_tokens.specs.Tokens.{Name}
 use Rattle.verilog_grammar.specs.AnnexA.{Unary, negation, complement, Binary, plus, minus, equals, less, conjunction, disjunction, exclusive, Number, sized, sized_x, Expression, Primary, only, prefixed, joined, chosen, identified, numbered, bracketed, Event, changes, rises, falls, or_else, comma, Control, bare, among}
 use Rattle.verilog_grammar.specs.AnnexA.{Statement, blocking, nonblocking, selects, whether, either, chain, endless, repeats, after, block, OrNull, some, null, Chain, last, last_else, leg, Statements, none as no_statements, more, CaseItem, labelled, default, default_colon, CaseItems, last_item, item}
 use Rattle.verilog_grammar.specs.AnnexA.{Listed, one, also, NetAssignment, Item, input, reg, wire, assign, always, ModuleDeclaration}
-use Rattle.verilog_grammar.specs.Meaning.{up_to, cut, number_expr, unary_number, binary_number, nested, block_of, Arm, on, otherwise, fallback, test, tests, or_empty, case_of, Kind, an_input, a_register, a_wire, Driven, Part, declares, drives, runs, list_of, expr_of, primary_of, term_of, terms_of, control_of, stmt_of, or_null_of, chain_of, stmts_of, arm_of, arms_of, driven_of, part_of, parts_of, meaning}
-use Rattle.verilog_tokens.specs.Table.{place_of}
+use Rattle.verilog_grammar.specs.Meaning.{up_to, cut, number_expr, unary_number, binary_number, nested, block_of, Arm, on, otherwise, fallback, test, tests, or_empty, case_of, an_input, a_register, a_wire, Driven, Part, list_of, expr_of, primary_of, term_of, terms_of, control_of, stmt_of, or_null_of, chain_of, stmts_of, arm_of, arms_of, driven_of, part_of, parts_of, meaning}
 use Rattle.verilog_source.specs.Names.{Variable, variables, in_order, driven, threads, number_of}
 use Rattle.verilog_source.specs.Written.{written_stmt, written_threads, written_widths, value_for, written_wires, written}
 use Rattle.verilog_source.specs.Claims.{declared_by, sheet_by}

@@ -3,12 +3,12 @@
 use mathlib.Core.Path.{◌≡◌, refl, sym, ap, ◌∙◌}
 use mathlib.Core.Logic.{◌≢◌}
 use mathlib.Core.Bool.{Bool, true, false}
-use mathlib.Core.List.{List, [], ◌∷◌, ◌++◌}
-use Prim.Native.Nat.{ℕ, zero, suc, ◌-◌, ◌≤◌, ◌<◌}
+use mathlib.Core.List.{List, [], ◌∷◌}
+use Prim.Native.Nat.{ℕ, ◌≤◌, ◌<◌}
 use native.Mathlib.Omega.{arith}
 use lib.Dec.{leb, eqb}
-use lib.ListN.{length, replicate}
-use borrow.Author.Tests.{eq-eqb, ne_eqb, eqb-true, eqb-false, le-leb, lt-leb, leb-true, leb-false}
+use lib.ListN.{length}
+use borrow.Author.Tests.{eq-eqb, ne_eqb, le-leb, lt-leb}
 use Rattle.sheet.specs.Reading as Sheet
 use Rattle.sheet.specs.Expression.{Expr, tree}
 use Rattle.sheet.specs.Module.{Module, read_sheet, read}
@@ -16,15 +16,14 @@ use Rattle.sheet.proofs.Numbers.{Numbered, accepted as fine, refused as low, lat
 use Rattle.encoding.proofs.Bytes.{all-bytes}
 use Rattle.encoding.proofs.Encoding.{read-encode}
 use Rattle.verilog_tokens.specs.Tokens.{Token, Name, tokens}
-use Rattle.verilog_grammar.specs.AnnexA.{ModuleDeclaration, yield}
-use Rattle.verilog_grammar.specs.Conditions.{Counts}
+use Rattle.verilog_grammar.specs.AnnexA.{ModuleDeclaration}
 use Rattle.verilog_grammar.specs.Meaning.{Part, Source, meaning}
 use Rattle.verilog_grammar.specs.Reader.{Res, ok, no, read_module}
-use Rattle.verilog_grammar.specs.Claims.{Derivation, OnlyDerived, AllDerived, OneMeaning}
+use Rattle.verilog_grammar.specs.Claims.{OnlyDerived, AllDerived, OneMeaning}
 use Rattle.verilog_grammar.proofs.Module.{only-derived, all-derived, one-meaning}
 use Rattle.verilog_source.specs.Names.{number_of, faults}
 use Rattle.verilog_source.specs.Written.{written}
-use Rattle.verilog_source.specs.Compiled.{Compiled, refused, accepted, unnumbered, parts_of, sheet_of, judged, named, derived, short, lent_right, compiled}
+use Rattle.verilog_source.specs.Compiled.{refused, accepted, unnumbered, parts_of, sheet_of, judged, named, derived, short, lent_right, compiled}
 use Rattle.verilog_source.specs.Claims.{Derives, declared_by, sheet_by, FirstTheLent, ThenTheLength, ThenTheGrammar, ThenTheNames, ThenTheSheet, OneSheet, LeftAlone, Accepted, OnlySheets}
 use Rattle.verilog_source.proofs.Bytes.{sheet-bytes}
 

@@ -1,17 +1,17 @@
 -- What is claimed of a text's sheet (document 02, request [1]). `proofs/Compiled.antt` shows all of it.
-use Rattle.std.specs.Prelude.{◌≡◌, ◌≢◌, List, [], ◌∷◌, ◌++◌, ℕ, ◌-◌, ◌≤◌, ◌<◌, length, replicate}
+use Rattle.std.specs.Prelude.{◌≡◌, ◌≢◌, List, [], ◌++◌, ℕ, ◌-◌, ◌≤◌, ◌<◌, length, replicate}
 use Rattle.sheet.specs.Reading as Sheet
 use Rattle.sheet.specs.Expression.{Expr}
 use Rattle.sheet.specs.Module.{Module, read}
 use Rattle.encoding.specs.Encoding.{Bytes, encode}
 use Rattle.encoding.specs.WellFormed.{WellFormed}
-use Rattle.verilog_tokens.specs.Tokens.{Token, tokens}
+use Rattle.verilog_tokens.specs.Tokens.{tokens}
 use Rattle.verilog_grammar.specs.AnnexA.{ModuleDeclaration, yield}
 use Rattle.verilog_grammar.specs.Conditions.{Counts}
-use Rattle.verilog_grammar.specs.Meaning.{Part, Source, meaning}
+use Rattle.verilog_grammar.specs.Meaning.{Part, meaning}
 use Rattle.verilog_source.specs.Names.{number_of, faults}
 use Rattle.verilog_source.specs.Written.{written}
-use Rattle.verilog_source.specs.Compiled.{Compiled, unnumbered, compiled}
+use Rattle.verilog_source.specs.Compiled.{unnumbered, compiled}
 
 -- A derivation of a text that counts.
 pub record Derives (text : List ℕ) (m : ModuleDeclaration) : Type 0 where

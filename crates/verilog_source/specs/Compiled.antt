@@ -1,7 +1,6 @@
 -- A text's sheet (document 02, request [1]): "a reader of up to 16,384 bytes makes a sheet of it in 8,192 lent bytes (else 23, first),
 -- zeros after, and answers its length."
 use Rattle.std.specs.Prelude.{Bool, true, false, List, [], ◌∷◌, ◌++◌, ℕ, ◌-◌, leb, eqb, length, get_or, replicate}
-use Rattle.values.specs.Values.{pick}
 use Rattle.sheet.specs.Reading as Sheet
 use Rattle.sheet.specs.Expression.{Expr}
 use Rattle.sheet.specs.Module.{Module, read}

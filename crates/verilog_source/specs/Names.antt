@@ -7,7 +7,7 @@ use Rattle.sheet.specs.Statement.{Stmt}
 use Rattle.naming.specs.Naming.{same_text}
 use Rattle.verilog_tokens.specs.Tokens.{Token, Name}
 use Rattle.verilog_tokens.specs.Table.{names_in, place_of}
-use Rattle.verilog_grammar.specs.Meaning.{up_to, Kind, an_input, a_register, a_wire, Driven, Part, declares, drives, runs, Source}
+use Rattle.verilog_grammar.specs.Meaning.{up_to, Kind, an_input, a_register, a_wire, Driven, Part, declares, drives, runs}
 
 -- ---- what a module's parts declare, drive and run
 

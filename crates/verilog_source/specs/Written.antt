@@ -1,11 +1,11 @@
 -- The bytes of a text's sheet (document 02, request [1]; document 01, "The sheet").
-use Rattle.std.specs.Prelude.{Bool, true, false, List, [], ◌∷◌, ◌++◌, ℕ, length}
+use Rattle.std.specs.Prelude.{List, [], ◌∷◌, ◌++◌, ℕ, length}
 use Rattle.values.specs.Values.{pick}
 use Rattle.sheet.specs.Expression.{Expr, unknown}
 use Rattle.sheet.specs.Statement.{Stmt, empty, assign, later, sequence, if_then, if_else, while, forever, wait}
 use Rattle.encoding.specs.Encoding.{encode_expr, encode_terms}
 use Rattle.naming.specs.Naming.{same_text}
-use Rattle.verilog_grammar.specs.Meaning.{up_to, Kind, an_input, a_register, a_wire, Driven, Part}
+use Rattle.verilog_grammar.specs.Meaning.{up_to, an_input, a_register, a_wire, Driven, Part}
 use Rattle.verilog_source.specs.Names.{Variable, variables, in_order, driven, threads}
 
 -- A statement as it is encoded, but "a count [..] past 01's range is written as 255".

@@ -3,20 +3,19 @@
 use mathlib.Core.Path.{◌≡◌, refl, sym, ap, ◌∙◌}
 use mathlib.Core.Bool.{Bool, true, false}
 use mathlib.Core.List.{List, [], ◌∷◌, ◌++◌, append_assoc, append-nil}
-use mathlib.Core.Option.{Option, none as nothing, some as just}
-use Prim.Native.Nat.{ℕ, zero, suc, ◌+◌, ◌-◌, ◌%◌, ◌≤◌, ◌<◌}
+use mathlib.Core.Option.{none as nothing, some as just}
+use Prim.Native.Nat.{ℕ, zero, suc, ◌-◌, ◌%◌, ◌<◌}
 use native.Mathlib.Omega.{arith}
-use lib.Dec.{eqb}
 use lib.ListN.{length}
 use lib.Seq.{take-length}
 use borrow.Author.Tests.{ne_eqb}
 use Rattle.values.specs.Values.{pick}
-use Rattle.sheet.specs.Expression.{Expr, binary}
-use Rattle.sheet.specs.Statement.{Stmt, if_then, if_else}
+use Rattle.sheet.specs.Expression.{Expr}
+use Rattle.sheet.specs.Statement.{Stmt}
 use Rattle.writing.specs.Ascii.{ascii}
 use Rattle.encoding.specs.Encoding.{encode_expr}
 use Rattle.verilog_tokens.specs.Tokens.{Token, terminal, name, number, known, unknown, broken}
-use Rattle.verilog_tokens.specs.Table.{kind_of, up_to255, number_in}
+use Rattle.verilog_tokens.specs.Table.{kind_of, number_in}
 use Rattle.verilog_grammar.specs.AnnexA.{Expression, Number, sized}
 use Rattle.verilog_grammar.specs.Meaning.{up_to, cut, number_expr, Arm, on, otherwise, fallback, test, tests, or_empty, case_of, expr_of}
 use Rattle.verilog_grammar.specs.Reader.{Res, ok, no, Reader as Reads, bind, give, refuse, starts, expect, size, known_value, expression}
@@ -24,16 +23,16 @@ use Rattle.verilog_grammar.specs.Reader
 use Rattle.verilog_grammar.proofs.Steps
 use Rattle.verilog_source.specs.Written.{written_stmt}
 use Rattle.verilog_bytes.specs.Held.{place_of, Held}
-use Rattle.verilog_exprs.specs.Rows.{row_at, expected}
+use Rattle.verilog_exprs.specs.Rows.{expected}
 use Rattle.verilog_exprs.specs.Constants.{constant_bytes}
 use Rattle.verilog_exprs.specs.Exprs.{expr_at}
-use Rattle.verilog_exprs.specs.Following.{Tabled, From, Passed, Stopped, Follows}
+use Rattle.verilog_exprs.specs.Following.{Tabled, From, Passed, Follows}
 use Rattle.verilog_exprs.specs.Claims.{bytes_of}
 use Rattle.verilog_exprs.proofs.Values.{width-capped, cut-width, cut-remainder}
-use Rattle.verilog_exprs.proofs.Marks.{Numbered, terminal-other, kind_front, open-mark, colon-mark}
+use Rattle.verilog_exprs.proofs.Marks.{terminal-other, kind_front, colon-mark}
 use Rattle.verilog_exprs.proofs.Follows.{number_is, map-follows}
 use Rattle.verilog_stmts.specs.declared.Case.{Case}
-use Rattle.verilog_stmts.specs.Steps.{State, moved, refused, after, is_next, write, stamp_at, last}
+use Rattle.verilog_stmts.specs.Steps.{State, moved, refused, after, write, stamp_at, last}
 use Rattle.verilog_stmts.specs.Stmts
 use Rattle.verilog_stmts.specs.Stmts.{value, value_at, label_at, stay, at_token, at_place, opened, tested, closed_at, case_end}
 use Rattle.verilog_stmts.proofs.Passing

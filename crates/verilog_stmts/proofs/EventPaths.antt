@@ -1,11 +1,10 @@
 -- Laws of `events` by the tests of the code.
 -- Assumes nothing.
-use mathlib.Core.Path.{◌≡◌, refl, sym, ap, ◌∙◌}
+use mathlib.Core.Path.{◌≡◌, refl}
 use mathlib.Core.Bool.{Bool, true, false}
 use mathlib.Core.List.{List}
 use Prim.Native.Nat.{ℕ, zero, suc, ◌-◌}
 use native.Mathlib.Numerals.{sub-one}
-use Rattle.values.specs.Values.{pick}
 use Rattle.verilog_exprs.specs.declared.Put.{Put}
 use Rattle.verilog_exprs.specs.Rows.{wrote}
 use Rattle.verilog_stmts.specs.Steps.{State, moved, refused, after, is_next, stamp_at}

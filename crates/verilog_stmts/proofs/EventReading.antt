@@ -1,14 +1,14 @@
 -- Event controls: the table's reader follows the grammar's.
 -- Assumes nothing.
-use mathlib.Core.Path.{◌≡◌, refl, sym, ap, ◌∙◌}
+use mathlib.Core.Path.{◌≡◌, refl, ap, ◌∙◌}
 use mathlib.Core.Bool.{Bool, true, false}
-use mathlib.Core.List.{List, [], ◌∷◌, ◌++◌, append_assoc, append-nil}
+use mathlib.Core.List.{List, [], ◌∷◌, ◌++◌, append_assoc}
 use Prim.Native.Nat.{ℕ, zero, suc, ◌+◌, ◌-◌, ◌%◌, ◌≤◌, ◌<◌, min}
 use native.Mathlib.Nat.{mod-eq_of_lt, zero-add}
 use native.Mathlib.Omega.{arith}
 use lib.Dec.{eqb, ltb, leb}
 use lib.ListN.{length}
-use borrow.Author.Tests.{ne_eqb, ltb-true, ltb-false, le-leb, lt-leb}
+use borrow.Author.Tests.{ne_eqb, ltb-true, ltb-false, lt-leb}
 use Rattle.values.specs.Values.{pick}
 use Rattle.values.specs.Edges.{edge_number}
 use Rattle.values.specs.declared.Edge.{Edge}
@@ -23,10 +23,10 @@ use Rattle.verilog_grammar.specs.Reader.{Res, ok, no, Reader, bind, give, refuse
 use Rattle.verilog_grammar.specs.Reader
 use Rattle.verilog_bytes.specs.Held.{place_of}
 use Rattle.verilog_exprs.specs.Rows.{row_at, expected}
-use Rattle.verilog_exprs.specs.Following.{Tabled, Passed, Stopped, Follows}
+use Rattle.verilog_exprs.specs.Following.{Tabled, Passed, Follows}
 use Rattle.verilog_exprs.proofs.Marks.{Numbered, terminal-other, kind_front, open-mark, close-mark}
 use Rattle.verilog_exprs.proofs.Follows.{kind-is, number_is, map-follows, closed-follows}
-use Rattle.verilog_stmts.specs.Steps.{State, moved, refused, after, is_next, write, stamp_at, name as name_at, named}
+use Rattle.verilog_stmts.specs.Steps.{State, moved, refused, after, is_next, write, name as name_at, named}
 use Rattle.verilog_stmts.specs.Events
 use Rattle.verilog_stmts.proofs.Passing
 use Rattle.verilog_stmts.proofs.Passing.{Still, not-next, none_left, still-write, still-stamp, still-refused, still-expected}

@@ -1,7 +1,7 @@
 -- The table's reader of statements follows the grammar's: they take and refuse together, and what is read lies in the buffer as a
 -- sheet has it.
 -- Assumes nothing.
-use mathlib.Core.Path.{◌≡◌, refl, sym, ap, ◌∙◌}
+use mathlib.Core.Path.{◌≡◌, refl}
 use mathlib.Core.Bool.{Bool, true, false}
 use mathlib.Core.List.{List}
 use Prim.Native.Nat.{ℕ, zero, suc, ◌≤◌, ◌<◌}
@@ -20,7 +20,7 @@ use Rattle.verilog_exprs.specs.Rows.{row_at, wrote, answer}
 use Rattle.verilog_exprs.specs.Following.{Tabled, Passed, Follows}
 use Rattle.verilog_exprs.proofs.Marks.{Numbered}
 use Rattle.verilog_exprs.proofs.Follows.{mark-at}
-use Rattle.verilog_stmts.specs.Steps.{State, moved, refused, after}
+use Rattle.verilog_stmts.specs.Steps.{State}
 use Rattle.verilog_stmts.specs.Stmts
 use Rattle.verilog_stmts.specs.Stmts.{value, label_at, stay}
 use Rattle.verilog_stmts.specs.Claims.{StatementsFollow}

@@ -1,13 +1,13 @@
 -- At the buffer's end an expression is read and nothing is written.
 -- Assumes nothing.
-use mathlib.Core.Path.{◌≡◌, refl, sym, ap, ◌∙◌}
+use mathlib.Core.Path.{◌≡◌, refl, ap, ◌∙◌}
 use mathlib.Core.Bool.{Bool, true, false, ◌&&◌}
 use mathlib.Core.List.{List, [], ◌∷◌}
 use Prim.Native.Nat.{ℕ, zero, suc, ◌+◌, ◌-◌, ◌%◌, ◌≤◌}
 use native.Mathlib.Omega.{arith}
 use lib.Dec.{leb, eqb}
-use Rattle.values.specs.Values.{pick, ◌is◌then◌else◌}
-use Rattle.writing.specs.Buffer.{Text, filled, put, puts}
+use Rattle.values.specs.Values.{pick}
+use Rattle.writing.specs.Buffer.{Text, filled, puts}
 use Rattle.writing.proofs.Buffer.{put_full, puts-nil, puts-cons}
 use Rattle.verilog_grammar.specs.Meaning.{up_to}
 use Rattle.verilog_bytes.specs.Turning.{reversed, thrice, turned, behind, fronted}

@@ -1,24 +1,23 @@
 -- The steps of statements beside the grammar's readers: what each does to what was read and written so far.
 -- Assumes nothing.
 use mathlib.Core.Path.{◌≡◌, refl, sym, ap, ◌∙◌}
-use mathlib.Core.Bool.{Bool, true, false, ◌&&◌}
-use mathlib.Core.List.{List, [], ◌∷◌, ◌++◌, append_assoc, append-nil}
-use Prim.Native.Nat.{ℕ, zero, suc, ◌+◌, ◌≤◌, ◌<◌, min}
+use mathlib.Core.Bool.{Bool, true, false}
+use mathlib.Core.List.{List, [], ◌∷◌, ◌++◌, append-nil}
+use Prim.Native.Nat.{ℕ, suc, ◌+◌, ◌≤◌, ◌<◌, min}
 use native.Mathlib.Omega.{arith}
-use lib.Dec.{ltb, eqb}
+use lib.Dec.{ltb}
 use lib.ListN.{length, take, set, length-append, length-set}
 use lib.Seq.{take-set-lt, set_at}
-use borrow.Author.Tests.{lt-ltb, ltb-true, ltb-false}
+use borrow.Author.Tests.{lt-ltb, ltb-false}
 use Rattle.values.specs.Values.{pick}
-use Rattle.writing.specs.Buffer.{Text, filled, puts}
 use Rattle.verilog_tokens.specs.Tokens.{Token}
 use Rattle.verilog_grammar.specs.Reader.{Res, ok, no, Reader, bind, give, starts, if_next, expect}
-use Rattle.verilog_bytes.specs.Turning.{behind, fronted}
+use Rattle.verilog_bytes.specs.Turning.{behind}
 use Rattle.verilog_bytes.specs.Held.{place_of, Held}
 use Rattle.verilog_bytes.proofs.Held.{held-puts, held-turned, held-fronted}
 use Rattle.verilog_exprs.specs.declared.Put.{Put}
-use Rattle.verilog_exprs.specs.Rows.{row_at, wrote, is_at, expected}
-use Rattle.verilog_exprs.specs.Following.{Tabled, From, Passed, Stopped, Follows}
+use Rattle.verilog_exprs.specs.Rows.{expected}
+use Rattle.verilog_exprs.specs.Following.{Tabled, Passed, Stopped, Follows}
 use Rattle.verilog_exprs.proofs.Table.{expected-no}
 use Rattle.verilog_exprs.proofs.Marks.{Numbered}
 use Rattle.verilog_exprs.proofs.Follows.{from_next, mark-at, starts_none, expect-first, closed-follows}

@@ -1,17 +1,15 @@
 -- Statements but case: the table's reader follows the grammar's.
 -- Assumes nothing.
-use mathlib.Core.Path.{◌≡◌, refl, sym, ap, ◌∙◌}
-use mathlib.Core.Bool.{Bool, true, false}
-use mathlib.Core.List.{List, [], ◌∷◌, ◌++◌, append_assoc, append-nil}
-use Prim.Native.Nat.{ℕ, zero, suc, ◌+◌, ◌-◌, ◌≤◌, ◌<◌}
+use mathlib.Core.Path.{◌≡◌, refl}
+use mathlib.Core.Bool.{true}
+use mathlib.Core.List.{List, [], ◌∷◌, ◌++◌, append_assoc}
+use Prim.Native.Nat.{ℕ, zero, suc, ◌-◌, ◌<◌}
 use native.Mathlib.Omega.{arith}
 use lib.ListN.{length}
-use Rattle.values.specs.Values.{pick}
 use Rattle.sheet.specs.declared.EdgeTerm.{EdgeTerm}
 use Rattle.sheet.specs.Expression.{Expr}
 use Rattle.sheet.specs.Statement.{Stmt, empty, assign, later, sequence, if_then, if_else, while, forever, wait}
 use Rattle.writing.specs.Ascii.{ascii}
-use Rattle.encoding.specs.Encoding.{encode_expr, encode_terms}
 use Rattle.verilog_tokens.specs.Tokens.{Token, Name}
 use Rattle.verilog_grammar.specs.AnnexA.{Expression}
 use Rattle.verilog_grammar.specs.Meaning.{nested, block_of, expr_of}
@@ -20,13 +18,13 @@ use Rattle.verilog_grammar.specs.Reader
 use Rattle.verilog_source.specs.Written.{written_stmt}
 use Rattle.verilog_bytes.specs.Held.{place_of}
 use Rattle.verilog_exprs.specs.Rows.{expected}
-use Rattle.verilog_exprs.specs.Following.{Tabled, Passed, Stopped, Follows}
+use Rattle.verilog_exprs.specs.Following.{Tabled, Passed, Follows}
 use Rattle.verilog_exprs.specs.Claims.{bytes_of}
-use Rattle.verilog_exprs.proofs.Marks.{Numbered, open-mark, close-mark}
+use Rattle.verilog_exprs.proofs.Marks.{open-mark, close-mark}
 use Rattle.verilog_exprs.proofs.Follows.{map-follows, closed-follows}
 use Rattle.verilog_exprs.proofs.Reading.{expressions-follow}
 use Rattle.verilog_exprs.specs.Claims.{ExpressionsFollow}
-use Rattle.verilog_stmts.specs.Steps.{State, moved, refused, after, is_next, write, front, stamp_at, named}
+use Rattle.verilog_stmts.specs.Steps.{State, moved, after, write, front, stamp_at, named}
 use Rattle.verilog_stmts.specs.Events
 use Rattle.verilog_stmts.specs.Stmts
 use Rattle.verilog_stmts.specs.Stmts.{value, value_at, label_at, stay}
@@ -34,7 +32,7 @@ use Rattle.verilog_stmts.proofs.Passing
 use Rattle.verilog_stmts.proofs.Passing.{Still, none_left, still-write, still-stamp, still-refused, still-expected, still-next}
 use Rattle.verilog_stmts.proofs.Passing.{then-follows}
 use Rattle.verilog_stmts.proofs.Passing.{yes-follows, no-still, given, passed-write, passed-stamp, passed-front}
-use Rattle.verilog_stmts.proofs.EventReading.{name_bytes, named-follows, still-named, control_bytes, control-follows, still-control}
+use Rattle.verilog_stmts.proofs.EventReading.{name_bytes, named-follows, control_bytes, control-follows}
 use Rattle.verilog_stmts.proofs.Signs.{begin-mark, end_mark, if-mark, else-mark, while-mark, forever-mark, semicolon-mark}
 use Rattle.verilog_stmts.proofs.Signs.{gets-mark, arrow-mark}
 

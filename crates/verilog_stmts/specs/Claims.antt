@@ -1,5 +1,5 @@
 -- What is claimed of the statements' code beside its contracts. `proofs/Following.antt` shows it.
-use Rattle.std.specs.Prelude.{◌≡◌, true, List, ℕ, ◌<◌, length}
+use Rattle.std.specs.Prelude.{true, List, ℕ, ◌<◌, length}
 use Rattle.verilog_tokens.specs.Tokens.{Token}
 use Rattle.verilog_grammar.specs.Reader.{statement}
 use Rattle.verilog_source.specs.Written.{written_stmt}

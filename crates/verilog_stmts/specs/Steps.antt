@@ -1,5 +1,5 @@
 -- The steps of which reading and writing are wrote, on the tables of a text's tokens and a buffer of 65,536 bytes.
-use Rattle.std.specs.Prelude.{Bool, true, false, ◌&&◌, List, [], ◌∷◌, ℕ, ◌+◌, ◌%◌, ltb, eqb, set}
+use Rattle.std.specs.Prelude.{Bool, false, ◌&&◌, List, [], ◌∷◌, ℕ, ◌+◌, ◌%◌, ltb, eqb, set}
 use Rattle.values.specs.Values.{pick}
 use Rattle.writing.specs.Buffer.{Text, filled, puts}
 use Rattle.verilog_bytes.specs.Turning.{behind, fronted}

@@ -1,6 +1,6 @@
 -- Statements, on the tables of a text's tokens and the buffer: what `verilog_grammar`'s reader does with tokens, with bytes in place
 -- of statements.
-use Rattle.std.specs.Prelude.{Bool, true, false, List, [], ◌∷◌, ℕ, zero, suc, ◌-◌}
+use Rattle.std.specs.Prelude.{true, false, List, [], ◌∷◌, ℕ, zero, suc, ◌-◌}
 use Rattle.values.specs.Values.{pick, ◌is◌then◌else◌}
 use Rattle.verilog_grammar.specs.Meaning.{up_to}
 use Rattle.verilog_exprs.specs.declared.Put.{Put}

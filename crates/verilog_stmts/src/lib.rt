@@ -1,6 +1,7 @@
 // Statements of Verilog text: read from the tables of its tokens, written as the sheet has them (specs/Stmts.antt).
 // Each function takes where it is and answers where it came to; what was refused once stays so.
 #![tactic(auto)]
+
 ghost use Rattle.std.specs.Prelude.{◌≡◌, ◌∷◌, [], ◌-◌, ◌%◌};
 ghost use Rattle.verilog_exprs.specs.Rows.{wrote};
 ghost use Rattle.verilog_stmts.specs.Steps.{refused, after, is_next, write, front, stamped, named};

@@ -4,7 +4,7 @@ use Rattle.values.specs.Values.{◌is◌then◌else◌}
 use Rattle.verilog_tokens.specs.declared.Piece.{Piece}
 use Rattle.verilog_tokens.specs.declared.Class.TheVariants.{Binary, Octal, Hexadecimal}
 use Rattle.verilog_tokens.specs.Characters.{span}
-use Rattle.verilog_tokens.specs.Tokens.{Token, Lexeme, Base, base, none, base_of, radix_of, decimal_digits, opening, token_by}
+use Rattle.verilog_tokens.specs.Tokens.{Token, Lexeme, Base, base, none, radix_of, decimal_digits, opening, token_by}
 use Rattle.verilog_tokens.specs.Table.{kind_of, number_in}
 
 abbrev pub piece : ℕ → ℕ → ℕ → Piece

@@ -1,5 +1,5 @@
 -- The table of a text's tokens: a kind and a number for each. A 0 stands behind the last kind and the last number.
-use Rattle.std.specs.Prelude.{Bool, true, false, List, [], ◌∷◌, ◌++◌, map, ℕ, suc, ◌%◌, ltb}
+use Rattle.std.specs.Prelude.{true, false, List, [], ◌∷◌, ◌++◌, map, ℕ, suc, ◌%◌, ltb}
 use Rattle.values.specs.Values.{pick}
 use Rattle.writing.specs.Ascii.{ascii}
 use Rattle.naming.specs.Naming.{same_text}

@@ -2,7 +2,6 @@
 use Rattle.std.specs.Prelude.{Bool, true, false, not, ◌&&◌, List, [], ◌∷◌, map, ℕ, zero, suc, ◌+◌, length, take, drop, ltb, eqb}
 use Rattle.values.specs.Values.{pick, ◌is◌then◌else◌}
 use Rattle.writing.specs.Ascii.{byte}
-use Rattle.verilog_tokens.specs.declared.Class.{Class}
 use Rattle.verilog_tokens.specs.declared.Class.TheVariants.{Space, Word, Comment, Decimal, Binary, Octal, Hexadecimal, Underscore}
 use Rattle.verilog_tokens.specs.Characters.{is_newline, is_letter, is_below, is_x, is_underscore, span, every, numeral}
 use Rattle.verilog_tokens.specs.Words.{is_keyword, signs, first_of}

@@ -1,6 +1,7 @@
 // The tokens of a Verilog text (document 02, request [1]): what they are is said in specs/. Each function equals its definition there,
 // for every text and every place.
 #![tactic(auto)]
+
 mod characters;
 mod constants;
 mod gaps;

@@ -3,6 +3,7 @@
 use crate::feed::{Feed, Row};
 use crate::files::{open_input, show};
 use crate::machine::{Plan, Stand};
+use crate::system::{Stream, System, is_open};
 use crate::{feed, machine, report, running, wave};
 use clock_nodes::RowTable;
 use clock_steps::RowNumbers;
@@ -124,12 +125,12 @@ fn advanced(
 }
 
 // The cycle that was run: its verdict, and where a run did not come to rest said why.
-fn met(p: Plan, s: Sides, runs: Runs, feed: Feed) -> Sides {
+fn met(system: &mut System, p: Plan, s: Sides, runs: Runs, feed: Feed) -> Sides {
     let old = s.verdict;
     let m = judged(p, old, runs);
     let ending = m.ending;
     let verdict = m.verdict;
-    machine::say_unrest(p.index, comparison::cycle_of(old), ending);
+    machine::say_unrest(system, p.index, comparison::cycle_of(old), ending);
     Sides {
         on: m.on,
         outcome: driving::outcome_of(ending),
@@ -141,6 +142,7 @@ fn met(p: Plan, s: Sides, runs: Runs, feed: Feed) -> Sides {
 
 // A row's cycle.
 fn cycled(
+    system: &mut System,
     p: Plan,
     plan: &PlanTable,
     lent: &PlanTable,
@@ -152,11 +154,12 @@ fn cycled(
     let before = s.runs;
     let feed = row.feed;
     let runs = advanced(plan, lent, table, numbers, before, row);
-    met(p, s, runs, feed)
+    met(system, p, s, runs, feed)
 }
 
 // A row's cycle, or what its line is in place of one.
 fn turn(
+    system: &mut System,
     p: Plan,
     plan: &PlanTable,
     lent: &PlanTable,
@@ -167,7 +170,7 @@ fn turn(
 ) -> Sides {
     let feed = row.feed;
     match driving::line_of(row.error, feed::is_over(feed)) {
-        Line::Cycle => cycled(p, plan, lent, table, numbers, s, row),
+        Line::Cycle => cycled(system, p, plan, lent, table, numbers, s, row),
         Line::Passed => {
             let mut e = s;
             e.feed = feed;
@@ -175,7 +178,7 @@ fn turn(
         }
         Line::Last => halted(s, driving::line_outcome(row.error), feed),
         Line::Wrong => {
-            feed::say(feed, row.column, row.error);
+            feed::say(system, feed, row.column, row.error);
             halted(s, driving::line_outcome(row.error), feed)
         }
     }
@@ -198,23 +201,23 @@ fn begun(p: Plan, plan: &PlanTable) -> Runs {
 }
 
 // Before the first cycle; where a run does not come to rest from the start, says so.
-fn opened(p: Plan, plan: &PlanTable, fd: i32) -> Sides {
+fn opened(system: &mut System, p: Plan, plan: &PlanTable, stream: Stream) -> Sides {
     let runs = begun(p, plan);
     let ending = rivals::first_ending(endings(runs));
-    let on = running::started(p.sheet, ending);
+    let on = running::started(system, p.sheet, ending);
     Sides {
         on,
         outcome: driving::outcome_of(ending),
         verdict: Verdict::Agreed(0),
         runs,
-        feed: feed::over(p.index, fd),
+        feed: feed::over(p.index, stream),
     }
 }
 
 // More of the inputs is read; where it cannot be, the comparison ends.
-fn fed(s: Sides, buffer: &mut [u8; 65536]) -> Sides {
+fn fed(system: &mut System, s: Sides, buffer: &mut [u8; 65536]) -> Sides {
     let f = s.feed;
-    let feed = feed::refilled(f, buffer);
+    let feed = feed::refilled(system, f, buffer);
     if feed.good {
         let mut e = s;
         e.feed = feed;
@@ -225,50 +228,52 @@ fn fed(s: Sides, buffer: &mut [u8; 65536]) -> Sides {
 
 // All rows.
 fn turns(
+    system: &mut System,
     p: Plan,
     plan: &PlanTable,
     lent: &PlanTable,
     table: &RowTable,
     numbers: &RowNumbers,
-    fd: i32,
+    stream: Stream,
 ) -> Sides {
     let mut buffer = [0u8; 65536];
     let widths = p.widths;
-    let mut s = opened(p, plan, fd);
-    let mut left = u64::MAX;
-    while left > 0 && s.on {
+    let mut s = opened(system, p, plan, stream);
+    for _ in 0..u64::MAX {
+        if !s.on {
+            return s;
+        }
         let f = s.feed;
         if feed::is_dry(f, &buffer) {
-            s = fed(s, &mut buffer);
+            s = fed(system, s, &mut buffer);
         } else {
             let row = feed::next_row(f, &buffer, &widths, p.inputs);
-            s = turn(p, plan, lent, table, numbers, s, row);
+            s = turn(system, p, plan, lent, table, numbers, s, row);
         }
-        left -= 1;
     }
     s
 }
 
 // What was compared.
-fn tell(p: Plan, names: &[u8; 2560], verdict: Verdict) -> Outcome {
+fn tell(system: &mut System, p: Plan, names: &[u8; 2560], verdict: Verdict) -> Outcome {
     let widths = p.widths;
     let mut text = [0u8; 65536];
     let pos = comparison::put_verdict(&widths, names, verdict, &mut text, 0);
-    show(&text, pos)
+    show(system, &text, pos)
 }
 
 // The comparison's end, with the verdict where it is said. On no cycle there is none.
-fn conclude(p: Plan, names: &[u8; 2560], s: Sides) -> Outcome {
+fn conclude(system: &mut System, p: Plan, names: &[u8; 2560], s: Sides) -> Outcome {
     let outcome = s.outcome;
     let verdict = s.verdict;
     let end = rivals::conclude(verdict, outcome);
     match rivals::telling_of(verdict, outcome) {
         Telling::Silent => end,
         Telling::Uncompared => {
-            report::wrong_with(p.index, b": no cycle to compare\n", 0);
+            report::wrong_with(system, p.index, b": no cycle to compare\n", 0);
             end
         }
-        Telling::Told => options::joined(tell(p, names, verdict), end),
+        Telling::Told => options::joined(tell(system, p, names, verdict), end),
     }
 }
 
@@ -289,26 +294,33 @@ fn plan_of(o: CompareOptions, layout: Layout, sheet: &[u8]) -> Plan {
         waved: false,
         user: 0,
         allowances: [allowances::MOST; 4],
-        source: -1,
+        source: Stream::Nowhere,
         save: 0,
         kept: wave::nowhere(),
     }
 }
 
 // `compare`: a sheet that is read.
-pub fn compare(o: CompareOptions, sheet: &[u8], layout: Layout, names: &[u8; 2560]) -> Outcome {
+pub fn compare(
+    system: &mut System,
+    o: CompareOptions,
+    sheet: &[u8],
+    layout: Layout,
+    names: &[u8; 2560],
+) -> Outcome {
     let mut plan = [0u32; 25212];
     let mut lent = [0u32; 25212];
     let mut table = [0u32; 1152];
     let mut numbers = [0u8; 2048];
     if !running::tabled_out(sheet, &mut plan, &mut lent, &mut table, &mut numbers) {
-        report::refuse_extraction(o.sheet, sheet, names);
+        report::refuse_extraction(system, o.sheet, sheet, names);
         return Outcome::Refused;
     }
-    let fd = open_input(o.inputs);
-    if fd < 0 {
+    let stream = open_input(system, o.inputs);
+    if !is_open(stream) {
         return Outcome::Mistaken;
     }
     let p = plan_of(o, layout, sheet);
-    conclude(p, names, turns(p, &plan, &lent, &table, &numbers, fd))
+    let s = turns(system, p, &plan, &lent, &table, &numbers, stream);
+    conclude(system, p, names, s)
 }

@@ -1,6 +1,7 @@
 // What is shown of a run: a line of the table a cycle, and the waveform.
 use crate::machine::Plan;
 use crate::report;
+use crate::system::System;
 use options::Shape;
 use tabulate::Form;
 use trace_row::row_of;
@@ -116,14 +117,14 @@ pub fn put_work_names(names: &mut [u8; 2560]) {
 }
 
 // The view of the variables that a word names; where one is not there, says so.
-pub fn view_by(p: Plan, o: Shape, index: usize, names: &[u8; 2560]) -> Viewed {
+pub fn view_by(system: &mut System, p: Plan, o: Shape, index: usize, names: &[u8; 2560]) -> Viewed {
     let mut v = view_of(p, o);
     let mut places = [0u8; 80];
-    let mut word = io::buffer();
-    let n = os::arg(index, &mut word);
+    let mut word = [0u8; 4096];
+    let n = system.word(index, &mut word);
     let c = columns::choose(names, count_of(p), &word[..n], &mut places);
     if c.error != 0 {
-        report::wrong_columns(index, c.column, c.error);
+        report::wrong_columns(system, index, c.column, c.error);
     }
     v.places = places;
     v.first = 0;
@@ -224,7 +225,13 @@ pub fn put_row(
 // ---- the waveform
 
 // Its head, and every value at time 0.
-pub fn put_start(p: Plan, names: &[u8; 2560], trace: &Trace, text: &mut [u8; 65536]) -> usize {
+pub fn put_start(
+    system: &mut System,
+    p: Plan,
+    names: &[u8; 2560],
+    trace: &Trace,
+    text: &mut [u8; 65536],
+) -> usize {
     let widths = p.widths;
     let row = row_of(trace, FRONT);
     let m = waveform::Counts {
@@ -232,8 +239,8 @@ pub fn put_start(p: Plan, names: &[u8; 2560], trace: &Trace, text: &mut [u8; 655
         registers: p.registers,
         wires: p.wires,
     };
-    let mut path = io::buffer();
-    let n = os::arg(p.sheet, &mut path);
+    let mut path = [0u8; 4096];
+    let n = system.word(p.sheet, &mut path);
     let q = waveform::print_header(&widths, names, m, &path[..n], text, 0);
     let r = waveform::print_time(0, text, q);
     waveform::print_all(&widths, variables(p), row, text, r)

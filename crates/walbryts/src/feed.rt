@@ -1,14 +1,15 @@
 // The rows of an inputs file, a line a cycle, read as the run goes on.
 use crate::files::read_more;
 use crate::report::wrong_inputs;
+use crate::system::{Stream, System};
 use stimulus::Waiting;
 
-// How far the file is read: the word that names it, its descriptor, the part of the buffer that waits, the line it begins with, whether
+// How far the file is read: the word that names it, its stream, the part of the buffer that waits, the line it begins with, whether
 // the file is at its end, and whether it could be read so far.
 #[derive(Clone, Copy)]
 pub struct Feed {
     pub index: usize,
-    pub fd: i32,
+    pub stream: Stream,
     pub from: usize,
     pub to: usize,
     pub line: usize,
@@ -27,10 +28,10 @@ pub struct Row {
     pub unknown: [u32; 16],
 }
 
-pub fn over(index: usize, fd: i32) -> Feed {
+pub fn over(index: usize, stream: Stream) -> Feed {
     Feed {
         index,
-        fd,
+        stream,
         from: 0,
         to: 0,
         line: 0,
@@ -86,13 +87,13 @@ fn mark_size(feed: Feed, bytes: &[u8; 65536], to: usize) -> usize {
 }
 
 // More of the file behind what waits; where it cannot be read, says why.
-pub fn refilled(feed: Feed, buffer: &mut [u8; 65536]) -> Feed {
+pub fn refilled(system: &mut System, feed: Feed, buffer: &mut [u8; 65536]) -> Feed {
     let n = move_down(buffer, feed.from, feed.to);
-    let g = read_more(feed.index, feed.fd, buffer, n);
+    let g = read_more(system, feed.index, feed.stream, buffer, n);
     let to = g.size;
     Feed {
         index: feed.index,
-        fd: feed.fd,
+        stream: feed.stream,
         from: mark_size(feed, buffer, to),
         to,
         line: feed.line,
@@ -233,6 +234,6 @@ pub fn is_over(f: Feed) -> bool {
 }
 
 // What is wrong with a line.
-pub fn say(feed: Feed, column: usize, error: u8) {
-    wrong_inputs(feed.index, feed.line, column, error);
+pub fn say(system: &mut System, feed: Feed, column: usize, error: u8) {
+    wrong_inputs(system, feed.index, feed.line, column, error);
 }

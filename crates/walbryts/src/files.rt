@@ -1,56 +1,56 @@
 // Files by the words that name them; `-` is standard input. Every read and every write is judged.
-use libc::{STDIN_FILENO, STDOUT_FILENO};
+use crate::system::{Stream, System, is_open};
 use options::Outcome;
 
-// What was read: could it be, how far the buffer is filled, and from which descriptor.
+// What was read: could it be, how far the buffer is filled, and from which stream.
 #[derive(Clone, Copy)]
 pub struct Got {
     pub good: bool,
     pub size: usize,
-    pub fd: i32,
+    pub stream: Stream,
 }
 
-fn gained(good: bool, size: usize, fd: i32) -> Got {
-    Got { good, size, fd }
+fn gained(good: bool, size: usize, stream: Stream) -> Got {
+    Got { good, size, stream }
 }
 
 // ---- writing
 
 // Writes the first bytes of a text. Were all written?
-fn write_first(fd: i32, text: &[u8], n: usize) -> bool {
+fn write_first(system: &mut System, stream: Stream, text: &[u8], n: usize) -> bool {
     if n <= text.len() {
-        return io::write_all(fd, &text[..n]);
+        return system.write(stream, &text[..n]);
     }
     false
 }
 
 // Writes a text. Was all of it written?
-pub fn flush(fd: i32, text: &[u8; 65536], pos: usize) -> bool {
-    write_first(fd, text, pos)
+pub fn flush(system: &mut System, stream: Stream, text: &[u8; 65536], pos: usize) -> bool {
+    write_first(system, stream, text, pos)
 }
 
 // Says that standard output could not be written; where nobody reads it any more, nothing is said.
-pub fn unshown() {
-    if os::errno() != libc::EPIPE {
-        os::fail(b"standard output");
+pub fn unshown(system: &mut System) {
+    if !system.is_unread() {
+        system.fail(b"standard output");
     }
 }
 
 // Writes a text to standard output; where that fails, says why.
-pub fn show(text: &[u8; 65536], pos: usize) -> Outcome {
-    if flush(STDOUT_FILENO, text, pos) {
+pub fn show(system: &mut System, text: &[u8; 65536], pos: usize) -> Outcome {
+    if flush(system, Stream::Output, text, pos) {
         return Outcome::Done;
     }
-    unshown();
+    unshown(system);
     Outcome::Mistaken
 }
 
 // A word on standard output.
-pub fn show_word(word: &[u8]) -> Outcome {
-    if io::write_all(STDOUT_FILENO, word) {
+pub fn show_word(system: &mut System, word: &[u8]) -> Outcome {
+    if system.write(Stream::Output, word) {
         return Outcome::Done;
     }
-    unshown();
+    unshown(system);
     Outcome::Mistaken
 }
 
@@ -69,65 +69,68 @@ pub fn byte_at(s: &[u8], at: usize) -> u8 {
     if at < s.len() { s[at] } else { 0 }
 }
 
-// Opens the file of a name; where that fails, says why and gives -1.
-pub fn open_path(path: &[u8]) -> i32 {
+// Opens the file of a name; where that fails, says why and gives none.
+pub fn open_path(system: &mut System, path: &[u8]) -> Stream {
     if path.len() == 1 {
         if path[0] == b'-' {
-            return STDIN_FILENO;
+            return Stream::Input;
         }
     }
-    let fd = os::open_read(path);
-    if fd < 0 {
-        os::fail(path);
+    let stream = system.open_read(path);
+    if !is_open(stream) {
+        system.fail(path);
     }
-    fd
+    stream
 }
 
-// Opens the file that a word names; where that fails, says why and gives -1.
-pub fn open_input(index: usize) -> i32 {
-    let mut path = io::buffer();
-    let n = os::arg(index, &mut path);
-    if os::errno() != 0 {
-        os::fail(b"a file's name");
-        return -1;
+// Opens the file that a word names; where that fails, says why and gives none.
+pub fn open_input(system: &mut System, index: usize) -> Stream {
+    let mut path = [0u8; 4096];
+    let n = system.word(index, &mut path);
+    if system.has_failed() {
+        system.fail(b"a file's name");
+        return Stream::Nowhere;
     }
-    open_path(&path[..n])
+    open_path(system, &path[..n])
 }
 
 // One read behind what stands in the buffer up to a place.
-fn read_some(fd: i32, buffer: &mut [u8], at: usize) -> Got {
+fn read_some(system: &mut System, stream: Stream, buffer: &mut [u8], at: usize) -> Got {
     let size = buffer.len();
     if size <= at {
-        return gained(true, size, fd);
+        return gained(true, size, stream);
     }
-    let answer = libc::read(fd, &mut buffer[at..]);
-    if answer < 0 {
-        return gained(false, at, fd);
-    }
-    let n = io::count(answer, buffer);
+    let Some(n) = system.read(stream, &mut buffer[at..]) else {
+        return gained(false, at, stream);
+    };
     if size - at < n {
-        return gained(true, size, fd);
+        return gained(true, size, stream);
     }
-    gained(true, at + n, fd)
+    gained(true, at + n, stream)
 }
 
 // One read more of the file that a word names; where it fails, says why.
-pub fn read_more(index: usize, fd: i32, buffer: &mut [u8], at: usize) -> Got {
-    let mut path = io::buffer();
-    let n = os::arg(index, &mut path);
-    let g = read_some(fd, buffer, at);
+pub fn read_more(
+    system: &mut System,
+    index: usize,
+    stream: Stream,
+    buffer: &mut [u8],
+    at: usize,
+) -> Got {
+    let mut path = [0u8; 4096];
+    let n = system.word(index, &mut path);
+    let g = read_some(system, stream, buffer, at);
     if !g.good {
-        os::fail(&path[..n]);
+        system.fail(&path[..n]);
     }
     g
 }
 
 // Reads up to the file's end or the buffer's.
-pub fn read_on(index: usize, fd: i32, buffer: &mut [u8]) -> Got {
+pub fn read_on(system: &mut System, index: usize, stream: Stream, buffer: &mut [u8]) -> Got {
     let mut at = 0;
-    let mut turns = u64::MAX;
-    while turns > 0 {
-        let g = read_more(index, fd, buffer, at);
+    for _ in 0..u64::MAX {
+        let g = read_more(system, index, stream, buffer, at);
         if !g.good {
             return g;
         }
@@ -135,23 +138,22 @@ pub fn read_on(index: usize, fd: i32, buffer: &mut [u8]) -> Got {
             return g;
         }
         at = g.size;
-        turns -= 1;
     }
-    gained(false, at, fd)
+    gained(false, at, stream)
 }
 
 // The file that a word names, as far as the buffer goes; where it cannot be read, says why. It stays open.
-pub fn read_whole(index: usize, buffer: &mut [u8]) -> Got {
-    let fd = open_input(index);
-    if fd < 0 {
-        return gained(false, 0, fd);
+pub fn read_whole(system: &mut System, index: usize, buffer: &mut [u8]) -> Got {
+    let stream = open_input(system, index);
+    if !is_open(stream) {
+        return gained(false, 0, stream);
     }
-    read_on(index, fd, buffer)
+    read_on(system, index, stream, buffer)
 }
 
 // Is the file that a word names Verilog text?
-pub fn is_text(verilog: bool, index: usize) -> bool {
-    let mut path = io::buffer();
-    let n = os::arg(index, &mut path);
+pub fn is_text(system: &mut System, verilog: bool, index: usize) -> bool {
+    let mut path = [0u8; 4096];
+    let n = system.word(index, &mut path);
     sources::is_text(verilog, &path[..n])
 }

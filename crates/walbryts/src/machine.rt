@@ -3,6 +3,7 @@
 use crate::feed::Row;
 use crate::files::byte_at;
 use crate::report;
+use crate::system::{Stream, System};
 use crate::wave::Target;
 use clock_nodes::RowTable;
 use clock_steps::RowNumbers;
@@ -14,7 +15,7 @@ use state::State;
 
 // What a run goes by: the sheet's counts and widths, the words that name the module and the inputs, the wires shown or not, only the last
 // cycle or all, how far it has come told or not, and a waveform or none; whose choices they are, and how many each user has; the module's
-// descriptor, and the word that names a state to be written, with where it goes.
+// stream, and the word that names a state to be written, with where it goes.
 #[derive(Clone, Copy)]
 pub struct Plan {
     pub inputs: u8,
@@ -30,7 +31,7 @@ pub struct Plan {
     pub waved: bool,
     pub user: u8,
     pub allowances: [u32; 4],
-    pub source: i32,
+    pub source: Stream,
     pub save: usize,
     pub kept: Target,
 }
@@ -97,11 +98,11 @@ pub fn ending_of(s: Stand) -> Ending {
 }
 
 // Says why a cycle did not come to rest, where it did not.
-pub fn say_unrest(index: usize, cycle: usize, e: Ending) {
+pub fn say_unrest(system: &mut System, index: usize, cycle: usize, e: Ending) {
     match e {
         Ending::Rested => {}
-        Ending::Refused(number) => report::stopped(index, cycle, number),
-        Ending::Restless(most) => report::restless(index, cycle, most),
+        Ending::Refused(number) => report::stopped(system, index, cycle, number),
+        Ending::Restless(most) => report::restless(system, index, cycle, most),
     }
 }
 

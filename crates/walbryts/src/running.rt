@@ -6,13 +6,13 @@ use crate::files::{flush, open_input, unshown};
 use crate::machine::{Gone, Plan, Stand};
 use crate::say::say;
 use crate::showing::extracted;
+use crate::system::{Stream, System, is_open};
 use crate::wave::{Target, Wave};
 use crate::{display, expecting, feed, machine, report, states, wave};
 use allowances::Allowances;
 use clock_nodes::RowTable;
 use clock_steps::RowNumbers;
 use driving::{Ending, Line, Unextracted};
-use libc::{STDERR_FILENO, STDOUT_FILENO};
 use options::{Outcome, RunOptions};
 use plan::PlanTable;
 use sheet::Layout;
@@ -78,48 +78,54 @@ fn paged(c: Course, page: Page) -> Course {
 
 // ---- how far it has come
 
-fn told(p: Plan, cycle: usize) -> bool {
-    let errors = libc::isatty(STDERR_FILENO) != 0;
-    let table = libc::isatty(STDOUT_FILENO) != 0;
+fn told(system: &mut System, p: Plan, cycle: usize) -> bool {
+    let errors = system.is_terminal(Stream::Errors);
+    let table = system.is_terminal(Stream::Output);
     outputs::is_told(p.told, cycle, errors, table)
 }
 
-fn tell(p: Plan, cycle: usize) {
-    if told(p, cycle) {
-        say(STDERR_FILENO, b"\r# cycles", cycle, 0);
+fn tell(system: &mut System, p: Plan, cycle: usize) {
+    if told(system, p, cycle) {
+        say(system, Stream::Errors, b"\r# cycles", cycle, 0);
     }
 }
 
 // Ends the line on which that was told.
-fn end_line(p: Plan, cycle: usize) {
-    if told(p, cycle) {
-        io::write_all(STDERR_FILENO, b"\n");
+fn end_line(system: &mut System, p: Plan, cycle: usize) {
+    if told(system, p, cycle) {
+        system.write(Stream::Errors, b"\n");
     }
 }
 
 // ---- what waits to be written
 
 // The table so far goes out.
-fn spill_table(g: Page, text: &[u8; 65536]) -> Page {
-    let good = flush(STDOUT_FILENO, text, g.pos);
+fn spill_table(system: &mut System, g: Page, text: &[u8; 65536]) -> Page {
+    let good = flush(system, Stream::Output, text, g.pos);
     let before = g.expected;
-    let expected = expecting::met(before, text, g.pos);
+    let expected = expecting::met(system, before, text, g.pos);
     let mut h = g;
     h.expected = expected;
     h.pos = 0;
     if good {
         return h;
     }
-    unshown();
+    unshown(system);
     h.good = false;
     h
 }
 
 // The waveform so far goes out, the table first.
-fn spill_wave(g: Page, path: &[u8], text: &[u8; 65536], waves: &[u8; 65536]) -> Page {
-    let h = spill_table(g, text);
+fn spill_wave(
+    system: &mut System,
+    g: Page,
+    path: &[u8],
+    text: &[u8; 65536],
+    waves: &[u8; 65536],
+) -> Page {
+    let h = spill_table(system, g, text);
     let before = h.wave;
-    let w = wave::spilled(before, path, waves);
+    let w = wave::spilled(system, before, path, waves);
     let good = w.good;
     let mut i = h;
     i.wave = w;
@@ -131,13 +137,19 @@ fn spill_wave(g: Page, path: &[u8], text: &[u8; 65536], waves: &[u8; 65536]) -> 
 }
 
 // Where a buffer is nearly full.
-fn spilled(g: Page, path: &[u8], text: &[u8; 65536], waves: &[u8; 65536]) -> Page {
+fn spilled(
+    system: &mut System,
+    g: Page,
+    path: &[u8],
+    text: &[u8; 65536],
+    waves: &[u8; 65536],
+) -> Page {
     let w = g.wave;
     if w.pos >= 50000 {
-        return spill_wave(g, path, text, waves);
+        return spill_wave(system, g, path, text, waves);
     }
     if g.pos >= 60000 {
-        return spill_table(g, text);
+        return spill_table(system, g, text);
     }
     g
 }
@@ -145,14 +157,20 @@ fn spilled(g: Page, path: &[u8], text: &[u8; 65536], waves: &[u8; 65536]) -> Pag
 // ---- cycles
 
 // More of the inputs is read, behind what was shown of those before.
-fn fed(p: Plan, c: Course, text: &[u8; 65536], buffer: &mut [u8; 65536]) -> Course {
+fn fed(
+    system: &mut System,
+    p: Plan,
+    c: Course,
+    text: &[u8; 65536],
+    buffer: &mut [u8; 65536],
+) -> Course {
     let page = c.page;
-    let d = paged(c, spill_table(page, text));
+    let d = paged(c, spill_table(system, page, text));
     if !d.on {
         return d;
     }
     let f = d.feed;
-    let g = feed::refilled(f, buffer);
+    let g = feed::refilled(system, f, buffer);
     let good = g.good;
     let shown = d.page;
     let mut e = d;
@@ -160,7 +178,7 @@ fn fed(p: Plan, c: Course, text: &[u8; 65536], buffer: &mut [u8; 65536]) -> Cour
     if good {
         return e;
     }
-    end_line(p, shown.cycle);
+    end_line(system, p, shown.cycle);
     stopped(e, Outcome::Mistaken)
 }
 
@@ -262,6 +280,7 @@ fn waved(p: Plan, g: Page, trace: &Trace, k: usize, waves: &mut [u8; 65536]) -> 
 
 // Its line of the table.
 fn tabled(
+    system: &mut System,
     p: Plan,
     view: View,
     names: &[u8; 2560],
@@ -285,7 +304,7 @@ fn tabled(
     };
     let cycle = stimulus::counted(g.cycle);
     if cycle % 10000 == 0 {
-        tell(p, cycle);
+        tell(system, p, cycle);
     }
     let mut h = g;
     h.cycle = cycle;
@@ -295,6 +314,7 @@ fn tabled(
 
 // What is shown of so many cycles.
 fn leafed(
+    system: &mut System,
     p: Plan,
     view: View,
     names: &[u8; 2560],
@@ -314,8 +334,8 @@ fn leafed(
             return paged(c, g);
         }
         g = waved(p, g, trace, k, waves);
-        g = tabled(p, view, names, g, trace, k, text);
-        g = spilled(g, path, text, waves);
+        g = tabled(system, p, view, names, g, trace, k, text);
+        g = spilled(system, g, path, text, waves);
         k += 1;
     }
     paged(c, g)
@@ -323,6 +343,7 @@ fn leafed(
 
 // What is shown of the cycles that were run, where some were.
 fn shown(
+    system: &mut System,
     p: Plan,
     names: &[u8; 2560],
     path: &[u8],
@@ -336,7 +357,7 @@ fn shown(
         return c;
     }
     let view = c.view;
-    let d = leafed(p, view, names, path, c, trace, text, waves);
+    let d = leafed(system, p, view, names, path, c, trace, text, waves);
     display::move_front(trace, cycles);
     d
 }
@@ -345,6 +366,7 @@ fn shown(
 
 // All cycles. Says now and then how far it has come.
 fn turns(
+    system: &mut System,
     p: Plan,
     plan: &PlanTable,
     lent: &PlanTable,
@@ -361,27 +383,29 @@ fn turns(
     let mut unknown = [0u32; 512];
     let mut trace = [0u64; 5720];
     let widths = p.widths;
-    let mut c = opened(p, names, course, &mut trace, &mut text, &mut waves);
-    let mut left = u64::MAX;
-    while left > 0 && c.on {
+    let mut c = opened(system, p, names, course, &mut trace, &mut text, &mut waves);
+    for _ in 0..u64::MAX {
+        if !c.on {
+            break;
+        }
         let f = c.feed;
         if feed::is_dry(f, &buffer) {
-            c = fed(p, c, &text, &mut buffer);
+            c = fed(system, p, c, &text, &mut buffer);
         } else {
             let rows = feed::next_rows(f, &buffer, &widths, p.inputs, &mut value, &mut unknown);
             c = lined(c, rows);
             c = cycled(plan, lent, table, numbers, c, &value, &unknown, &mut trace);
-            c = shown(p, names, path, c, &mut trace, &mut text, &mut waves);
+            c = shown(system, p, names, path, c, &mut trace, &mut text, &mut waves);
         }
-        left -= 1;
     }
     let d = closing(p, c, &mut waves);
-    let e = finish(p, names, path, d, &trace, &mut text, &waves);
-    left_behind(p, d, e)
+    let e = finish(system, p, names, path, d, &trace, &mut text, &waves);
+    left_behind(system, p, d, e)
 }
 
 // All cycles, under the names of the variables, or those of the work.
 fn titled(
+    system: &mut System,
     p: Plan,
     plan: &PlanTable,
     lent: &PlanTable,
@@ -397,13 +421,14 @@ fn titled(
     if driving::is_counted(way) {
         let mut titles = [0u8; 2560];
         display::put_work_names(&mut titles);
-        return turns(p, plan, lent, table, numbers, &titles, path, c);
+        return turns(system, p, plan, lent, table, numbers, &titles, path, c);
     }
-    turns(p, plan, lent, table, numbers, names, path, c)
+    turns(system, p, plan, lent, table, numbers, names, path, c)
 }
 
 // The titles of the table, and the head of the waveform.
 fn opened(
+    system: &mut System,
     p: Plan,
     names: &[u8; 2560],
     c: Course,
@@ -411,7 +436,7 @@ fn opened(
     text: &mut [u8; 65536],
     waves: &mut [u8; 65536],
 ) -> Course {
-    tell(p, 0);
+    tell(system, p, 0);
     let stand = c.stand;
     let rows = stand.rows;
     display::put_front(trace, &rows);
@@ -420,7 +445,7 @@ fn opened(
     g.pos = display::put_titles(view, names, text);
     if p.waved {
         let mut w = g.wave;
-        w.pos = display::put_start(p, names, trace, waves);
+        w.pos = display::put_start(system, p, names, trace, waves);
         g.wave = w;
     }
     paged(c, g)
@@ -442,6 +467,7 @@ fn closing(p: Plan, c: Course, waves: &mut [u8; 65536]) -> Course {
 
 // The run is over: the last line where only that one is asked for, what waits, and then what kept it from its end.
 fn finish(
+    system: &mut System,
     p: Plan,
     names: &[u8; 2560],
     path: &[u8],
@@ -456,25 +482,28 @@ fn finish(
         g.pos = display::put_row(view, names, g.cycle - 1, trace, display::FRONT, text, g.pos);
     }
     let outcome = c.outcome;
-    let h = spill_wave(g, path, text, waves);
-    tell(p, h.cycle);
-    end_line(p, h.cycle);
-    say_end(p, c);
+    let h = spill_wave(system, g, path, text, waves);
+    tell(system, p, h.cycle);
+    end_line(system, p, h.cycle);
+    say_end(system, p, c);
     let w = h.wave;
     let x = h.expected;
-    let met = expecting::ended(x);
+    let met = expecting::ended(system, x);
     let last = written(h);
-    options::joined(wave::closed(w, path, options::joined(outcome, last)), met)
+    options::joined(
+        wave::closed(system, w, path, options::joined(outcome, last)),
+        met,
+    )
 }
 
 // What a run that ended so leaves behind where all is well: its state.
-fn left_behind(p: Plan, c: Course, e: Outcome) -> Outcome {
+fn left_behind(system: &mut System, p: Plan, c: Course, e: Outcome) -> Outcome {
     if options::status_of(e) != 0 {
         return e;
     }
     let feed = c.feed;
     let stand = c.stand;
-    states::save(p, feed.fd, stand)
+    states::save(system, p, feed.stream, stand)
 }
 
 // How the command ends by what could be written.
@@ -486,27 +515,27 @@ fn written(g: Page) -> Outcome {
 }
 
 // What kept the run from its end: a line that is wrong, or a cycle that did not come to rest.
-fn say_end(p: Plan, c: Course) {
+fn say_end(system: &mut System, p: Plan, c: Course) {
     if c.error != 0 {
-        feed::say(c.feed, c.column, c.error);
+        feed::say(system, c.feed, c.column, c.error);
     }
     let stand = c.stand;
     let page = c.page;
-    machine::say_unrest(p.index, page.cycle, machine::ending_of(stand));
+    machine::say_unrest(system, p.index, page.cycle, machine::ending_of(stand));
 }
 
 // ---- its start
 
 // Did it come to rest from the start? If not, says why.
-pub fn started(index: usize, e: Ending) -> bool {
+pub fn started(system: &mut System, index: usize, e: Ending) -> bool {
     match e {
         Ending::Rested => true,
         Ending::Refused(number) => {
-            report::stopped(index, 0, number);
+            report::stopped(system, index, 0, number);
             false
         }
         Ending::Restless(most) => {
-            report::unstarted(index, most);
+            report::unstarted(system, index, most);
             false
         }
     }
@@ -519,7 +548,14 @@ fn outcome_of(s: Stand) -> Outcome {
 }
 
 // Before the first cycle.
-fn course_of(p: Plan, fd: i32, stand: Stand, wave: Wave, view: View, expected: Expected) -> Course {
+fn course_of(
+    p: Plan,
+    stream: Stream,
+    stand: Stand,
+    wave: Wave,
+    view: View,
+    expected: Expected,
+) -> Course {
     let page = Page {
         good: true,
         cycle: 0,
@@ -530,7 +566,7 @@ fn course_of(p: Plan, fd: i32, stand: Stand, wave: Wave, view: View, expected: E
     Course {
         on: true,
         outcome: Outcome::Done,
-        feed: feed::over(p.index, fd),
+        feed: feed::over(p.index, stream),
         waiting: 0,
         error: 0,
         column: 0,
@@ -542,15 +578,15 @@ fn course_of(p: Plan, fd: i32, stand: Stand, wave: Wave, view: View, expected: E
 }
 
 // Is the run to be held back, where extraction refuses the module? Says what is to be said first.
-fn unextracted(o: RunOptions, sheet: &[u8], names: &[u8; 2560]) -> bool {
+fn unextracted(system: &mut System, o: RunOptions, sheet: &[u8], names: &[u8; 2560]) -> bool {
     let way = o.way;
     match driving::run_unextracted(way, o.silent) {
         Unextracted::Held => {
-            report::refuse_extraction(o.sheet, sheet, names);
+            report::refuse_extraction(system, o.sheet, sheet, names);
             true
         }
         Unextracted::Warned => {
-            report::one_order(o.sheet, sheet, names);
+            report::one_order(system, o.sheet, sheet, names);
             false
         }
         Unextracted::Silent => false,
@@ -587,7 +623,7 @@ pub fn tabled_out(
 }
 
 // What the table shows.
-fn viewed(p: Plan, o: RunOptions, names: &[u8; 2560]) -> Viewed {
+fn viewed(system: &mut System, p: Plan, o: RunOptions, names: &[u8; 2560]) -> Viewed {
     let shape = o.shape;
     let way = o.way;
     if driving::is_counted(way) {
@@ -595,7 +631,7 @@ fn viewed(p: Plan, o: RunOptions, names: &[u8; 2560]) -> Viewed {
         return Viewed { good: true, view };
     }
     if shape.only != 0 {
-        return display::view_by(p, shape, shape.only, names);
+        return display::view_by(system, p, shape, shape.only, names);
     }
     let view = display::view_of(p, shape);
     Viewed { good: true, view }
@@ -603,17 +639,18 @@ fn viewed(p: Plan, o: RunOptions, names: &[u8; 2560]) -> Viewed {
 
 // The run, from its start state and the expressions on.
 fn run_on(
+    system: &mut System,
     o: RunOptions,
     p: Plan,
     sheet: &[u8],
     names: &[u8; 2560],
-    fd: i32,
+    stream: Stream,
     target: wave::Target,
     path: &[u8],
 ) -> Outcome {
     let mut plan = [0u32; 25212];
     prepared::prepare(sheet, &mut plan);
-    let b = states::begin(o, p, &plan, sheet, names);
+    let b = states::begin(system, o, p, &plan, sheet, names);
     let begun = b.outcome;
     if options::status_of(begun) != 0 {
         return begun;
@@ -622,24 +659,24 @@ fn run_on(
     let mut table = [0u32; 1152];
     let mut numbers = [0u8; 2048];
     if !tabled_out(sheet, &mut plan, &mut lent, &mut table, &mut numbers) {
-        if unextracted(o, sheet, names) {
+        if unextracted(system, o, sheet, names) {
             return Outcome::Refused;
         }
     }
-    let seen = viewed(p, o, names);
-    let expected = expecting::opened(o.expect);
+    let seen = viewed(system, p, o, names);
+    let expected = expecting::opened(system, o.expect);
     let known = expected.outcome;
     if !seen.good || options::status_of(known) != 0 {
         return Outcome::Mistaken;
     }
-    let w = wave::made(target, path);
+    let w = wave::made(system, target, path);
     if !w.good {
         return Outcome::Mistaken;
     }
     let view = seen.view;
     let stand = b.stand;
-    let c = course_of(p, fd, stand, w, view, expected);
-    titled(p, &plan, &lent, &table, &numbers, names, path, c)
+    let c = course_of(p, stream, stand, w, view, expected);
+    titled(system, p, &plan, &lent, &table, &numbers, names, path, c)
 }
 
 // What a run goes by.
@@ -648,7 +685,7 @@ fn plan_of(
     layout: Layout,
     sheet: &[u8],
     allowances: [u32; 4],
-    source: i32,
+    source: Stream,
     kept: Target,
 ) -> Plan {
     let widths = machine::widths_of(sheet);
@@ -674,25 +711,26 @@ fn plan_of(
 }
 
 // How many choices each user has, by the word that says it.
-fn allowances_at(index: usize) -> Allowances {
+fn allowances_at(system: &mut System, index: usize) -> Allowances {
     if index == 0 {
         return Allowances {
             good: true,
             each: [allowances::MOST; 4],
         };
     }
-    let mut word = io::buffer();
-    let n = os::arg(index, &mut word);
+    let mut word = [0u8; 4096];
+    let n = system.word(index, &mut word);
     allowances::allowances_of(&word[..n])
 }
 
 // The run, by the name of its waveform from a place on.
 fn run_from(
+    system: &mut System,
     o: RunOptions,
     p: Plan,
     sheet: &[u8],
     names: &[u8; 2560],
-    fd: i32,
+    stream: Stream,
     target: wave::Target,
     path: &[u8],
     from: usize,
@@ -701,69 +739,73 @@ fn run_from(
     if from > to || to > path.len() {
         return Outcome::Mistaken;
     }
-    run_on(o, p, sheet, names, fd, target, &path[from..to])
+    run_on(system, o, p, sheet, names, stream, target, &path[from..to])
 }
 
 // The run, by the name of its waveform.
 fn run_to(
+    system: &mut System,
     o: RunOptions,
     p: Plan,
     sheet: &[u8],
     names: &[u8; 2560],
-    fd: i32,
+    stream: Stream,
     target: wave::Target,
     path: &[u8; 4096],
 ) -> Outcome {
-    run_from(o, p, sheet, names, fd, target, path, 0)
+    run_from(system, o, p, sheet, names, stream, target, path, 0)
 }
 
 // Where a file goes that is written at the end of the run.
-fn target_of(index: usize, source: i32, fd: i32) -> Target {
-    let mut name = io::buffer();
-    wave::target_of(index, source, fd, &mut name)
+fn target_of(system: &mut System, index: usize, source: Stream, stream: Stream) -> Target {
+    let mut name = [0u8; 4096];
+    wave::target_of(system, index, source, stream, &mut name)
 }
 
 // The run, where all its files can be written.
 fn aimed_at(
+    system: &mut System,
     o: RunOptions,
-    source: i32,
+    source: Stream,
     sheet: &[u8],
     layout: Layout,
     names: &[u8; 2560],
-    fd: i32,
+    stream: Stream,
     allowances: [u32; 4],
 ) -> Outcome {
-    let kept = target_of(o.save, source, fd);
-    let mut path = io::buffer();
-    let target = wave::target_of(o.vcd, source, fd, &mut path);
+    let kept = target_of(system, o.save, source, stream);
+    let mut path = [0u8; 4096];
+    let target = wave::target_of(system, o.vcd, source, stream, &mut path);
     if !kept.good || !target.good {
         return Outcome::Mistaken;
     }
     let p = plan_of(o, layout, sheet, allowances, source, kept);
-    run_to(o, p, sheet, names, fd, target, &path)
+    run_to(system, o, p, sheet, names, stream, target, &path)
 }
 
-// `run`: a sheet that is read, by a descriptor.
+// `run`: a sheet that is read, by its stream.
 pub fn run(
+    system: &mut System,
     o: RunOptions,
-    source: i32,
+    source: Stream,
     sheet: &[u8],
     layout: Layout,
     names: &[u8; 2560],
 ) -> Outcome {
-    let a = allowances_at(o.allowance);
+    let a = allowances_at(system, o.allowance);
     if !a.good {
         report::wrong_with(
+            system,
             o.allowance,
             b": no allowances: four numbers from 0 to 4294967295 with commas between them are allowed\n",
             0,
         );
         return Outcome::Mistaken;
     }
-    let fd = open_input(o.inputs);
-    if fd < 0 {
+    let stream = open_input(system, o.inputs);
+    if !is_open(stream) {
         return Outcome::Mistaken;
     }
     let each = a.each;
-    aimed_at(o, source, sheet, layout, names, fd, each)
+    aimed_at(system, o, source, sheet, layout, names, stream, each)
 }

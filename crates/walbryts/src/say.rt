@@ -1,5 +1,6 @@
 // Texts with numbers in them, written at once.
 use crate::files::flush;
+use crate::system::{Stream, System};
 use writing::{put_byte, put_decimal};
 
 // A sign of a form: # stands for the number.
@@ -25,8 +26,8 @@ fn put_form(form: &[u8], a: usize, b: usize, text: &mut [u8; 65536]) -> usize {
 }
 
 // Writes a form.
-pub fn say(fd: i32, form: &[u8], a: usize, b: usize) {
+pub fn say(system: &mut System, stream: Stream, form: &[u8], a: usize, b: usize) {
     let mut text = [0u8; 65536];
     let pos = put_form(form, a, b, &mut text);
-    flush(fd, &text, pos);
+    flush(system, stream, &text, pos);
 }

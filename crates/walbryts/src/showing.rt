@@ -1,20 +1,21 @@
 // `list`, `check`, `explain`, `verilog` and `sheet`: what a module holds.
 use crate::files::{show, show_word};
 use crate::report;
-use libc::STDOUT_FILENO;
+use crate::system::{Stream, System};
 use options::Outcome;
 use sheet::Layout;
 use writing::put_word;
 
 // `list`: the listing of a sheet that is read.
-pub fn list(sheet: &[u8]) -> Outcome {
+pub fn list(system: &mut System, sheet: &[u8]) -> Outcome {
     let mut text = [0u8; 65536];
     let listing = listings::list(sheet, &mut text);
-    show(&text, listing.length)
+    show(system, &text, listing.length)
 }
 
 // A thread explained, where it meets rule 17; else that is said. Nothing is shown of a thread past the last.
 fn print_thread(
+    system: &mut System,
     index: usize,
     sheet: &[u8],
     names: &[u8; 2560],
@@ -27,14 +28,15 @@ fn print_thread(
     }
     let x = explaining::explain(sheet, names, thread, text);
     if x.number != 0 {
-        report::unexplained(index, thread, x.number);
+        report::unexplained(system, index, thread, x.number);
         return Outcome::Refused;
     }
-    show(text, x.length)
+    show(system, text, x.length)
 }
 
 // Two threads explained.
 fn print_two(
+    system: &mut System,
     index: usize,
     sheet: &[u8],
     names: &[u8; 2560],
@@ -43,62 +45,80 @@ fn print_two(
     threads: usize,
     text: &mut [u8; 65536],
 ) -> Outcome {
-    let a = print_thread(index, sheet, names, first, threads, text);
-    let b = print_thread(index, sheet, names, second, threads, text);
+    let a = print_thread(system, index, sheet, names, first, threads, text);
+    let b = print_thread(system, index, sheet, names, second, threads, text);
     options::joined(a, b)
 }
 
 // Four of them.
 fn print_first(
+    system: &mut System,
     index: usize,
     sheet: &[u8],
     names: &[u8; 2560],
     threads: usize,
     text: &mut [u8; 65536],
 ) -> Outcome {
-    let a = print_two(index, sheet, names, 0, 1, threads, text);
-    let b = print_two(index, sheet, names, 2, 3, threads, text);
+    let a = print_two(system, index, sheet, names, 0, 1, threads, text);
+    let b = print_two(system, index, sheet, names, 2, 3, threads, text);
     options::joined(a, b)
 }
 
 // The other four.
 fn print_last(
+    system: &mut System,
     index: usize,
     sheet: &[u8],
     names: &[u8; 2560],
     threads: usize,
     text: &mut [u8; 65536],
 ) -> Outcome {
-    let a = print_two(index, sheet, names, 4, 5, threads, text);
-    let b = print_two(index, sheet, names, 6, 7, threads, text);
+    let a = print_two(system, index, sheet, names, 4, 5, threads, text);
+    let b = print_two(system, index, sheet, names, 6, 7, threads, text);
     options::joined(a, b)
 }
 
 // `explain`: each thread as its statements, with what it does between two waits. A sheet has at most eight.
-pub fn explain(index: usize, sheet: &[u8], names: &[u8; 2560], threads: u8) -> Outcome {
+pub fn explain(
+    system: &mut System,
+    index: usize,
+    sheet: &[u8],
+    names: &[u8; 2560],
+    threads: u8,
+) -> Outcome {
     let mut text = [0u8; 65536];
     let n = threads as usize;
-    let a = print_first(index, sheet, names, n, &mut text);
-    let b = print_last(index, sheet, names, n, &mut text);
+    let a = print_first(system, index, sheet, names, n, &mut text);
+    let b = print_last(system, index, sheet, names, n, &mut text);
     options::joined(a, b)
 }
 
 // `verilog`: the module as Verilog text, with the names of its variables.
-pub fn print_verilog(index: usize, sheet: &[u8], names: &[u8; 2560]) -> Outcome {
+pub fn print_verilog(
+    system: &mut System,
+    index: usize,
+    sheet: &[u8],
+    names: &[u8; 2560],
+) -> Outcome {
     let mut text = [0u8; 65536];
     let v = verilog::print(sheet, names, &mut text);
     if v.length >= 65536 {
-        report::wrong_with(index, b": its Verilog is 65,536 bytes or longer\n", 0);
+        report::wrong_with(
+            system,
+            index,
+            b": its Verilog is 65,536 bytes or longer\n",
+            0,
+        );
         return Outcome::Refused;
     }
-    show(&text, v.length)
+    show(system, &text, v.length)
 }
 
 // `sheet`: the module as a sheet, in hexadecimal text.
-pub fn print_sheet(sheet: &[u8]) -> Outcome {
+pub fn print_sheet(system: &mut System, sheet: &[u8]) -> Outcome {
     let mut text = [0u8; 65536];
     let p = sources::put_sheet(sheet, &mut text, 0);
-    show(&text, p)
+    show(system, &text, p)
 }
 
 // ---- waits
@@ -119,44 +139,44 @@ pub fn extracted(sheet: &[u8], nodes: &mut [u16; 16384], rows: &mut [u16; 1056])
 }
 
 // Whether extraction accepts it, and how many nodes and rows there are.
-fn say_extraction(sheet: &[u8], names: &[u8; 2560], waits: usize) -> Outcome {
+fn say_extraction(system: &mut System, sheet: &[u8], names: &[u8; 2560], waits: usize) -> Outcome {
     let mut nodes = [0u16; 16384];
     let mut rows = [0u16; 1056];
-    let head = show_word(b"extraction: ");
+    let head = show_word(system, b"extraction: ");
     if options::status_of(head) != 0 {
         return head;
     }
     if !extracted(sheet, &mut nodes, &mut rows) {
         return options::joined(
-            report::unextracted(STDOUT_FILENO, sheet, names),
+            report::unextracted(system, Stream::Output, sheet, names),
             Outcome::Refused,
         );
     }
     let mut text = [0u8; 65536];
     let p = put_word(b"accepted, ", &mut text, 0);
     let q = overview::put_sizes(netlist::node_count(&nodes), waits, &mut text, p);
-    show(&text, q)
+    show(system, &text, q)
 }
 
 // What the sheet declares, and what each thread holds.
-fn say_counts(sheet: &[u8], layout: Layout) -> Outcome {
+fn say_counts(system: &mut System, sheet: &[u8], layout: Layout) -> Outcome {
     let mut code = [0u16; 4096];
     let definitions = layout.definitions;
     let sizes = pseudocode::compile(sheet, &definitions, layout.threads, layout.body, &mut code);
     let mut text = [0u8; 65536];
     let p = overview::put_counts(sheet.len(), layout, &mut text, 0);
     let q = overview::put_threads(sheet, &code, &sizes, layout.threads, &mut text, p);
-    show(&text, q)
+    show(system, &text, q)
 }
 
 // `check`: what a sheet holds that is read.
-pub fn check(sheet: &[u8], names: &[u8; 2560]) -> Outcome {
+pub fn check(system: &mut System, sheet: &[u8], names: &[u8; 2560]) -> Outcome {
     let layout = sheet::read(sheet).layout;
-    let counts = say_counts(sheet, layout);
+    let counts = say_counts(system, sheet, layout);
     if options::status_of(counts) != 0 {
         return counts;
     }
     let mut heads = [0usize; 32];
     let waits = find_waits(sheet, layout, &mut heads);
-    say_extraction(sheet, names, waits)
+    say_extraction(system, sheet, names, waits)
 }

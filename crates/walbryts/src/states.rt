@@ -2,6 +2,7 @@
 use crate::files::{front, read_whole};
 use crate::machine::{Plan, Stand};
 use crate::running::started;
+use crate::system::{Stream, System};
 use crate::wave::{Target, Wave};
 use crate::{machine, report, wave};
 use first_values::Counts;
@@ -31,11 +32,17 @@ fn handed(outcome: Outcome, state: State) -> Given {
 // ---- the state that a run begins with
 
 // The state that bytes are a saved form of; where they are none, or of an older form that is refused, says so.
-fn brought(index: usize, sheet: &[u8], bytes: &[u8], allowances: [u32; 4]) -> Given {
+fn brought(
+    system: &mut System,
+    index: usize,
+    sheet: &[u8],
+    bytes: &[u8],
+    allowances: [u32; 4],
+) -> Given {
     let b = saved::bring_over(sheet, bytes, allowances);
     let state = b.state;
     if b.number != 0 {
-        report::refuse_state(index, b.number);
+        report::refuse_state(system, index, b.number);
         return handed(Outcome::Refused, state);
     }
     handed(Outcome::Done, state)
@@ -43,6 +50,7 @@ fn brought(index: usize, sheet: &[u8], bytes: &[u8], allowances: [u32; 4]) -> Gi
 
 // The first bytes of a buffer.
 fn brought_front(
+    system: &mut System,
     index: usize,
     sheet: &[u8],
     bytes: &[u8; 4096],
@@ -50,27 +58,34 @@ fn brought_front(
     allowances: [u32; 4],
 ) -> Given {
     let first = front(bytes, n);
-    brought(index, sheet, first, allowances)
+    brought(system, index, sheet, first, allowances)
 }
 
 // The state of the file that a word names, or that of the start where there is none.
-fn loaded(index: usize, p: Plan, plan: &PlanTable, sheet: &[u8]) -> Given {
+fn loaded(system: &mut System, index: usize, p: Plan, plan: &PlanTable, sheet: &[u8]) -> Given {
     let allowances = p.allowances;
     let fresh = prepared::start(plan, allowances);
     if index == 0 {
         return handed(Outcome::Done, fresh);
     }
-    let mut buffer = io::buffer();
-    let got = read_whole(index, &mut buffer);
+    let mut buffer = [0u8; 4096];
+    let got = read_whole(system, index, &mut buffer);
     if !got.good {
         return handed(Outcome::Mistaken, fresh);
     }
-    libc::close(got.fd);
-    brought_front(index, sheet, &buffer, got.size, allowances)
+    system.close(got.stream);
+    brought_front(system, index, sheet, &buffer, got.size, allowances)
 }
 
 // The registers of a state by the lines of a file; where one is wrong, says so.
-fn valued(index: usize, p: Plan, names: &[u8; 2560], st: State, bytes: &[u8]) -> Given {
+fn valued(
+    system: &mut System,
+    index: usize,
+    p: Plan,
+    names: &[u8; 2560],
+    st: State,
+    bytes: &[u8],
+) -> Given {
     let widths = p.widths;
     let m = Counts {
         inputs: p.inputs,
@@ -79,7 +94,7 @@ fn valued(index: usize, p: Plan, names: &[u8; 2560], st: State, bytes: &[u8]) ->
     let t = first_values::take_lines(bytes, m, &widths, names, st);
     let state = t.state;
     if t.error != 0 {
-        report::wrong_values(index, t.line, t.column, t.error);
+        report::wrong_values(system, index, t.line, t.column, t.error);
         return handed(Outcome::Mistaken, state);
     }
     handed(Outcome::Done, state)
@@ -87,6 +102,7 @@ fn valued(index: usize, p: Plan, names: &[u8; 2560], st: State, bytes: &[u8]) ->
 
 // The lines between two places.
 fn valued_between(
+    system: &mut System,
     index: usize,
     p: Plan,
     names: &[u8; 2560],
@@ -98,11 +114,12 @@ fn valued_between(
     if from > to || to > bytes.len() {
         return handed(Outcome::Done, st);
     }
-    valued(index, p, names, st, &bytes[from..to])
+    valued(system, index, p, names, st, &bytes[from..to])
 }
 
 // The lines behind a byte order mark.
 fn valued_behind(
+    system: &mut System,
     index: usize,
     p: Plan,
     names: &[u8; 2560],
@@ -110,25 +127,34 @@ fn valued_behind(
     bytes: &[u8; 65536],
     to: usize,
 ) -> Given {
-    valued_between(index, p, names, st, bytes, sources::mark_size(bytes), to)
+    valued_between(
+        system,
+        index,
+        p,
+        names,
+        st,
+        bytes,
+        sources::mark_size(bytes),
+        to,
+    )
 }
 
 // The registers of a state by the file that a word names, where there is one.
-fn with_values(index: usize, p: Plan, names: &[u8; 2560], st: State) -> Given {
+fn with_values(system: &mut System, index: usize, p: Plan, names: &[u8; 2560], st: State) -> Given {
     if index == 0 {
         return handed(Outcome::Done, st);
     }
     let mut buffer = [0u8; 65536];
-    let got = read_whole(index, &mut buffer);
+    let got = read_whole(system, index, &mut buffer);
     if !got.good {
         return handed(Outcome::Mistaken, st);
     }
-    libc::close(got.fd);
+    system.close(got.stream);
     if got.size >= 65536 {
-        report::wrong_with(index, b": a file of 65,536 bytes or longer\n", 0);
+        report::wrong_with(system, index, b": a file of 65,536 bytes or longer\n", 0);
         return handed(Outcome::Mistaken, st);
     }
-    valued_behind(index, p, names, st, &buffer, got.size)
+    valued_behind(system, index, p, names, st, &buffer, got.size)
 }
 
 // The state with every wire due, where registers were set.
@@ -152,11 +178,11 @@ fn unbegun(o: RunOptions, p: Plan, plan: &PlanTable, outcome: Outcome, st: State
 }
 
 // A state, run to rest; where it does not come to rest, says why.
-fn stood(o: RunOptions, p: Plan, plan: &PlanTable, st: State) -> Begun {
+fn stood(system: &mut System, o: RunOptions, p: Plan, plan: &PlanTable, st: State) -> Begun {
     let way = o.way;
     let stand = machine::resume(p, plan, st, way);
     let e = machine::ending_of(stand);
-    started(source_of(o), e);
+    started(system, source_of(o), e);
     Begun {
         outcome: driving::outcome_of(e),
         stand,
@@ -164,31 +190,38 @@ fn stood(o: RunOptions, p: Plan, plan: &PlanTable, st: State) -> Begun {
 }
 
 // Where a run begins: from the start or a state that was saved, with the registers that are set, at rest.
-pub fn begin(o: RunOptions, p: Plan, plan: &PlanTable, sheet: &[u8], names: &[u8; 2560]) -> Begun {
-    let l = loaded(o.load, p, plan, sheet);
+pub fn begin(
+    system: &mut System,
+    o: RunOptions,
+    p: Plan,
+    plan: &PlanTable,
+    sheet: &[u8],
+    names: &[u8; 2560],
+) -> Begun {
+    let l = loaded(system, o.load, p, plan, sheet);
     let read = l.outcome;
     let st = l.state;
     if options::status_of(read) != 0 {
         return unbegun(o, p, plan, read, st);
     }
-    let v = with_values(o.init, p, names, st);
+    let v = with_values(system, o.init, p, names, st);
     let valued = v.outcome;
     let set = v.state;
     if options::status_of(valued) != 0 {
         return unbegun(o, p, plan, valued, set);
     }
-    stood(o, p, plan, unsettled(o.init, plan, set))
+    stood(system, o, p, plan, unsettled(o.init, plan, set))
 }
 
 // ---- the state that it leaves
 
 // The bytes of a state, written; where that fails, says why.
-fn put_state(w: Wave, t: Target, name: &[u8; 4096], st: State) -> Wave {
+fn put_state(system: &mut System, w: Wave, t: Target, name: &[u8; 4096], st: State) -> Wave {
     let mut bytes = [0u8; 1025];
     saved::save(st, &mut bytes);
     let mut text = [0u8; 65536];
     let pos = put_bytes(&bytes, &mut text);
-    wave::put(w, t, name, &text, pos)
+    wave::put(system, w, t, name, &text, pos)
 }
 
 fn put_bytes(bytes: &[u8; 1025], text: &mut [u8; 65536]) -> usize {
@@ -196,21 +229,22 @@ fn put_bytes(bytes: &[u8; 1025], text: &mut [u8; 65536]) -> usize {
 }
 
 // The state that a run leaves, in its file where there is one.
-pub fn save(p: Plan, inputs: i32, s: Stand) -> Outcome {
+pub fn save(system: &mut System, p: Plan, inputs: Stream, s: Stand) -> Outcome {
     if p.save == 0 {
         return Outcome::Done;
     }
-    let mut name = io::buffer();
+    let mut name = [0u8; 4096];
     let kept = p.kept;
-    let t = wave::target_again(p.save, kept, p.source, inputs, &mut name);
+    let t = wave::target_again(system, p.save, kept, p.source, inputs, &mut name);
     if !t.good {
         return Outcome::Mistaken;
     }
     let rest = s.rest;
     let st = rest.state;
-    let w = wave::begun(t, &name);
+    let w = wave::begun(system, t, &name);
     if !w.good {
         return Outcome::Mistaken;
     }
-    wave::finished(put_state(w, t, &name, st), t, &name)
+    let put = put_state(system, w, t, &name, st);
+    wave::finished(system, put, t, &name)
 }

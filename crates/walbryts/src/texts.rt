@@ -2,8 +2,8 @@
 // `verilog_errors`, the places from `verilog_origins`.
 use crate::files::flush;
 use crate::report::{say_allowed, say_file, say_number, say_spot};
+use crate::system::{Stream, System};
 use crate::{files, words};
-use libc::STDERR_FILENO;
 use options::Request;
 use sources::Words;
 use witness::Witness;
@@ -18,35 +18,42 @@ pub fn name(text: &[u8], names: &mut [u8; 2560]) {
 }
 
 // A place of a text with a number, and its line with a caret.
-pub fn say_place(fd: i32, index: usize, text: &[u8], number: u8, place: usize) {
+pub fn say_place(
+    system: &mut System,
+    stream: Stream,
+    index: usize,
+    text: &[u8],
+    number: u8,
+    place: usize,
+) {
     let s = verilog_errors::spot_of(text, place);
-    say_spot(fd, index, s.line, s.column);
-    say_number(fd, number);
+    say_spot(system, stream, index, s.line, s.column);
+    say_number(system, stream, number);
     let mut out = [0u8; 65536];
     let a = verilog_errors::put_line(text, place, &mut out, 0);
-    flush(fd, &out, a);
+    flush(system, stream, &out, a);
 }
 
 // The token that stands at a place.
-fn say_found(text: &[u8], place: usize) {
+fn say_found(system: &mut System, text: &[u8], place: usize) {
     let mut out = [0u8; 65536];
     let a = put_word(b"  found: ", &mut out, 0);
     let b = verilog_errors::put_found(text, place, &mut out, a);
     let c = put_byte(b'\n', &mut out, b);
-    flush(STDERR_FILENO, &out, c);
+    flush(system, Stream::Errors, &out, c);
 }
 
 // The name that stands at a place, and the rule that it breaks.
-fn say_fault(text: &[u8], place: usize) {
+fn say_fault(system: &mut System, text: &[u8], place: usize) {
     let mut out = [0u8; 65536];
     let a = put_word(b"  found: ", &mut out, 0);
     let b = verilog_errors::put_fault(text, place, &mut out, a);
     let c = put_byte(b'\n', &mut out, b);
-    flush(STDERR_FILENO, &out, c);
+    flush(system, Stream::Errors, &out, c);
 }
 
 // What is to be said of the token at a place, on a line of its own.
-fn say_note(text: &[u8], place: usize) {
+fn say_note(system: &mut System, text: &[u8], place: usize) {
     let mut out = [0u8; 65536];
     let a = put_word(b"  note: ", &mut out, 0);
     let b = verilog_errors::put_note(text, place, &mut out, a);
@@ -54,48 +61,48 @@ fn say_note(text: &[u8], place: usize) {
         return;
     }
     let c = put_byte(b'\n', &mut out, b);
-    flush(STDERR_FILENO, &out, c);
+    flush(system, Stream::Errors, &out, c);
 }
 
 // A text that is none of the forms: what could have stood there.
-fn underived(index: usize, text: &[u8], place: usize) {
-    say_place(STDERR_FILENO, index, text, 42, place);
-    say_found(text, place);
+fn underived(system: &mut System, index: usize, text: &[u8], place: usize) {
+    say_place(system, Stream::Errors, index, text, 42, place);
+    say_found(system, text, place);
     let mut out = [0u8; 65536];
     let a = put_word(b"  allowed: ", &mut out, 0);
     let b = verilog_errors::put_choices(text, &mut out, a);
     let c = put_byte(b'\n', &mut out, b);
-    flush(STDERR_FILENO, &out, c);
-    say_note(text, place);
+    flush(system, Stream::Errors, &out, c);
+    say_note(system, text, place);
 }
 
 // A text whose sheet is refused: the name that the byte comes before, or the item that it was written from.
-fn unwritten(index: usize, text: &[u8], number: u8, place: usize) {
+fn unwritten(system: &mut System, index: usize, text: &[u8], number: u8, place: usize) {
     let at = verilog_origins::point(text, place);
-    say_place(STDERR_FILENO, index, text, number, at);
+    say_place(system, Stream::Errors, index, text, number, at);
     let mut out = [0u8; 65536];
     let a = put_word(b"  allowed: ", &mut out, 0);
     let b = verilog_errors::put_permission(number, &mut out, a);
     let c = put_byte(b'\n', &mut out, b);
-    flush(STDERR_FILENO, &out, c);
+    flush(system, Stream::Errors, &out, c);
 }
 
 // A text that is not read.
-pub fn refuse(index: usize, text: &[u8], number: u8, place: usize) {
+pub fn refuse(system: &mut System, index: usize, text: &[u8], number: u8, place: usize) {
     match number {
-        42 => underived(index, text, place),
+        42 => underived(system, index, text, place),
         43 => {
-            say_place(STDERR_FILENO, index, text, number, place);
-            say_fault(text, place);
-            say_allowed(STDERR_FILENO, number);
+            say_place(system, Stream::Errors, index, text, number, place);
+            say_fault(system, text, place);
+            say_allowed(system, Stream::Errors, number);
         }
         41 => {
-            say_file(STDERR_FILENO, index);
-            io::write_all(STDERR_FILENO, b": ");
-            say_number(STDERR_FILENO, number);
-            say_allowed(STDERR_FILENO, number);
+            say_file(system, Stream::Errors, index);
+            system.write(Stream::Errors, b": ");
+            say_number(system, Stream::Errors, number);
+            say_allowed(system, Stream::Errors, number);
         }
-        _ => unwritten(index, text, number, place),
+        _ => unwritten(system, index, text, number, place),
     }
 }
 
@@ -114,46 +121,61 @@ fn module_word(w: Words) -> usize {
 }
 
 // The number of a rule of extraction, behind the file that a word names; 0 is no word.
-fn say_plain(fd: i32, file: usize, number: u8) {
+fn say_plain(system: &mut System, stream: Stream, file: usize, number: u8) {
     if file != 0 {
-        say_file(fd, file);
-        io::write_all(fd, b": ");
+        say_file(system, stream, file);
+        system.write(stream, b": ");
     }
-    say_number(fd, number);
+    say_number(system, stream, number);
 }
 
 // The number behind the place in the text of what breaks the rule, and its line.
-fn say_item(fd: i32, index: usize, sheet: &[u8], w: Witness, text: &[u8]) {
+fn say_item(
+    system: &mut System,
+    stream: Stream,
+    index: usize,
+    sheet: &[u8],
+    w: Witness,
+    text: &[u8],
+) {
     let registers = sheet::read(sheet).layout.inputs;
     let waits = named_findings::waits_before(sheet, w.thread, w.place);
     let item = named_findings::item_of(w, registers, waits);
     let place = verilog_origins::place_of(text, item);
-    say_place(fd, index, text, w.number, place);
+    say_place(system, stream, index, text, w.number, place);
 }
 
 // The same in the first bytes of a buffer, behind a byte order mark.
-fn say_first(fd: i32, index: usize, sheet: &[u8], w: Witness, text: &[u8], n: usize) {
+fn say_first(
+    system: &mut System,
+    stream: Stream,
+    index: usize,
+    sheet: &[u8],
+    w: Witness,
+    text: &[u8],
+    n: usize,
+) {
     let from = sources::mark_size(text);
     if from > n || n > text.len() {
         return;
     }
-    say_item(fd, index, sheet, w, &text[from..n]);
+    say_item(system, stream, index, sheet, w, &text[from..n]);
 }
 
 // The number of a rule of extraction; for a text with the place and the line of what breaks it, else behind a file's name where one is
 // asked for. The text is read a second time, which standard input can't be.
-pub fn say_rule(fd: i32, file: usize, sheet: &[u8], w: Witness) {
-    let asked = words::asked();
+pub fn say_rule(system: &mut System, stream: Stream, file: usize, sheet: &[u8], w: Witness) {
+    let asked = words::asked(system);
     let index = module_word(asked);
-    if !files::is_text(asked.verilog, index) {
-        say_plain(fd, file, w.number);
+    if !files::is_text(system, asked.verilog, index) {
+        say_plain(system, stream, file, w.number);
         return;
     }
     let mut text = [0u8; 65536];
-    let got = files::read_whole(index, &mut text);
+    let got = files::read_whole(system, index, &mut text);
     if got.size == 0 {
-        say_plain(fd, file, w.number);
+        say_plain(system, stream, file, w.number);
         return;
     }
-    say_first(fd, index, sheet, w, &text, got.size);
+    say_first(system, stream, index, sheet, w, &text, got.size);
 }

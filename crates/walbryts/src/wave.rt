@@ -1,35 +1,33 @@
 // The file of a waveform or of a state. It is written under another name in the same folder, and takes the old one's place when the
 // run is over and all is well; where the run is refused or fails, the old one stays as it is. A pipe or a device is written straight into.
-ghost use Rattle.io.specs.Counts.{IsPrefixLen};
-ghost use Rattle.libc.specs.Io.{Ended};
 
-use crate::files::{byte_at, flush, front};
+use crate::files::{flush, front};
 use crate::report;
-use libc::{SEEK_SET, STDOUT_FILENO};
+use crate::system::{Stream, System, is_open};
 use options::Outcome;
 use outputs::Aim;
 
-// The file: its descriptor, or -1 where there is none; is it to take another's place; how much text waits; and was all written so far?
+// The file: its stream, where there is one; is it to take another's place; how much text waits; and was all written so far?
 #[derive(Clone, Copy)]
 pub struct Wave {
-    pub fd: i32,
+    pub stream: Stream,
     pub whole: bool,
     pub pos: usize,
     pub good: bool,
 }
 
-// What is known of the file that a word names: can it be written, how, by which descriptor, and how long its name is.
+// What is known of the file that a word names: can it be written, how, by which stream, and how long its name is.
 #[derive(Clone, Copy)]
 pub struct Target {
     pub good: bool,
     pub whole: bool,
-    pub fd: i32,
+    pub stream: Stream,
     pub length: usize,
 }
 
 pub fn none() -> Wave {
     Wave {
-        fd: -1,
+        stream: Stream::Nowhere,
         whole: false,
         pos: 0,
         good: true,
@@ -38,246 +36,244 @@ pub fn none() -> Wave {
 
 // ---- which file it is
 
-// A name with zeros behind it.
-fn ended(name: &[u8]) -> [u8; 4096]
-    ensures { Ended result }
-{
-    let mut path = [0u8; 4096];
-    let mut i = 0;
-    while i < 4095 {
-        path[i] = byte_at(name, i);
-        i += 1;
-    }
-    path[4095] = 0;
-    path
-}
-
-// What a link says, of so many bytes; 0 where there is none.
-fn read_link(name: &[u8], out: &mut [u8; 4096]) -> usize
-    ensures { IsPrefixLen result out.new }
-{
-    let path = ended(name);
-    let got = libc::readlink(&path, out);
-    io::count(got, out)
-}
-
-// The name of the file that a descriptor is of, as the system knows it. Gives its length, 0 where it is not known.
-fn true_name(fd: i32, out: &mut [u8; 4096]) -> usize
-    ensures { IsPrefixLen result out.new }
-{
-    match fd {
-        0 => read_link(b"/proc/self/fd/0", out),
-        1 => read_link(b"/proc/self/fd/1", out),
-        2 => read_link(b"/proc/self/fd/2", out),
-        3 => read_link(b"/proc/self/fd/3", out),
-        4 => read_link(b"/proc/self/fd/4", out),
-        5 => read_link(b"/proc/self/fd/5", out),
-        6 => read_link(b"/proc/self/fd/6", out),
-        7 => read_link(b"/proc/self/fd/7", out),
-        8 => read_link(b"/proc/self/fd/8", out),
-        9 => read_link(b"/proc/self/fd/9", out),
-        _ => read_link(b"/proc/self/fd/-", out),
-    }
-}
-
-// Is a descriptor's file the one of that name?
-fn is_named(fd: i32, name: &[u8]) -> bool {
-    let mut other = io::buffer();
-    let n = true_name(fd, &mut other);
+// Is a stream's file the one of that name?
+fn is_named(system: &mut System, stream: Stream, name: &[u8]) -> bool {
+    let mut other = [0u8; 4096];
+    let n = system.true_name(stream, &mut other);
     if n == 0 {
         return false;
     }
     verilog_tokens::same(&other[..n], name)
 }
 
+// Is a stream's file that of another, which has that name? A file whose name is not known is told by its device and number.
+fn is_file(system: &mut System, stream: Stream, other: Stream, name: &[u8]) -> bool {
+    if name.is_empty() {
+        return system.are_one(stream, other);
+    }
+    is_named(system, stream, name)
+}
+
+// Is a file one that this command reads, or shows its table in?
+fn is_own(system: &mut System, sheet: Stream, inputs: Stream, other: Stream, name: &[u8]) -> bool {
+    if is_file(system, sheet, other, name) {
+        return true;
+    }
+    if is_file(system, inputs, other, name) {
+        return true;
+    }
+    is_file(system, Stream::Output, other, name)
+}
+
 // ---- where it goes
 
-fn aimed(good: bool, whole: bool, fd: i32, length: usize) -> Target {
+fn aimed(good: bool, whole: bool, stream: Stream, length: usize) -> Target {
     Target {
         good,
         whole,
-        fd,
+        stream,
         length,
     }
 }
 
 // A file that is there already: which one it is, by its true name; where this command reads it or shows its table in it, that is said.
 fn present(
+    system: &mut System,
     index: usize,
-    sheet: i32,
-    inputs: i32,
-    fd: i32,
+    sheet: Stream,
+    inputs: Stream,
+    stream: Stream,
     name: &mut [u8; 4096],
     n: usize,
 ) -> Target {
-    let mut known = io::buffer();
-    let m = true_name(fd, &mut known);
-    let sought = libc::lseek(fd, 1, SEEK_SET) == 1;
-    let read = is_named(sheet, &known[..m]) || is_named(inputs, &known[..m]);
-    let own = sought && (read || is_named(STDOUT_FILENO, &known[..m]));
+    let mut known = [0u8; 4096];
+    let m = system.true_name(stream, &mut known);
+    let sought = system.is_seekable(stream);
+    let own = sought && is_own(system, sheet, inputs, stream, &known[..m]);
     match outputs::aim_of(own, true, sought) {
         Aim::Own => {
-            libc::close(fd);
+            system.close(stream);
             report::wrong_with(
+                system,
                 index,
                 b": this command reads it or shows its table in it\n",
                 0,
             );
-            aimed(false, false, -1, 0)
+            aimed(false, false, Stream::Nowhere, 0)
         }
-        Aim::Straight => aimed(true, false, fd, n),
+        Aim::Straight => aimed(true, false, stream, n),
         Aim::Whole => {
-            let length = if m == 0 { n } else { true_name(fd, name) };
-            libc::close(fd);
-            aimed(true, true, -1, length)
+            let length = if m == 0 {
+                n
+            } else {
+                system.true_name(stream, name)
+            };
+            system.close(stream);
+            aimed(true, true, Stream::Nowhere, length)
         }
     }
 }
 
 // No file.
 pub fn nowhere() -> Target {
-    aimed(true, false, -1, 0)
+    aimed(true, false, Stream::Nowhere, 0)
 }
 
-// Where the file goes that a word names, 0 where there is none: by the descriptors of the module and the inputs. Where it cannot be
+// Where the file goes that a word names, 0 where there is none: by the streams of the module and the inputs. Where it cannot be
 // written, says why.
-pub fn target_of(index: usize, sheet: i32, inputs: i32, name: &mut [u8; 4096]) -> Target {
+pub fn target_of(
+    system: &mut System,
+    index: usize,
+    sheet: Stream,
+    inputs: Stream,
+    name: &mut [u8; 4096],
+) -> Target {
     if index == 0 {
-        return aimed(true, false, -1, 0);
+        return nowhere();
     }
-    let n = os::arg(index, name);
-    if os::errno() != 0 {
-        os::fail(b"a file's name");
-        return aimed(false, false, -1, 0);
+    let n = system.word(index, name);
+    if system.has_failed() {
+        system.fail(b"a file's name");
+        return aimed(false, false, Stream::Nowhere, 0);
     }
-    let fd = open_present(name, n);
-    if fd >= 0 {
-        return present(index, sheet, inputs, fd, name, n);
+    let stream = open_present(system, name, n);
+    if is_open(stream) {
+        return present(system, index, sheet, inputs, stream, name, n);
     }
-    if os::errno() == libc::ENOENT {
-        return aimed(true, true, -1, n);
+    if system.is_missing() {
+        return aimed(true, true, Stream::Nowhere, n);
     }
-    fail_named(name, n);
-    aimed(false, false, -1, 0)
+    fail_named(system, name, n);
+    aimed(false, false, Stream::Nowhere, 0)
 }
 
 // The file of a name, where it is there.
-fn open_present(name: &[u8], n: usize) -> i32 {
+fn open_present(system: &mut System, name: &[u8], n: usize) -> Stream {
     if n <= name.len() {
-        return os::open_append(&name[..n]);
+        return system.open_append(&name[..n]);
     }
-    -1
+    Stream::Nowhere
 }
 
-fn fail_named(name: &[u8], n: usize) {
+fn fail_named(system: &mut System, name: &[u8], n: usize) {
     if n <= name.len() {
-        os::fail(&name[..n]);
+        system.fail(&name[..n]);
     }
 }
 
 // The name that it has until it is whole: the process is known by what /proc/self says. Gives its length.
-fn put_part(path: &[u8], text: &mut [u8; 65536]) -> usize {
-    let mut id = io::buffer();
-    let n = read_link(b"/proc/self", &mut id);
+fn put_part(system: &mut System, path: &[u8], text: &mut [u8; 65536]) -> usize {
+    let mut id = [0u8; 4096];
+    let n = system.process(&mut id);
     outputs::put_part(path, &id[..n], text, 0)
 }
 
-fn create_named(name: &[u8], n: usize) -> i32 {
+fn create_named(system: &mut System, name: &[u8], n: usize) -> Stream {
     if n <= name.len() {
-        return os::create(&name[..n]);
+        return system.create(&name[..n]);
     }
-    -1
+    Stream::Nowhere
 }
 
-fn create(text: &[u8; 65536], n: usize) -> i32 {
-    create_named(text, n)
+fn create(system: &mut System, text: &[u8; 65536], n: usize) -> Stream {
+    create_named(system, text, n)
 }
 
 // The file, made; where it cannot be, says why.
-pub fn made(t: Target, path: &[u8]) -> Wave {
+pub fn made(system: &mut System, t: Target, path: &[u8]) -> Wave {
     if !t.whole {
         let mut w = none();
-        w.fd = t.fd;
+        w.stream = t.stream;
         return w;
     }
     let mut text = [0u8; 65536];
-    let n = put_part(path, &mut text);
-    let fd = create(&text, n);
-    if fd < 0 {
-        os::fail(path);
+    let n = put_part(system, path, &mut text);
+    let stream = create(system, &text, n);
+    let good = is_open(stream);
+    if !good {
+        system.fail(path);
     }
     Wave {
-        fd,
+        stream,
         whole: true,
         pos: 0,
-        good: fd >= 0,
+        good,
     }
 }
 
 // ---- what is written
 
 // What waits is written; where that fails, says why.
-pub fn spilled(w: Wave, path: &[u8], text: &[u8; 65536]) -> Wave {
+pub fn spilled(system: &mut System, w: Wave, path: &[u8], text: &[u8; 65536]) -> Wave {
     let mut e = w;
     e.pos = 0;
-    if w.fd < 0 || !w.good {
+    if !is_open(w.stream) || !w.good {
         return e;
     }
-    e.good = flush(w.fd, text, w.pos);
+    e.good = flush(system, w.stream, text, w.pos);
     if !e.good {
-        os::fail(path);
+        system.fail(path);
     }
     e
 }
 
-fn unlink_named(name: &[u8], n: usize) {
+fn unlink_named(system: &mut System, name: &[u8], n: usize) {
     if n <= name.len() {
-        os::unlink(&name[..n]);
+        system.remove(&name[..n]);
     }
 }
 
-fn unlink(text: &[u8; 65536], n: usize) {
-    unlink_named(text, n);
+fn unlink(system: &mut System, text: &[u8; 65536], n: usize) {
+    unlink_named(system, text, n);
 }
 
-fn rename_named(name: &[u8], n: usize, path: &[u8]) -> bool {
+fn rename_named(system: &mut System, name: &[u8], n: usize, path: &[u8]) -> bool {
     if n <= name.len() {
-        return os::rename(&name[..n], path) == 0;
+        return system.rename(&name[..n], path);
     }
     false
 }
 
-fn rename(text: &[u8; 65536], n: usize, path: &[u8]) -> bool {
-    rename_named(text, n, path)
+fn rename(system: &mut System, text: &[u8; 65536], n: usize, path: &[u8]) -> bool {
+    rename_named(system, text, n, path)
 }
 
 // A file that is whole takes its name. Gives how it went.
-fn renamed(path: &[u8]) -> Outcome {
+fn renamed(system: &mut System, path: &[u8]) -> Outcome {
     let mut text = [0u8; 65536];
-    let n = put_part(path, &mut text);
-    if rename(&text, n, path) {
+    let n = put_part(system, path, &mut text);
+    if rename(system, &text, n, path) {
         return Outcome::Done;
     }
-    os::fail(path);
-    unlink(&text, n);
+    system.fail(path);
+    unlink(system, &text, n);
     Outcome::Mistaken
 }
 
 // A file that did not become whole goes.
-fn removed(path: &[u8]) {
+fn removed(system: &mut System, path: &[u8]) {
     let mut text = [0u8; 65536];
-    let n = put_part(path, &mut text);
-    unlink(&text, n);
+    let n = put_part(system, path, &mut text);
+    unlink(system, &text, n);
+}
+
+// The file is closed. Is all of it stored? What is written straight into needs no more than that.
+fn is_shut(system: &mut System, w: Wave) -> bool {
+    if w.whole {
+        return system.finish(w.stream);
+    }
+    system.close(w.stream);
+    true
 }
 
 // The run is over, with such an outcome: the file is closed, and takes its name where all is well.
-pub fn closed(w: Wave, path: &[u8], outcome: Outcome) -> Outcome {
-    if w.fd < 0 {
+pub fn closed(system: &mut System, w: Wave, path: &[u8], outcome: Outcome) -> Outcome {
+    if !is_open(w.stream) {
         return outcome;
     }
-    let shut = libc::close(w.fd) == 0;
+    let shut = is_shut(system, w);
     if !shut {
-        os::fail(path);
+        system.fail(path);
     }
     let good = w.good && shut;
     let mine = if good {
@@ -290,9 +286,9 @@ pub fn closed(w: Wave, path: &[u8], outcome: Outcome) -> Outcome {
         return all;
     }
     if options::status_of(all) == 0 {
-        return renamed(path);
+        return renamed(system, path);
     }
-    removed(path);
+    removed(system, path);
     all
 }
 
@@ -300,35 +296,43 @@ pub fn closed(w: Wave, path: &[u8], outcome: Outcome) -> Outcome {
 
 // Where it goes, once more: what is written straight into is still open.
 pub fn target_again(
+    system: &mut System,
     index: usize,
     t: Target,
-    sheet: i32,
-    inputs: i32,
+    sheet: Stream,
+    inputs: Stream,
     name: &mut [u8; 4096],
 ) -> Target {
-    if t.fd < 0 {
-        return target_of(index, sheet, inputs, name);
+    if !is_open(t.stream) {
+        return target_of(system, index, sheet, inputs, name);
     }
-    let n = os::arg(index, name);
-    aimed(true, false, t.fd, n)
+    let n = system.word(index, name);
+    aimed(true, false, t.stream, n)
 }
 
 // The file, made, by its name.
-pub fn begun(t: Target, name: &[u8; 4096]) -> Wave {
+pub fn begun(system: &mut System, t: Target, name: &[u8; 4096]) -> Wave {
     let path = front(name, t.length);
-    made(t, path)
+    made(system, t, path)
 }
 
 // A part of it is written; where that fails, says why.
-pub fn put(w: Wave, t: Target, name: &[u8; 4096], text: &[u8; 65536], pos: usize) -> Wave {
+pub fn put(
+    system: &mut System,
+    w: Wave,
+    t: Target,
+    name: &[u8; 4096],
+    text: &[u8; 65536],
+    pos: usize,
+) -> Wave {
     let mut e = w;
     e.pos = pos;
     let path = front(name, t.length);
-    spilled(e, path, text)
+    spilled(system, e, path, text)
 }
 
 // It is closed, and takes its name.
-pub fn finished(w: Wave, t: Target, name: &[u8; 4096]) -> Outcome {
+pub fn finished(system: &mut System, w: Wave, t: Target, name: &[u8; 4096]) -> Outcome {
     let path = front(name, t.length);
-    closed(w, path, Outcome::Done)
+    closed(system, w, path, Outcome::Done)
 }

@@ -1,21 +1,22 @@
 // The words of the command line, handed to `sources` one by one.
+use crate::system::System;
 use sources::Words;
 
 // One word of the command line.
-fn take_word(w: Words, i: usize) -> Words {
-    let mut word = io::buffer();
-    let n = os::arg(i, &mut word);
+fn take_word(system: &mut System, w: Words, i: usize) -> Words {
+    let mut word = [0u8; 4096];
+    let n = system.word(i, &mut word);
     sources::take(w, &word[..n])
 }
 
 // All of them.
-pub fn asked() -> Words {
-    let n = os::arg_count();
+pub fn asked(system: &mut System) -> Words {
     let mut w = sources::begin();
-    let mut i = 1;
-    while i < n {
-        w = take_word(w, i);
-        i += 1;
+    for i in 1..usize::MAX {
+        if !system.has_word(i) {
+            return w;
+        }
+        w = take_word(system, w, i);
     }
     w
 }

@@ -1,5 +1,6 @@
 // A run as a value change dump (VCD, IEEE 1364), put into a lent buffer piece by piece.
 #![tactic(auto)]
+
 ghost use Rattle.std.specs.Prelude.{◌≡◌, ◌∷◌, [], map, ◌+◌, ◌<◌, get_or};
 ghost use Rattle.values.specs.Cells.{cell_at};
 ghost use Rattle.values.specs.Values.{pick, same};

@@ -2,6 +2,7 @@
 // specs/Breaks says what is promised of it. It is found on the tables that are filled from the sheet, as the lowest number of which a
 // test holds; a test is named by an enum.
 #![tactic(auto)]
+
 mod coded;
 mod looping;
 mod masked;

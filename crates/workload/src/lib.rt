@@ -1,6 +1,7 @@
 // The work of clock cycles: the wires that the plain run stores, and the wires that read a variable whose value changed, counted from
 // each instant and each commit up to quiet or the next commit and summed over a cycle. Each function equals its definition in specs/.
 #![tactic(auto)]
+
 ghost use Rattle.std.specs.Prelude.{◌≡◌, ◌<◌, ◌≤◌, get_or};
 ghost use Rattle.plan.specs.Plan.{plan_of};
 ghost use Rattle.workload.specs.Workload.{tally, summed, stretched, committed, is_over, to_rest, driven, row_of, inputs_at, cycled};

@@ -1,6 +1,7 @@
 // A text written into a lent buffer of 65,536 bytes: bytes, words and numbers.
 // Every contract says: buffer and new position are what putting the text at the old position gives.
 #![tactic(auto)]
+
 ghost use Rattle.std.specs.Prelude.{◌≡◌, ◌∷◌, [], replicate};
 ghost use Rattle.writing.specs.Numbers.{decimal};
 ghost use Rattle.writing.specs.Buffer.{filled, puts};

@@ -1,0 +1,27 @@
+-- `counted::work` meets its contract: each way through the code is a law of proofs/Counting. Assumes nothing.
+use mathlib.Core.Path.{sym, ◌∙◌}
+use native.Mathlib.Omega.{arith}
+use borrow.Author.Tests.{not-true, not-false}
+use Rattle.plan.specs.Plan.{plan_of}
+use Rattle.prepared.proofs.Ways.{laid}
+use Rattle.counted.proofs.Counting.{work-unfit, work-userless, work-fit}
+use borrow.Author.Rules.{rules}
+use Rattle.counted.proofs.work.Goals as goal
+
+pub returns-then-not-state_fits : goal.returns-then-not-state_fits
+returns-then-not-state_fits c =
+    rw c.not_run.ensures (work-unfit _ _ _ _ (sym c.state_fits.ensures ∙ c.if-not-state_fits.true))
+
+pub returns-then-user-ge-USERS : goal.returns-then-user-ge-USERS
+returns-then-user-ge-USERS c =
+    rw c.not_run-then-user-ge-USERS.ensures
+    (work-userless _ _ _ _ (sym c.state_fits.ensures ∙ c.if-not-state_fits.false)
+    (omega arith))
+
+pub returns : goal.returns
+returns c =
+    let p = c.args in
+    work-fit (plan_of p.plan.now) p.st _ _ (sym c.state_fits.ensures ∙ c.if-not-state_fits.false)
+    (omega (arith, c.if-user-ge-USERS.false)) _
+    (laid (plan_of p.plan.now) p.st _ _ _ _ c.slots_of-pending.ensures c.unpack-marks.ensures)
+    _ _ _ _ _ _ _ c.room_in-room.ensures c.run_up-t.ensures c.raised-counters.ensures c.pack-state.ensures

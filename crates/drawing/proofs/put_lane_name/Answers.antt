@@ -1,0 +1,26 @@
+-- `drawing::put_lane_name` meets its contract. Assumes nothing.
+use native.Mathlib.Omega.{arith}
+use Rattle.drawing.specs.Drawing.{lane_name}
+use Rattle.naming.proofs.Naming.{within-80}
+use Rattle.writing.proofs.Buffer.{both}
+use Rattle.writing.specs.Ascii.{ascii}
+use Rattle.drawing.proofs.put_lane_name.Goals as goal
+
+pub overflow_mul-y : goal.overflow_mul-y
+overflow_mul-y c =
+    omega (arith, c.within.ensures, within-80 c.args.i)
+
+pub overflow_add-y : goal.overflow_add-y
+overflow_add-y c =
+    omega (arith, c.within.ensures, within-80 c.args.i)
+
+pub returns : goal.returns
+unfolding ascii lane_name
+returns c =
+    rw (← c.within.ensures, ← c.byte_at.ensures)
+    (both _ _ _ _ _ c.put_measure-p.ensures
+    (both _ _ _ _ _ c.put_measure-q.ensures
+    (both _ _ _ _ _ c.put_word-s.ensures
+    (both _ _ _ _ _ c.put_name-e.ensures
+    (both _ _ _ _ _ c.put_range-f.ensures
+    c.put_word.ensures)))))

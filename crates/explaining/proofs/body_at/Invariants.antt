@@ -1,0 +1,13 @@
+-- `explaining::body_at` meets its contract. The loop's invariant: what is left of the threads leads to the place. Assumes nothing.
+use Prim.Native.Nat.{◌≤◌, ◌-◌}
+use mathlib.Core.Path.{◌≡◌}
+use Rattle.explaining.specs.Walking.{body_at}
+use Rattle.explaining.proofs.body_at.Given as goal
+
+abbrev pub invariant-loop-i : goal.invariant-loop-i
+invariant-loop-i l =
+    (l.i ≤ l.thread) × (body_at l.sheet l.definitions (l.thread - l.i) l.at ≡ body_at l.sheet l.definitions l.thread l.body)
+
+abbrev pub decreases-loop-i : goal.decreases-loop-i
+decreases-loop-i l =
+    l.thread - l.i

@@ -1,0 +1,12 @@
+-- `explaining::put_assign` meets its contract. Assumes nothing.
+use Rattle.writing.specs.Ascii.{ascii}
+use Rattle.explaining.proofs.Printing.{assign-path}
+use Rattle.explaining.proofs.put_assign.Goals as goal
+
+pub returns : goal.returns
+unfolding ascii
+returns c =
+    assign-path _ _ _ _ _ _ _ c.byte_at-target.ensures c.wide.ensures
+    c.put_indent-p.ensures c.put_name-q.ensures
+    c.put_word-w.ensures c.print_expr-e.ensures
+    c.put_word.ensures

@@ -1,0 +1,11 @@
+-- `explaining::put_condition` meets its contract. Assumes nothing.
+use Rattle.writing.specs.Ascii.{ascii}
+use Rattle.explaining.proofs.Printing.{condition-path}
+use Rattle.explaining.proofs.put_condition.Goals as goal
+
+pub returns : goal.returns
+unfolding ascii
+returns c =
+    condition-path _ _ _ _ _ _ c.put_indent-p.ensures
+    c.put_word-w.ensures c.print_expr-e.ensures
+    c.put_word.ensures

@@ -1,0 +1,23 @@
+-- `exports::word_of_verdict` meets its contract. Assumes nothing.
+use Rattle.events.specs.Verdict.{word_of_verdict}
+use Rattle.exports.proofs.word_of_verdict.Goals as goal
+
+pub returns-in-Quiet : goal.returns-in-Quiet
+unfolding word_of_verdict
+returns-in-Quiet c =
+    cc
+
+pub returns-in-Spent : goal.returns-in-Spent
+unfolding word_of_verdict
+returns-in-Spent c =
+    cc
+
+pub returns-in-Stopped : goal.returns-in-Stopped
+unfolding word_of_verdict
+returns-in-Stopped c =
+    cc
+
+pub returns-in-Refused : goal.returns-in-Refused
+unfolding word_of_verdict
+returns-in-Refused c =
+    cc

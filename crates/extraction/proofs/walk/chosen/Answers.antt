@@ -1,0 +1,11 @@
+-- `walk::chosen` meets its contract. Assumes nothing.
+use borrow.Author.Rules.{rules}
+use Rattle.extraction.proofs.walk.chosen.Goals as goal
+
+pub returns-then-has : goal.returns-then-has
+returns-then-has c =
+    rw (← c.has.ensures, c.if-has.true)
+
+pub returns-else-has : goal.returns-else-has
+returns-else-has c =
+    rw (← c.has.ensures, c.if-has.false)

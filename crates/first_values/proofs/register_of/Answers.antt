@@ -1,0 +1,27 @@
+-- `first_values::register_of` meets its contract. The loop's invariant: the search from `v` on finds what all finds. Assumes nothing.
+use Rattle.std.proofs.Common.{◌≡◌, ◌-◌, sym, refl, ◌∙◌, rules}
+use Rattle.stimulus.specs.Counting.{first_from}
+use Rattle.stimulus.proofs.Searching.{first-hit, first-miss, first-none}
+use Rattle.first_values.specs.FirstValues.{is_named, register_of}
+use Rattle.first_values.proofs.register_of.Goals as goal
+
+pub loop-v-init : goal.loop-v-init
+unfolding register_of
+loop-v-init c =
+    refl
+
+pub returns-then-same_name : goal.returns-then-same_name
+unfolding is_named
+returns-then-same_name c =
+    sym (first-hit _ _ _ c.loop-v-test.true (sym c.same_name.ensures ∙ c.if-same_name.true))
+    ∙ c.loop-v.invariant
+
+pub loop-v-preserved : goal.loop-v-preserved
+unfolding is_named
+loop-v-preserved c =
+    sym (first-miss _ _ _ c.loop-v-test.true (sym c.same_name.ensures ∙ c.if-same_name.false))
+    ∙ c.loop-v.invariant
+
+pub returns : goal.returns
+returns c =
+    sym (first-none _ _ _ c.loop-v-test.false) ∙ c.loop-v.invariant

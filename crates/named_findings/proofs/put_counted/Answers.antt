@@ -1,0 +1,8 @@
+-- `named_findings::put_counted` meets its contract. Assumes nothing.
+use borrow.Author.Rules.{rules}
+use Rattle.writing.proofs.Buffer.{both}
+use Rattle.named_findings.proofs.put_counted.Goals as goal
+
+pub returns : goal.returns
+returns c =
+    both _ _ _ _ _ c.put_word-p.ensures c.put_decimal.ensures

@@ -1,0 +1,14 @@
+-- `named_findings::put_register` meets its contract. Assumes nothing.
+use borrow.Author.Rules.{rules}
+use Rattle.writing.specs.Ascii.{ascii}
+use Rattle.writing.proofs.Buffer.{both}
+use Rattle.named_findings.specs.Findings.{register_words}
+use Rattle.named_findings.proofs.put_register.Goals as goal
+
+pub returns : goal.returns
+unfolding ascii register_words
+returns c =
+    both _ _ _ _ _
+    (both _ _ _ _ _
+    (rw c.variable-v.ensures at
+    c.put_named-p.ensures) c.put_word-q.ensures) c.put_other.ensures

@@ -1,0 +1,14 @@
+-- `options::noted` meets its contract. Assumes nothing.
+use borrow.Author.Tests.{lt-ltb, le-ltb}
+use Rattle.options.specs.Options.{noted}
+use Rattle.options.proofs.noted.Goals as goal
+
+pub returns-then-slot-ge40 : goal.returns-then-slot-ge40
+unfolding noted
+returns-then-slot-ge40 c =
+    rw (le-ltb _ _ c.if-slot-ge40.true)
+
+pub returns : goal.returns
+unfolding noted
+returns c =
+    rw (lt-ltb _ _ c.if-slot-ge40.false)

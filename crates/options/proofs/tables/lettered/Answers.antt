@@ -1,0 +1,14 @@
+-- `options::tables::lettered` meets its contract. Assumes nothing.
+use borrow.Author.Tests.{eq-eqb, ne_eqb}
+use Rattle.options.specs.Tables.{lettered}
+use Rattle.options.proofs.tables.lettered.Goals as goal
+
+pub returns-then-b-eq32 : goal.returns-then-b-eq32
+unfolding lettered
+returns-then-b-eq32 c =
+    rw (eq-eqb _ _ c.if-b-eq32.true)
+
+pub returns-else-b-eq32 : goal.returns-else-b-eq32
+unfolding lettered
+returns-else-b-eq32 c =
+    rw (ne_eqb _ _ c.if-b-eq32.false)

@@ -1,0 +1,22 @@
+-- `plan_fitting::inputs_fit` meets its contract. Assumes nothing.
+use mathlib.Core.Path.{◌≡◌, sym, ◌∙◌}
+use borrow.Author.Tests.{eq-eqb, ne_eqb}
+use Rattle.events.specs.Calls.{input_of}
+use Rattle.plan.specs.Plan.{plan_of}
+use Rattle.plan_fitting.specs.Fitting.{plan_inputs_fit}
+use borrow.Author.Rules.{rules}
+use Rattle.plan_fitting.proofs.inputs_fit.Goals as goal
+
+pub returns-then-wide-n : goal.returns-then-wide-n
+unfolding plan_inputs_fit
+returns-then-wide-n c =
+    let p = c.args in
+    rw (ne_eqb p.a.count (plan_of p.plan.now).inputs (λ e. c.if-wide-n.true (c.wide.ensures ∙ e ∙ sym c.inputs-n.ensures)))
+
+pub returns : goal.returns
+unfolding plan_inputs_fit input_of
+returns c =
+    let p = c.args in
+    let e = c.values_fit.ensures in
+    rw (eq-eqb p.a.count (plan_of p.plan.now).inputs (sym c.wide.ensures ∙ c.if-wide-n.false ∙ c.inputs-n.ensures))
+    (rw c.inputs-n.ensures at e)

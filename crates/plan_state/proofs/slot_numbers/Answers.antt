@@ -1,0 +1,27 @@
+-- `plan_state::slot_numbers` meets its contract. The loop's invariant: the elements so far are stored. Assumes nothing.
+use mathlib.Core.Path.{◌≡◌, refl, ◌∙◌}
+use Prim.Native.Nat.{◌≤◌, ◌-◌}
+use native.Mathlib.Omega.{arith}
+use lib.ListN.{get_or}
+use lib.Seq.{sets}
+use Rattle.state.specs.Rows.{list_of}
+use Rattle.state.proofs.Rows.{list_of-step, list_of-whole}
+use Rattle.values.specs.Cells.{number_in}
+use borrow.Author.Rules.{rules}
+use Rattle.plan_state.proofs.slot_numbers.Goals as goal
+
+pub loop-v-init : goal.loop-v-init
+unfolding list_of
+loop-v-init c =
+    (omega arith, refl)
+
+pub loop-v-preserved : goal.loop-v-preserved
+loop-v-preserved c =
+    let cs = c.args.pending.now in
+    (omega arith, rw (c.number_in.ensures, c.loop-v.invariant.1) (list_of-step (λ k. number_in (get_or cs k 0)) _ c.loop-v.v))
+
+pub returns : goal.returns
+returns c =
+    let cs = c.args.pending.now in
+    let e : c.loop-v.v ≡ 32 = omega arith in
+    rw e at c.loop-v.invariant.1 ∙ list_of-whole (λ k. number_in (get_or cs k 0)) _ 32 refl

@@ -1,0 +1,10 @@
+-- `rivals::found` meets its contract. Assumes nothing.
+use borrow.Author.Rules.{rules}
+use Rattle.rivals.specs.Judging.{found}
+use Rattle.rivals.proofs.found.Goals as goal
+
+pub returns : goal.returns
+unfolding found
+returns c =
+    rw (← c.row_of-a.ensures, ← c.row_of-b.ensures, ← c.row_of-c.ensures, ← c.row_of-d.ensures)
+    c.compare.ensures

@@ -1,0 +1,19 @@
+-- `rivals::meeting::done_of` meets its contract, case by case. Assumes nothing.
+use borrow.Author.Rules.{rules}
+use Rattle.rivals.specs.Meeting.{done_of}
+use Rattle.rivals.proofs.meeting.done_of.Goals as goal
+
+pub returns-in-Rested : goal.returns-in-Rested
+unfolding done_of
+returns-in-Rested c =
+    rw c.in-Rested.is
+
+pub returns-in-Refused : goal.returns-in-Refused
+unfolding done_of
+returns-in-Refused c =
+    rw c.in-Refused.is
+
+pub returns-in-Restless : goal.returns-in-Restless
+unfolding done_of
+returns-in-Restless c =
+    rw c.in-Restless.is

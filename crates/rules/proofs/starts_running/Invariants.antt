@@ -1,0 +1,12 @@
+-- `rules::starts_running` meets its contract. The loop's invariant: what is left of the threads decides. Assumes nothing.
+use mathlib.Core.Path.{◌≡◌}
+use Rattle.rules.specs.Walking.{starts_running_from}
+use Rattle.rules.proofs.starts_running.Given as goal
+
+abbrev pub invariant-loop-left : goal.invariant-loop-left
+invariant-loop-left l =
+    starts_running_from l.sheet l.definitions l.threads l.body ≡ starts_running_from l.sheet l.definitions l.left l.next
+
+abbrev pub decreases-loop-left : goal.decreases-loop-left
+decreases-loop-left l =
+    l.left

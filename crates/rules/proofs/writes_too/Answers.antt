@@ -1,0 +1,14 @@
+-- `rules::writes_too` meets its contract. Assumes nothing.
+use mathlib.Core.Path.{sym, ◌∙◌}
+use Rattle.rules.specs.Judging.{writes_too}
+use Rattle.rules.proofs.writes_too.Goals as goal
+
+pub returns-then-writes : goal.returns-then-writes
+unfolding writes_too
+returns-then-writes c =
+    rw (sym c.writes.ensures ∙ c.if-writes.true) c.written_again.ensures
+
+pub returns : goal.returns
+unfolding writes_too
+returns c =
+    rw (sym c.writes.ensures ∙ c.if-writes.false)

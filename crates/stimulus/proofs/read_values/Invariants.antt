@@ -1,0 +1,18 @@
+-- `stimulus::read_values` meets its contract. The loop's invariant: the values from input `k` on, taken from `at` on and put beside those
+-- that are there, give the whole. Assumes nothing.
+use mathlib.Core.Path.{◌≡◌}
+use Prim.Native.Nat.{◌≤◌, ◌-◌}
+use lib.ListN.{length}
+use Rattle.stimulus.specs.Lines.{values_from, values_of}
+use Rattle.stimulus.proofs.read_values.Given as goal
+
+abbrev pub invariant-loop-k : goal.invariant-loop-k
+invariant-loop-k l =
+    (l.at ≤ length l.line)
+    × (length l.value ≡ 16)
+    × (length l.unknown ≡ 16)
+    × (values_from l.line l.widths (l.n - l.k) l.k l.at l.value l.unknown ≡ values_of l.line l.widths l.inputs l.from)
+
+abbrev pub decreases-loop-k : goal.decreases-loop-k
+decreases-loop-k l =
+    l.n - l.k

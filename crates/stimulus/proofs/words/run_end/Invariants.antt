@@ -1,0 +1,15 @@
+-- `stimulus::words::run_end` meets its contract. The loop's invariant: the run from `i` on ends where the whole does.
+-- Assumes nothing.
+use mathlib.Core.Path.{◌≡◌}
+use Prim.Native.Nat.{◌-◌}
+use lib.ListN.{length}
+use Rattle.stimulus.specs.Words.{run_end}
+use Rattle.stimulus.proofs.words.run_end.Given as goal
+
+abbrev pub invariant-loop-i : goal.invariant-loop-i
+invariant-loop-i l =
+    run_end l.class l.line l.i ≡ run_end l.class l.line l.at
+
+abbrev pub decreases-loop-i : goal.decreases-loop-i
+decreases-loop-i l =
+    length l.line - l.i

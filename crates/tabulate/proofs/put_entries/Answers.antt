@@ -1,0 +1,32 @@
+-- `tabulate::put_entries` meets its contract. The loop's invariant: what is still to be put gives the whole. Assumes nothing.
+use Prim.Native.Nat.{◌≤◌, ◌-◌}
+use mathlib.Core.Path.{◌≡◌, refl, sym, ◌∙◌}
+use lib.ListN.{length, drop}
+use borrow.Author.Rules.{rules}
+use Rattle.values.specs.Cells.{cell_at}
+use Rattle.writing.specs.Buffer.{filled, puts}
+use Rattle.tabulate.specs.Tabulate.{entry, columns}
+use Rattle.tabulate.proofs.Tabulate.{columns-next, columns-done}
+use Rattle.tabulate.proofs.put_entries.Goals as goal
+
+pub loop-i-init : goal.loop-i-init
+loop-i-init c =
+    refl
+
+pub loop-i-preserved : goal.loop-i-preserved
+unfolding entry
+loop-i-preserved c =
+    let l = c.loop-i in
+    let a = c.args in
+    columns-next (entry a.form a.widths.now a.names.now (cell_at a.row.now)) (filled l.text l.p) _ a.vs.now l.i
+    c.loop-i-test.true
+    (rw (c.value_in-a.ensures, c.wide-v.ensures) at c.put_entry-p.ensures)
+    ∙ l.invariant
+
+pub returns : goal.returns
+returns c =
+    let l = c.loop-i in
+    let a = c.args in
+    sym (columns-done (entry a.form a.widths.now a.names.now (cell_at a.row.now)) (filled l.text l.p) a.vs.now l.i
+    c.loop-i-test.false)
+    ∙ l.invariant

@@ -1,0 +1,11 @@
+-- `text::print_refusal` meets its contract. Assumes nothing.
+use Rattle.writing.specs.Ascii.{ascii}
+use Rattle.text.specs.Listing.{refusal}
+use Rattle.writing.proofs.Buffer.{both}
+use Rattle.text.proofs.print_refusal.Goals as goal
+
+pub returns : goal.returns
+unfolding ascii refusal
+returns c =
+    both _ _ _ _ _ c.put_word-p.ensures
+    (both _ _ _ _ _ c.put_marked-q.ensures c.put_byte.ensures)

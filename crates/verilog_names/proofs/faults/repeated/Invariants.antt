@@ -1,0 +1,20 @@
+-- `verilog_names::faults::repeated` meets its contract. The loop's invariant: the best so far and what is left give the whole.
+-- Assumes nothing.
+use mathlib.Core.Path.{◌≡◌}
+use mathlib.Core.List.{[]}
+use Prim.Native.Nat.{◌-◌, ◌≤◌}
+use Rattle.verilog_source.specs.Names.{lower}
+use Rattle.verilog_names.specs.Chosen.{chosen, is_in}
+use Rattle.verilog_names.specs.Faults.{marks, repeated, nearest}
+use Rattle.verilog_names.proofs.faults.repeated.Given as goal
+
+abbrev pub invariant-loop-i : goal.invariant-loop-i
+invariant-loop-i l =
+    (l.best ≤ 65536)
+    × (lower l.best (nearest l.places (repeated l.numbers (chosen (is_in l.kinds l.roles l.a) l.i 0) (chosen (is_in l.kinds l.roles l.a) (l.count - l.i) l.i)))
+    ≡ nearest l.places (repeated l.numbers [] (chosen (is_in l.kinds l.roles l.a) l.count 0)))
+    × (l.seen ≡ marks l.numbers (chosen (is_in l.kinds l.roles l.a) l.i 0))
+
+abbrev pub decreases-loop-i : goal.decreases-loop-i
+decreases-loop-i l =
+    l.count - l.i

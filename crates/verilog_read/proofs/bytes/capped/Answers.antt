@@ -1,0 +1,14 @@
+-- `verilog_read::bytes::capped` meets its contract. Assumes nothing.
+use borrow.Author.Rules.{rules}
+use mathlib.Core.Path.{◌∙◌, ap, sym}
+use Rattle.verilog_names.specs.Chosen.{capped}
+use Rattle.verilog_names.proofs.Chosen.{capped-below, capped-above}
+use Rattle.verilog_read.proofs.bytes.capped.Goals as goal
+
+pub returns-then-n-lt16385 : goal.returns-then-n-lt16385
+returns-then-n-lt16385 c =
+    capped-below _ c.if-n-lt16385.true ∙ ap capped c.wide-n.ensures
+
+pub returns-else-n-lt16385 : goal.returns-else-n-lt16385
+returns-else-n-lt16385 c =
+    capped-above _ c.if-n-lt16385.false ∙ ap capped c.wide-n.ensures

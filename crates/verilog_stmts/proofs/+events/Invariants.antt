@@ -1,0 +1,4 @@
+use Rattle.verilog_stmts.proofs.+events.Given as goal
+
+abbrev pub decreases-events : goal.decreases-events
+decreases-events l = l.fuel

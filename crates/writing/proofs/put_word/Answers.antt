@@ -1,0 +1,28 @@
+-- `writing::put_word` meets its contract. The loop's invariant: what is still to be put gives the whole.
+-- Assumes nothing.
+use Prim.Native.Nat.{◌≤◌, ◌-◌}
+use mathlib.Core.Path.{◌≡◌, refl, sym, ◌∙◌, ap}
+use borrow.Author.Rules.{rules}
+use lib.ListN.{length, drop, drop_of_length-le}
+use Rattle.writing.specs.Buffer.{filled, puts}
+use Rattle.writing.proofs.Buffer.{puts-step, puts-nil}
+use Rattle.writing.proofs.put_word.Goals as goal
+
+pub loop-i-init : goal.loop-i-init
+loop-i-init c =
+    (search rules, refl)
+
+pub loop-i-preserved : goal.loop-i-preserved
+loop-i-preserved c =
+    let l = c.loop-i in
+    let word = c.args.word.now in (
+      search rules,
+      puts-step (filled l.text l.p) _ word l.i c.loop-i-test.true c.put_byte-p.ensures
+          ∙ l.invariant.1,
+    )
+
+pub returns : goal.returns
+returns c =
+    let l = c.loop-i in
+    let e = drop_of_length-le c.args.word.now c.loop-i-test.false in
+    sym (puts-nil _) ∙ ap (λ x. puts (filled l.text l.p) x) (sym e) ∙ l.invariant.1
