@@ -10,16 +10,18 @@ DATADIR ?= $(PREFIX)/share
 MANDIR ?= $(DATADIR)/man
 
 VERSION := $(shell sed -n 's/^.define WALBRYTS_VERSION "\([^"]*\)".*/\1/p' include/walbryts.h)
-PROGRAMS := target/bin/walbryts target/bin/listing target/bin/replay
-LIBRARY := target/staticlib/libexports.a
+PROGRAMS := $(foreach name,walbryts listing replay,crates/$(name)/out/$(name))
+LIBRARY := crates/exports/out/libexports.a
 EXAMPLES := $(wildcard examples/*.v examples/*.in)
 DOCUMENTS := README.md CHANGELOG.md $(wildcard docs/*.md)
 
 .PHONY: all check install uninstall
 
 all:
-	rt check walbryts listing replay
-	rt staticlib exports
+	cd crates/walbryts && rt run -- --version
+	cd crates/listing && rt run </dev/null
+	cd crates/replay && rt run </dev/null
+	cd crates/exports && rt lib
 
 # The gate: proofs from nothing, must-fail edits, programs, tests.
 check:
@@ -30,11 +32,11 @@ install: | $(PROGRAMS) $(LIBRARY)
 	install -d "$(DESTDIR)$(MANDIR)/man1" "$(DESTDIR)$(DATADIR)/walbryts/examples" "$(DESTDIR)$(DATADIR)/doc/walbryts"
 	install -d "$(DESTDIR)$(DATADIR)/bash-completion/completions" "$(DESTDIR)$(DATADIR)/zsh/site-functions"
 	install -d "$(DESTDIR)$(DATADIR)/fish/vendor_completions.d"
-	install -m 755 target/bin/walbryts "$(DESTDIR)$(LIBDIR)/walbryts/walbryts"
+	install -m 755 crates/walbryts/out/walbryts "$(DESTDIR)$(LIBDIR)/walbryts/walbryts"
 	sed -e '/^# ---- the program/,/^# ----$$/c program=$(LIBDIR)/walbryts/walbryts' walbryts >"$(DESTDIR)$(BINDIR)/walbryts"
 	chmod 755 "$(DESTDIR)$(BINDIR)/walbryts"
-	install -m 755 target/bin/listing "$(DESTDIR)$(BINDIR)/walbryts-listing"
-	install -m 755 target/bin/replay "$(DESTDIR)$(BINDIR)/walbryts-replay"
+	install -m 755 crates/listing/out/listing "$(DESTDIR)$(BINDIR)/walbryts-listing"
+	install -m 755 crates/replay/out/replay "$(DESTDIR)$(BINDIR)/walbryts-replay"
 	install -m 644 $(LIBRARY) "$(DESTDIR)$(LIBDIR)/libwalbryts.a"
 	install -m 644 include/walbryts.h "$(DESTDIR)$(INCLUDEDIR)/walbryts.h"
 	sed -e 's|@INCLUDEDIR@|$(INCLUDEDIR)|' -e 's|@LIBDIR@|$(LIBDIR)|' -e 's|@VERSION@|$(VERSION)|' packaging/walbryts.pc.in \

@@ -2,7 +2,7 @@
  * Document 01's flip-flop from C: read from Verilog and as a sheet, listed, run by events and by expressions, saved,
  * loaded, refused, prepared and traced.
  *
- *   cc -std=c11 -Wall -Wextra -Iinclude examples/c/flipflop.c target/staticlib/libexports.a -o flipflop
+ *   cc -std=c11 -Wall -Wextra -Iinclude examples/c/flipflop.c crates/exports/out/libexports.a -o flipflop
  */
 #include <inttypes.h>
 #include <stdio.h>

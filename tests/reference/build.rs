@@ -11,7 +11,7 @@ fn main() {
         return;
     }
     let package = env::var("CARGO_MANIFEST_DIR").expect("set by cargo");
-    let named = env::var("WALBRYTS_LIB").unwrap_or("../../target/staticlib".into());
+    let named = env::var("WALBRYTS_LIB").unwrap_or("../../crates/exports/out".into());
     let folder = Path::new(&package).join(named);
     println!("cargo:rerun-if-changed={}", folder.join("libexports.a").display());
     println!("cargo:rustc-link-search=native={}", folder.display());
