@@ -349,11 +349,14 @@ impl System {
         }
     }
 
-    // Can a file be written at any place?
+    // Can a file be written at any place? A device may take every place and stay where it is.
     pub fn is_seekable(&mut self, stream: Stream) -> bool {
         match stream {
             Stream::Opened(k) => match self.files.get_mut(k) {
-                Some(Some(file)) => file.seek(SeekFrom::Start(1)).is_ok(),
+                Some(Some(file)) => match file.seek(SeekFrom::Start(1)) {
+                    Ok(place) => place == 1,
+                    Err(_) => false,
+                },
                 _ => false,
             },
             _ => false,
