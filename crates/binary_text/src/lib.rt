@@ -33,19 +33,19 @@ pub fn put_bits(width: u8, n: u32, marks: u32, text: &mut [u8; 65536], pos: usiz
 pub fn put_value(width: u8, a: Value, text: &mut [u8; 65536], pos: usize) -> usize
     ensures { filled text.new result ≡ puts (filled text.old pos) (bits_of width a) }
 {
-    put_bits(width, values::number_of(a), values::marks_of(a), text, pos)
+    put_bits(width, a.number, a.unknown, text, pos)
 }
 
 // Is no bit unknown?
 pub fn is_known(a: Value) -> bool
     ensures { result ≡ is_known a }
 {
-    values::marks_of(a) == 0
+    a.unknown == 0
 }
 
 // Is every bit of the width unknown?
 pub fn is_x(width: u8, a: Value) -> bool
     ensures { result ≡ is_x width a }
 {
-    values::marks_of(a) == values::marks_of(values::all_unknown(width))
+    a.unknown == values::all_unknown(width).unknown
 }

@@ -9,14 +9,13 @@ use mathlib.Core.Logic.{◌⊎◌, inl, inr, ⊎_elim}
 use lib.Dec.{eqb}
 use borrow.Author.Tests.{eqb-true, eqb-false}
 use Rattle.dispatch.specs.declared.Record.{Record}
-use Rattle.dispatch.specs.declared.Found.{Found}
-use Rattle.dispatch.specs.declared.Found.TheVariants.{At, Nowhere}
+use Rattle.std.specs.Prelude.{Option, None, Some}
 use Rattle.dispatch.specs.Dispatch.{record_at, first_busy, or_else, next}
 
 true-false : true ≡ false → ⊥
 true-false z = let y : ◌≡◌ {A = ℕ} 0 1 = cc in omega arith
 
-pub nowhere-at : {k : ℕ} → Nowhere ≡ At k → ⊥
+pub nowhere-at : {k : ℕ} → None ≡ Some k → ⊥
 nowhere-at {k} e = let z : ◌≡◌ {A = ℕ} 0 1 = cc in omega arith
 
 -- ---- the first busy one: a turn of the loop from i up to `to`
@@ -25,7 +24,7 @@ module _ (rs : List Record) (i to : ℕ) (l : i < to) where
   left : to - i ≡ suc (to - (i + 1))
   left = omega arith
 
-  pub first-here : (record_at rs i).busy ≡ true → At i ≡ first_busy rs i (to - i)
+  pub first-here : (record_at rs i).busy ≡ true → Some i ≡ first_busy rs i (to - i)
   unfolding first_busy
   first-here h = rw (left, h)
 
@@ -33,7 +32,7 @@ module _ (rs : List Record) (i to : ℕ) (l : i < to) where
   unfolding first_busy
   first_on h = rw (left, h) (rw (← add-one i) refl)
 
-pub first-empty : (rs : List Record) (i to : ℕ) → to ≤ i → Nowhere ≡ first_busy rs i (to - i)
+pub first-empty : (rs : List Record) (i to : ℕ) → to ≤ i → None ≡ first_busy rs i (to - i)
 unfolding first_busy
 first-empty rs i to l = let e : to - i ≡ 0 = omega arith in rw e
 
@@ -45,25 +44,25 @@ pub record FoundIn (rs : List Record) (i n k : ℕ) : Type 0 where
   pub busy : (record_at rs k).busy ≡ true
 
 found-by : (rs : List Record) (i n k : ℕ) (t : Bool) → (record_at rs i).busy ≡ t
-    → (first_busy rs (suc i) n ≡ At k → FoundIn rs (suc i) n k) → first_busy rs i (suc n) ≡ At k → FoundIn rs i (suc n) k
+    → (first_busy rs (suc i) n ≡ Some k → FoundIn rs (suc i) n k) → first_busy rs i (suc n) ≡ Some k → FoundIn rs i (suc n) k
 unfolding first_busy
 found-by rs i n k true h rec e =
-    let e' : At i ≡ At k = rw h at e in
+    let e' : Some i ≡ Some k = rw h at e in
     let s : i ≡ k = cc in
     record { low = omega arith; high = omega arith; busy = rw (← s) h }
 found-by rs i n k false h rec e =
-    let e' : first_busy rs (suc i) n ≡ At k = rw h at e in
+    let e' : first_busy rs (suc i) n ≡ Some k = rw h at e in
     let f : FoundIn rs (suc i) n k = rec e' in
     record { low = omega arith; high = omega arith; busy = f.busy }
 
-pub first_found : (rs : List Record) (i n k : ℕ) → first_busy rs i n ≡ At k → FoundIn rs i n k
+pub first_found : (rs : List Record) (i n k : ℕ) → first_busy rs i n ≡ Some k → FoundIn rs i n k
 unfolding first_busy
 first_found rs i zero k e = absurd (nowhere-at e)
 first_found rs i (suc n) k e = found-by rs i n k (record_at rs i).busy refl (λ f. first_found rs (suc i) n k f) e
 
 pub record Least (rs : List Record) (i n m : ℕ) : Type 0 where
   pub at : ℕ
-  pub found : first_busy rs i n ≡ At at
+  pub found : first_busy rs i n ≡ Some at
   pub before : at ≤ m
 
 skips : (rs : List Record) (i n : ℕ) → (record_at rs i).busy ≡ false → first_busy rs i (suc n) ≡ first_busy rs (suc i) n
@@ -86,17 +85,17 @@ first-least rs i (suc n) m low high busy =
     least_by rs i n m (record_at rs i).busy refl low high busy (λ lo hi. first-least rs (suc i) n m lo hi busy)
 
 -- Where every one of the range is idle, none is found, and the other way round.
-pub idle-none : (rs : List Record) (i n : ℕ) → ((j : ℕ) → i ≤ j → j < i + n → (record_at rs j).busy ≡ false) → first_busy rs i n ≡ Nowhere
+pub idle-none : (rs : List Record) (i n : ℕ) → ((j : ℕ) → i ≤ j → j < i + n → (record_at rs j).busy ≡ false) → first_busy rs i n ≡ None
 idle-none rs i n idle = by (first_busy rs i n) refl
   where
-    by : (f : Found) → first_busy rs i n ≡ f → f ≡ Nowhere
-    by Nowhere e = refl
-    by (At k) e =
+    by : (f : Option ℕ) → first_busy rs i n ≡ f → f ≡ None
+    by None e = refl
+    by (Some k) e =
         let g : FoundIn rs i n k = first_found rs i n k e in
         let h : (record_at rs k).busy ≡ false = idle k g.low g.high in
         absurd (true-false (sym g.busy ∙ h))
 
-pub none-idle : (rs : List Record) (i n j : ℕ) → first_busy rs i n ≡ Nowhere → i ≤ j → j < i + n → (record_at rs j).busy ≡ false
+pub none-idle : (rs : List Record) (i n j : ℕ) → first_busy rs i n ≡ None → i ≤ j → j < i + n → (record_at rs j).busy ≡ false
 none-idle rs i n j none low high = by (record_at rs j).busy refl
   where
     by : (t : Bool) → (record_at rs j).busy ≡ t → t ≡ false
@@ -108,17 +107,17 @@ none-idle rs i n j none low high = by (record_at rs j).busy refl
 -- ---- the next busy one of n, after the last served
 
 module _ (rs : List Record) (n last : ℕ) (inside : last < n) where
-  abbrev Behind : Found
+  abbrev Behind : Option ℕ
   Behind = first_busy rs (last + 1) (n - (last + 1))
 
-  abbrev Ahead : Found
+  abbrev Ahead : Option ℕ
   Ahead = first_busy rs 0 (last + 1)
 
-  pub next-behind : {k : ℕ} → Behind ≡ At k → next rs n last ≡ At k
+  pub next-behind : {k : ℕ} → Behind ≡ Some k → next rs n last ≡ Some k
   unfolding next or_else
   next-behind e = rw e
 
-  pub next-ahead : Behind ≡ Nowhere → next rs n last ≡ Ahead
+  pub next-ahead : Behind ≡ None → next rs n last ≡ Ahead
   unfolding next or_else
   next-ahead e = rw e
 
@@ -126,17 +125,17 @@ module _ (rs : List Record) (n last : ℕ) (inside : last < n) where
     pub below : k < n
     pub busy : (record_at rs k).busy ≡ true
 
-  pub next-found : {k : ℕ} → next rs n last ≡ At k → Busy k
+  pub next-found : {k : ℕ} → next rs n last ≡ Some k → Busy k
   next-found {k} e = by Behind refl
     where
-      by : (f : Found) → Behind ≡ f → Busy k
-      by (At j) b =
+      by : (f : Option ℕ) → Behind ≡ f → Busy k
+      by (Some j) b =
           let g : FoundIn rs (last + 1) (n - (last + 1)) j = first_found rs (last + 1) (n - (last + 1)) j b in
-          let e' : At j ≡ At k = sym (next-behind b) ∙ e in
+          let e' : Some j ≡ Some k = sym (next-behind b) ∙ e in
           let s : j ≡ k = cc in
           let h : j < n = omega arith in
           record { below = omega arith; busy = rw (← s) g.busy }
-      by Nowhere b =
+      by None b =
           let g : FoundIn rs 0 (last + 1) k = first_found rs 0 (last + 1) k (sym (next-ahead b) ∙ e) in
           record { below = omega arith; busy = g.busy }
 
@@ -156,7 +155,7 @@ same-or-less k m l = by (eqb k m) refl
 module _ (rs : List Record) (n last m d : ℕ) (inside : last < n) (below : m < n) (busy : (record_at rs m).busy ≡ true) where
   pub record Nearer : Type 0 where
     pub at : ℕ
-    pub found : next rs n last ≡ At at
+    pub found : next rs n last ≡ Some at
     pub near : (at ≡ m) ⊎ Near n at m d
 
   -- among those behind the last served
@@ -175,12 +174,12 @@ module _ (rs : List Record) (n last m d : ℕ) (inside : last < n) (below : m < 
   nearer-ahead : m ≤ last → n + m ≤ last + suc d → Nearer
   nearer-ahead l h = by (first_busy rs (last + 1) (n - (last + 1))) refl
     where
-      by : (f : Found) → first_busy rs (last + 1) (n - (last + 1)) ≡ f → Nearer
-      by (At k) b =
+      by : (f : Option ℕ) → first_busy rs (last + 1) (n - (last + 1)) ≡ f → Nearer
+      by (Some k) b =
           let g : FoundIn rs (last + 1) (n - (last + 1)) k = first_found rs (last + 1) (n - (last + 1)) k b in
           let low : last + 1 ≤ k = g.low in
           record { at = k; found = next-behind rs n last inside b; near = inr (inr (omega arith, omega arith)) }
-      by Nowhere b =
+      by None b =
           let a : Least rs 0 (last + 1) m = first-least rs 0 (last + 1) m (omega arith) (omega arith) busy in
           record {
             at = a.at;

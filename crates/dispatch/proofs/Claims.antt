@@ -12,8 +12,7 @@ use borrow.Author.Tests.{ltb-true, ltb-false}
 use native.Mathlib.Nat.{zero-add}
 use Rattle.values.specs.Values.{pick}
 use Rattle.dispatch.specs.declared.Record.{Record}
-use Rattle.dispatch.specs.declared.Found.{Found}
-use Rattle.dispatch.specs.declared.Found.TheVariants.{At, Nowhere}
+use Rattle.std.specs.Prelude.{Option, None, Some}
 use Rattle.dispatch.specs.declared.Dispatched.{Dispatched}
 use Rattle.dispatch.specs.declared.Dispatched.TheVariants.{Picked, Nothing, Refused}
 use Rattle.dispatch.specs.Dispatch.{idle, record_at, first_busy, next, or_else, answer_at, dispatched_among, dispatched, given, records_after, number_of, served_after}
@@ -55,12 +54,12 @@ near-start n a m d below inside l = by (ltb a m) refl
     by true e = let h : a < m = ltb-true a m e in inl (h, omega arith)
     by false e = let h : m ≤ a = ltb-false a m e in inr (h, omega arith)
 
-next-none : (rs : List Record) (n last : ℕ) → last < n → ((i : ℕ) → i < n → (record_at rs i).busy ≡ false) → next rs n last ≡ Nowhere
+next-none : (rs : List Record) (n last : ℕ) → last < n → ((i : ℕ) → i < n → (record_at rs i).busy ≡ false) → next rs n last ≡ None
 next-none rs n last l idle =
     next-ahead rs n last l (idle-none rs (last + 1) (n - (last + 1)) (λ j low high. let h : j < n = omega arith in idle j h))
     ∙ idle-none rs 0 (last + 1) (λ j low high. let h : j < n = omega arith in idle j h)
 
-none-next : (rs : List Record) (n last : ℕ) → last < n → next rs n last ≡ Nowhere → (i : ℕ) → i < n → (record_at rs i).busy ≡ false
+none-next : (rs : List Record) (n last : ℕ) → last < n → next rs n last ≡ None → (i : ℕ) → i < n → (record_at rs i).busy ≡ false
 none-next rs n last l e i below = by (record_at rs i).busy refl
   where
     start : Near n last i (suc n)
@@ -72,16 +71,16 @@ none-next rs n last l e i below = by (record_at rs i).busy refl
         let k : Nearer rs n last i n l below h = next-nearer rs n last i n l below h start in
         absurd (nowhere-at (sym e ∙ k.found))
 
-answer-none : (rs : List Record) (f : Found) → answer_at rs f ≡ Nothing → f ≡ Nowhere
+answer-none : (rs : List Record) (f : Option ℕ) → answer_at rs f ≡ Nothing → f ≡ None
 unfolding answer_at
-answer-none rs Nowhere e = refl
-answer-none rs (At i) e = by (eqb (record_at rs i).turns 4294967295) e
+answer-none rs None e = refl
+answer-none rs (Some i) e = by (eqb (record_at rs i).turns 4294967295) e
   where
-    by : (t : Bool) → pick t (Refused 36) (Picked i) ≡ Nothing → At i ≡ Nowhere
+    by : (t : Bool) → pick t (Refused 36) (Picked i) ≡ Nothing → Some i ≡ None
     by true p = let z : ◌≡◌ {A = ℕ} 0 1 = cc in absurd (omega arith)
     by false p = let z : ◌≡◌ {A = ℕ} 0 1 = cc in absurd (omega arith)
 
-none_found : (rs : List Record) {f : Found} → f ≡ Nowhere → answer_at rs f ≡ Nothing
+none_found : (rs : List Record) {f : Option ℕ} → f ≡ None → answer_at rs f ≡ Nothing
 unfolding answer_at
 none_found rs e = rw e
 
@@ -136,7 +135,7 @@ after-length rs Nothing = refl
 after-length rs (Refused k) = refl
 
 -- The one found is picked, unless its record is full.
-taken : (rs : List Record) (i : ℕ) → number_of (answer_at rs (At i)) ≡ 0 → answer_at rs (At i) ≡ Picked i
+taken : (rs : List Record) (i : ℕ) → number_of (answer_at rs (Some i)) ≡ 0 → answer_at rs (Some i) ≡ Picked i
 unfolding answer_at
 taken rs i z = by (eqb (record_at rs i).turns 4294967295) z
   where
@@ -160,7 +159,7 @@ module _ (rs : List Record) (last m d : ℕ) (below : m < length rs) (busy : (re
   called w =
       let a : Accepted rs last = accepted rs last fine in
       let k : Nearer rs (length rs) last m d a.inside below busy = next-nearer rs (length rs) last m d a.inside below busy w in
-      let e : dispatched rs last ≡ answer_at rs (At k.at) = a.answer ∙ ap (answer_at rs) k.found in
+      let e : dispatched rs last ≡ answer_at rs (Some k.at) = a.answer ∙ ap (answer_at rs) k.found in
       let b : Busy rs (length rs) last a.inside k.at = next-found rs (length rs) last a.inside k.found in
       record { at = k.at; picked = e ∙ taken rs k.at (sym (ap number_of e) ∙ fine); inside = b.below; near = k.near }
 

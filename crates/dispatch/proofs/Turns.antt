@@ -11,8 +11,7 @@ use lib.Dec.{eqb, ltb, leb}
 use borrow.Author.Tests.{eq-eqb, ne_eqb, lt-ltb, le-ltb, le-leb, lt-leb, eqb-true, eqb-false, ltb-true, ltb-false, leb-true, leb-false}
 use Rattle.values.specs.Values.{pick}
 use Rattle.dispatch.specs.declared.Record.{Record}
-use Rattle.dispatch.specs.declared.Found.{Found}
-use Rattle.dispatch.specs.declared.Found.TheVariants.{At, Nowhere}
+use Rattle.std.specs.Prelude.{Option, None, Some}
 use Rattle.dispatch.specs.declared.Dispatched.{Dispatched}
 use Rattle.dispatch.specs.declared.Dispatched.TheVariants.{Picked, Nothing, Refused}
 use Rattle.dispatch.specs.declared.Turn.{Turn}
@@ -40,25 +39,25 @@ module _ (rs : List Record) (n last : ℕ) where
     unfolding dispatched_among
     among_next l = let ne : n ≡ 0 → ⊥ = λ e. omega arith in rw (ne_eqb n 0 ne, le-ltb 8 n few, lt-leb n last l)
 
-pub answer-full : (rs : List Record) (i : ℕ) → (record_at rs i).turns ≡ 4294967295 → answer_at rs (At i) ≡ Refused 36
+pub answer-full : (rs : List Record) (i : ℕ) → (record_at rs i).turns ≡ 4294967295 → answer_at rs (Some i) ≡ Refused 36
 unfolding answer_at
 answer-full rs i e = rw (eq-eqb (record_at rs i).turns 4294967295 e)
 
-pub answer-room : (rs : List Record) (i : ℕ) → ((record_at rs i).turns ≡ 4294967295 → ⊥) → answer_at rs (At i) ≡ Picked i
+pub answer-room : (rs : List Record) (i : ℕ) → ((record_at rs i).turns ≡ 4294967295 → ⊥) → answer_at rs (Some i) ≡ Picked i
 unfolding answer_at
 answer-room rs i ne = rw (ne_eqb (record_at rs i).turns 4294967295 ne)
 
 -- The turn of each way, as the code makes it.
-module _ (rs : List Record) (n : ℕ) {f : Found} where
-  pub turn-nowhere : f ≡ Nowhere → turn_of [] n Nothing ≡ turn_of rs n (answer_at rs f)
+module _ (rs : List Record) (n : ℕ) {f : Option ℕ} where
+  pub turn-nowhere : f ≡ None → turn_of [] n Nothing ≡ turn_of rs n (answer_at rs f)
   unfolding turn_of answer_at
   turn-nowhere e = rw e
 
-  pub turn-full : {i : ℕ} → f ≡ At i → (record_at rs i).turns ≡ 4294967295 → turn_of [] n (Refused 36) ≡ turn_of rs n (answer_at rs f)
+  pub turn-full : {i : ℕ} → f ≡ Some i → (record_at rs i).turns ≡ 4294967295 → turn_of [] n (Refused 36) ≡ turn_of rs n (answer_at rs f)
   unfolding turn_of
   turn-full {i} e h = rw (e, answer-full rs i h)
 
-  pub turn-picked : {i : ℕ} → f ≡ At i → ((record_at rs i).turns ≡ 4294967295 → ⊥)
+  pub turn-picked : {i : ℕ} → f ≡ Some i → ((record_at rs i).turns ≡ 4294967295 → ⊥)
       → record { answer = Picked i; at = i; turns = (record_at rs i).turns + 1 } ≡ turn_of rs n (answer_at rs f)
   unfolding turn_of
   turn-picked {i} e h = rw (e, answer-room rs i h)
@@ -81,11 +80,11 @@ module _ (rs : List Record) (n last : ℕ) where
     unfolding turn_among
     turn-next l = ap (turn_of rs n) (sym (among_next rs n last some few l))
 
-    pub turn-found : last < n → {f : Found} → f ≡ next rs n last → turn_of rs n (answer_at rs f) ≡ turn_among rs n last
-    turn-found l e = ap (λ (g : Found). turn_of rs n (answer_at rs g)) e ∙ turn-next l
+    pub turn-found : last < n → {f : Option ℕ} → f ≡ next rs n last → turn_of rs n (answer_at rs f) ≡ turn_among rs n last
+    turn-found l e = ap (λ (g : Option ℕ). turn_of rs n (answer_at rs g)) e ∙ turn-next l
 
   -- The one found is one of the eight.
-  pub next_small : n ≤ 8 → (l : last < n) → {f : Found} → f ≡ next rs n last → (i : ℕ) → f ≡ At i → i < 8
+  pub next_small : n ≤ 8 → (l : last < n) → {f : Option ℕ} → f ≡ next rs n last → (i : ℕ) → f ≡ Some i → i < 8
   next_small few l {f} e i at = let b : Busy rs n last l i = next-found rs n last l (sym e ∙ at) in let h : i < n = b.below in omega arith
 
 -- What a way through the call was, told by the numbers.
@@ -122,10 +121,10 @@ module _ (rs qs : List Record) (agree : (i : ℕ) → i < 8 → record_at rs i �
       let b : 0 + (last + 1) ≤ 8 = omega arith in
       rw (first-same (last + 1) (n - (last + 1)) a, first-same 0 (last + 1) b)
 
-  answer-same : (f : Found) → ((i : ℕ) → f ≡ At i → i < 8) → answer_at rs f ≡ answer_at qs f
+  answer-same : (f : Option ℕ) → ((i : ℕ) → f ≡ Some i → i < 8) → answer_at rs f ≡ answer_at qs f
   unfolding answer_at
-  answer-same Nowhere l = refl
-  answer-same (At i) l = let h : i < 8 = l i refl in rw (agree i h)
+  answer-same None l = refl
+  answer-same (Some i) l = let h : i < 8 = l i refl in rw (agree i h)
 
   turn-same : (n : ℕ) (d : Dispatched) → ((i : ℕ) → d ≡ Picked i → i < 8) → turn_of rs n d ≡ turn_of qs n d
   unfolding turn_of
@@ -139,19 +138,19 @@ pub record PickIn (rs : List Record) (n i : ℕ) : Type 0 where
   pub busy : (record_at rs i).busy ≡ true
   pub room : (record_at rs i).turns ≡ 4294967295 → ⊥
 
-pub answer-pick : (rs : List Record) (f : Found) (i : ℕ) → answer_at rs f ≡ Picked i → (f ≡ At i) × ((record_at rs i).turns ≡ 4294967295 → ⊥)
+pub answer-pick : (rs : List Record) (f : Option ℕ) (i : ℕ) → answer_at rs f ≡ Picked i → (f ≡ Some i) × ((record_at rs i).turns ≡ 4294967295 → ⊥)
 unfolding answer_at
-answer-pick rs Nowhere i e = absurd (nothing-picked e)
+answer-pick rs None i e = absurd (nothing-picked e)
   where
     nothing-picked : Nothing ≡ Picked i → ⊥
     nothing-picked e = let z : ◌≡◌ {A = ℕ} 0 1 = cc in omega arith
-answer-pick rs (At j) i e = by (eqb (record_at rs j).turns 4294967295) refl e
+answer-pick rs (Some j) i e = by (eqb (record_at rs j).turns 4294967295) refl e
   where
-    by : (t : Bool) → eqb (record_at rs j).turns 4294967295 ≡ t → pick t (Refused 36) (Picked j) ≡ Picked i → (At j ≡ At i) × ((record_at rs i).turns ≡ 4294967295 → ⊥)
+    by : (t : Bool) → eqb (record_at rs j).turns 4294967295 ≡ t → pick t (Refused 36) (Picked j) ≡ Picked i → (Some j ≡ Some i) × ((record_at rs i).turns ≡ 4294967295 → ⊥)
     by true h p = let z : ◌≡◌ {A = ℕ} 0 1 = cc in absurd (omega arith)
     by false h p =
         let s : j ≡ i = cc in
-        (ap At s, rw (← s) (eqb-false (record_at rs j).turns 4294967295 h))
+        (ap Some s, rw (← s) (eqb-false (record_at rs j).turns 4294967295 h))
 
 refused-picked : {k i : ℕ} → Refused k ≡ Picked i → ⊥
 refused-picked {k} {i} e = let z : ◌≡◌ {A = ℕ} 0 1 = cc in omega arith

@@ -1,10 +1,8 @@
 -- The dispatcher (document 02, request [8]): "Up to eight modules are run side by side. Their turn records stand in a lent list:
 -- busy or not, and turns given."
-use Rattle.std.specs.Prelude.{ℕ, zero, suc, ◌+◌, ◌-◌, false, ◌||◌, List, length, get_or, set, ltb, leb, eqb}
+use Rattle.std.specs.Prelude.{ℕ, zero, suc, ◌+◌, ◌-◌, false, ◌||◌, List, length, get_or, set, ltb, leb, eqb, Option, Some, None}
 use Rattle.values.specs.Values.{pick}
 use Rattle.dispatch.specs.declared.Record.{Record}
-use Rattle.dispatch.specs.declared.Found.{Found}
-use Rattle.dispatch.specs.declared.Found.TheVariants.{At, Nowhere}
 use Rattle.dispatch.specs.declared.Dispatched.{Dispatched}
 use Rattle.dispatch.specs.declared.Dispatched.TheVariants.{Picked, Nothing, Refused}
 
@@ -19,24 +17,24 @@ record_at rs i = get_or rs i idle
 -- ---- the circle: "the next busy one in the circle after the last served"
 
 -- The first busy one of n numbers, from i up.
-unfoldable pub first_busy : List Record → ℕ → ℕ → Found
-first_busy rs i zero = Nowhere
-first_busy rs i (suc n) = pick (record_at rs i).busy (At i) (first_busy rs (suc i) n)
+unfoldable pub first_busy : List Record → ℕ → ℕ → Option ℕ
+first_busy rs i zero = None
+first_busy rs i (suc n) = pick (record_at rs i).busy (Some i) (first_busy rs (suc i) n)
 
-unfoldable pub or_else : Found → Found → Found
-or_else (At i) f = At i
-or_else Nowhere f = f
+unfoldable pub or_else : Option ℕ → Option ℕ → Option ℕ
+or_else (Some i) f = Some i
+or_else None f = f
 
 -- Of n records: those behind the last served, then those up to it, that one itself last.
-unfoldable pub next : List Record → ℕ → ℕ → Found
+unfoldable pub next : List Record → ℕ → ℕ → Option ℕ
 next rs n last = or_else (first_busy rs (last + 1) (n - (last + 1))) (first_busy rs 0 (last + 1))
 
 -- ---- the answer
 
 -- "it answers 'none' exactly when no record is busy. Turns have 32 bits; a pick whose record is full gets 36"
-unfoldable pub answer_at : List Record → Found → Dispatched
-answer_at rs Nowhere = Nothing
-answer_at rs (At i) = pick (eqb (record_at rs i).turns 4294967295) (Refused 36) (Picked i)
+unfoldable pub answer_at : List Record → Option ℕ → Dispatched
+answer_at rs None = Nothing
+answer_at rs (Some i) = pick (eqb (record_at rs i).turns 4294967295) (Refused 36) (Picked i)
 
 -- "It refuses a list of length 0 or above 8 (48) and then a last-served number outside the list (49)."
 unfoldable pub dispatched_among : List Record → ℕ → ℕ → Dispatched

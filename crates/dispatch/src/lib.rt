@@ -9,29 +9,22 @@ ghost use Rattle.std.specs.Prelude.{◌≡◌};
 ghost use Rattle.dispatch.specs.Dispatch.{number_of, picked_of};
 
 // A module's turn record: "busy or not, and turns given".
-#[derive(Clone, Copy)]
+#[derive(Clone, Copy, Debug, PartialEq, Eq)]
 pub struct Record {
     pub busy: bool,
     pub turns: u32,
 }
 
 // What a call answers: the number picked, that no record is busy, or the paper's number.
-#[derive(Clone, Copy)]
+#[derive(Clone, Copy, Debug, PartialEq, Eq)]
 pub enum Dispatched {
     Picked(u8),
     Nothing,
     Refused(u8),
 }
 
-// A place in the circle, or that there is none.
-#[derive(Clone, Copy)]
-pub enum Found {
-    At(usize),
-    Nowhere,
-}
-
 // What a call gives: its answer, and the place at which it stores so many turns; past the list it stores none.
-#[derive(Clone, Copy)]
+#[derive(Clone, Copy, Debug, PartialEq, Eq)]
 pub struct Turn {
     pub answer: Dispatched,
     pub at: usize,

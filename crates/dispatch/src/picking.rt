@@ -1,36 +1,31 @@
 // The core, on the first eight records by value and how many there are.
-ghost use Rattle.std.specs.Prelude.{◌≡◌, [], ℕ, ◌-◌, ◌<◌, ◌≤◌};
+ghost use Rattle.std.specs.Prelude.{◌≡◌, [], ℕ, ◌-◌, ◌<◌, ◌≤◌, Some};
 ghost use Rattle.dispatch.specs.Dispatch.{first_busy, next, answer_at};
 ghost use Rattle.dispatch.specs.Turn.{turn_of, turn_among};
 
-use super::{Dispatched, Found, Record, Turn};
+use super::{Dispatched, Record, Turn};
 
 // The first busy one of the numbers from `from` up to `to`, that one left out.
-fn first_busy(list: [Record; 8], from: usize, to: usize) -> Found
+fn first_busy(list: [Record; 8], from: usize, to: usize) -> Option<usize>
     requires { to ≤ 8 }
     ensures { result ≡ first_busy list from (to - from) }
 {
-    let mut i = from;
-    while i < to {
+    for i in from..to {
         let r = list[i];
         if r.busy {
-            return Found::At(i);
+            return Some(i);
         }
-        i += 1;
     }
-    Found::Nowhere
+    None
 }
 
 // The next busy one in the circle after the last served.
-fn next_busy(list: [Record; 8], count: usize, last: usize) -> Found
+fn next_busy(list: [Record; 8], count: usize, last: usize) -> Option<usize>
     requires { (count ≤ 8) × (last < count) }
     ensures { result ≡ next list count last }
 {
     let behind = first_busy(list, last + 1, count);
-    match behind {
-        Found::At(i) => Found::At(i),
-        Found::Nowhere => first_busy(list, 0, last + 1),
-    }
+    behind.or(first_busy(list, 0, last + 1))
 }
 
 // A refused call stores nothing.
@@ -45,11 +40,11 @@ fn refused(count: usize, number: u8) -> Turn
 }
 
 // The turn of the one found: one more, unless its record is full.
-fn turn_at(list: [Record; 8], count: usize, found: Found) -> Turn
-    requires { (i : ℕ) → found ≡ Found.At i → i < 8 }
+fn turn_at(list: [Record; 8], count: usize, found: Option<usize>) -> Turn
+    requires { (i : ℕ) → found ≡ Some i → i < 8 }
     ensures { result ≡ turn_of list count (answer_at list found) }
 {
-    let Found::At(i) = found else {
+    let Some(i) = found else {
         return Turn {
             answer: Dispatched::Nothing,
             at: count,

@@ -10,13 +10,10 @@ use super::{Dispatched, Record};
 fn record_at(records: &[Record], at: usize) -> Record
     ensures { result ≡ record_at records.now at }
 {
-    if at < records.len() {
-        return records[at];
-    }
-    Record {
+    records.get(at).copied().unwrap_or(Record {
         busy: false,
         turns: 0,
-    }
+    })
 }
 
 // The first eight records; idle ones past the list.

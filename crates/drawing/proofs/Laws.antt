@@ -1,5 +1,5 @@
 -- Laws of the drawing: the largest of many, where a stretch ends, and texts without XML's signs. Assumes nothing.
-use mathlib.Core.Path.{◌≡◌, refl, ap}
+use mathlib.Core.Path.{◌≡◌, refl, sym, ap, ◌∙◌}
 use mathlib.Core.Logic.{◌≢◌}
 use mathlib.Core.Bool.{Bool, true, false}
 use mathlib.Core.List.{List, [], ◌∷◌}
@@ -11,12 +11,14 @@ use borrow.Author.Tests.{lt-ltb, le-ltb, ltb-true, ltb-false, eq-eqb, ne_eqb}
 use lib.Dec.{ltb}
 use lib.ListN.{length, get_or, drop, drop_of_length-le}
 use lib.Seq.{drop-cons}
+use Rattle.std.specs.Prelude.{max, min}
 use Rattle.values.specs.declared.Value.{Value}
 use Rattle.values.specs.Values.{same}
 use Rattle.writing.specs.Ascii.{ascii}
 use Rattle.naming.specs.Naming.{name_of}
 use Rattle.naming.proofs.Naming.{name_of-past, length-name_of}
 use Rattle.tabulate.specs.Tabulate.{longer}
+use Rattle.tabulate.proofs.Tabulate.{longer-first, longer-second}
 use Rattle.drawing.specs.declared.Drawing.{Drawing}
 use Rattle.drawing.specs.Drawing.{largest, capped, name_size, at, room, escaped_byte, end_of}
 
@@ -31,7 +33,7 @@ pub largest-done : (size : ℕ → ℕ) (m : ℕ) (vs : List ℕ) (i : ℕ) → 
 unfolding largest
 largest-done size m vs i h = rw (drop_of_length-le vs h) refl
 
--- ---- capped
+-- ---- capped and longer, as min and max
 
 pub capped-more : (most n : ℕ) → most < n → capped most n ≡ most
 unfolding capped
@@ -40,6 +42,20 @@ capped-more most n h = rw (lt-ltb most n h)
 pub capped-less : (most n : ℕ) → n ≤ most → capped most n ≡ n
 unfolding capped
 capped-less most n h = rw (le-ltb most n h)
+
+pub min-capped : (most n : ℕ) → min n most ≡ capped most n
+min-capped most n = by (ltb most n) refl
+  where
+    by : (t : Bool) → ltb most n ≡ t → min n most ≡ capped most n
+    by true e = let h : most < n = ltb-true most n e in let m : min n most ≡ most = omega arith in m ∙ sym (capped-more most n h)
+    by false e = let h : n ≤ most = ltb-false most n e in let m : min n most ≡ n = omega arith in m ∙ sym (capped-less most n h)
+
+pub max-longer : (least n : ℕ) → max n least ≡ longer least n
+max-longer least n = by (ltb least n) refl
+  where
+    by : (t : Bool) → ltb least n ≡ t → max n least ≡ longer least n
+    by true e = let h : least < n = ltb-true least n e in let m : max n least ≡ n = omega arith in m ∙ sym (longer-second least n h)
+    by false e = let h : n ≤ least = ltb-false least n e in let m : max n least ≡ least = omega arith in m ∙ sym (longer-first least n h)
 
 -- ---- a name has at most 32 bytes
 

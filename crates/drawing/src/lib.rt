@@ -5,7 +5,7 @@
 ghost use Rattle.std.specs.Prelude.{◌≡◌, ◌++◌, ◌-◌, ◌<◌, ◌≤◌, get_or};
 ghost use Rattle.writing.specs.Buffer.{filled, puts};
 ghost use Rattle.naming.specs.Naming.{name_of, texts};
-ghost use Rattle.drawing.specs.Drawing.{largest, capped, value_size, name_size, unit_of, left_of, drawing_of};
+ghost use Rattle.drawing.specs.Drawing.{largest, value_size, name_size, unit_of, left_of, drawing_of};
 ghost use Rattle.drawing.specs.Drawing.{at, halves, across, breadth, depth, last_cycle, measure, escaped_byte, escaped};
 ghost use Rattle.drawing.specs.Drawing.{frame, caption, light, dark, ground, rise_at, is_labelled, label, rise, head};
 ghost use Rattle.drawing.specs.Drawing.{level_word, level, middle, unknown_bit, bit_stretch, box_word, outline, text_word};
@@ -24,7 +24,7 @@ pub const MOST: usize = 128;
 
 // The measures of a drawing: its first cycle and how many there are, the width of half a cycle and of the names' column in pixels, how
 // many lanes it has, and the base of its numbers (16, 2, else 10).
-#[derive(Clone, Copy)]
+#[derive(Clone, Copy, Debug, PartialEq, Eq)]
 pub struct Drawing {
     pub first: u32,
     pub cycles: u8,
@@ -35,29 +35,6 @@ pub struct Drawing {
 }
 
 // ---- measures
-
-// A byte as a number of places.
-fn wide(b: u8) -> usize
-    ensures value { result ≡ b }
-    ensures upper_bound { result < 256 }
-{
-    b as usize
-}
-
-// The difference, 0 where there is none.
-fn less(a: usize, b: usize) -> usize
-    ensures { result ≡ a - b }
-{
-    if b < a { a - b } else { 0 }
-}
-
-// A number, at most so much.
-fn capped(most: usize, n: usize) -> usize
-    ensures value { result ≡ capped most n }
-    ensures upper_bound { result ≤ most }
-{
-    if most < n { most } else { n }
-}
 
 // How many characters the values of a variable have.
 fn value_size(base: u8, widths: &[u8], v: usize) -> usize
@@ -82,10 +59,8 @@ fn largest_value(base: u8, widths: &[u8], vs: &[u8]) -> usize
     ensures { result ≡ largest (value_size base widths.now) 0 vs.now }
 {
     let mut m: usize = 0;
-    let mut i: usize = 0;
-    while i < vs.len() {
-        m = longer(m, value_size(base, widths, wide(vs[i])));
-        i += 1;
+    for &v in vs {
+        m = longer(m, value_size(base, widths, v as usize));
     }
     m
 }
@@ -95,10 +70,8 @@ fn largest_name(widths: &[u8], names: &[u8; 2560], vs: &[u8]) -> usize
     ensures { result ≡ largest (name_size widths.now names.now) 0 vs.now }
 {
     let mut m: usize = 0;
-    let mut i: usize = 0;
-    while i < vs.len() {
-        m = longer(m, name_size(widths, names, wide(vs[i])));
-        i += 1;
+    for &v in vs {
+        m = longer(m, name_size(widths, names, v as usize));
     }
     m
 }
@@ -107,18 +80,15 @@ fn largest_name(widths: &[u8], names: &[u8; 2560], vs: &[u8]) -> usize
 fn unit_of(base: u8, widths: &[u8], vs: &[u8]) -> u16
     ensures { result ≡ unit_of base widths.now vs.now }
 {
-    let n = capped(40, largest_value(base, widths, vs));
-    if 20 < (7 * n + 13) / 2 {
-        return ((7 * n + 13) / 2) as u16;
-    }
-    20
+    let n = largest_value(base, widths, vs).min(40);
+    ((7 * n + 13) / 2).max(20) as u16
 }
 
 // The width of the names' column.
 fn left_of(widths: &[u8], names: &[u8; 2560], vs: &[u8]) -> u16
     ensures { result ≡ left_of widths.now names.now vs.now }
 {
-    let n = capped(40, largest_name(widths, names, vs));
+    let n = largest_name(widths, names, vs).min(40);
     (8 * n + 8) as u16
 }
 
@@ -133,7 +103,7 @@ pub fn drawing_of(
 ) -> Drawing
     ensures { result ≡ drawing_of base first cycles widths.now names.now vs.now }
 {
-    let n = capped(MOST, cycles);
+    let n = cycles.min(MOST);
     let unit = unit_of(base, widths, vs);
     let left = left_of(widths, names, vs);
     let lanes = naming::within(vs.len());
@@ -190,7 +160,7 @@ fn depth(d: Drawing) -> usize
 fn last_cycle(d: Drawing) -> usize
     ensures { result ≡ last_cycle d }
 {
-    d.first as usize + less(d.cycles as usize, 1)
+    d.first as usize + (d.cycles as usize).saturating_sub(1)
 }
 
 // ---- texts
@@ -227,10 +197,8 @@ fn put_escaped(word: &[u8], text: &mut [u8; 65536], pos: usize) -> usize
     ensures { filled text.new result ≡ puts (filled text.old pos) (escaped word.now) }
 {
     let mut p = pos;
-    let mut i = 0;
-    while i < word.len() {
-        p = put_escaped_byte(word[i], text, p);
-        i += 1;
+    for &b in word {
+        p = put_escaped_byte(b, text, p);
     }
     p
 }
@@ -245,10 +213,8 @@ fn put_name(names: &[u8; 2560], v: usize, text: &mut [u8; 65536], pos: usize) ->
     let n = naming::name_length(names, v);
     let at = v * 32;
     let mut p = pos;
-    let mut i = 0;
-    while i < n {
+    for i in 0..n {
         p = put_escaped_byte(names[at + i], text, p);
-        i += 1;
     }
     p
 }
@@ -394,12 +360,10 @@ fn put_rise(d: Drawing, k: usize, text: &mut [u8; 65536], pos: usize) -> usize
 fn put_rises(d: Drawing, text: &mut [u8; 65536], pos: usize) -> usize
     ensures { filled text.new result ≡ puts (filled text.old pos) (texts (rise d) d.cycles 0) }
 {
-    let end = wide(d.cycles);
+    let end = d.cycles as usize;
     let mut p = pos;
-    let mut k: usize = 0;
-    while k < end {
+    for k in 0..end {
         p = put_rise(d, k, text, p);
-        k += 1;
     }
     p
 }
@@ -472,7 +436,7 @@ fn put_bit(d: Drawing, a: usize, b: usize, v: Value, text: &mut [u8; 65536], pos
     ensures { filled text.new result ≡ puts (filled text.old pos) (bit_stretch d a b v) }
 {
     if is_known(v) {
-        return put_level(d, a, b, values::number_of(v), text, pos);
+        return put_level(d, a, b, v.number, text, pos);
     }
     put_unknown(d, a, b, text, pos)
 }
@@ -501,7 +465,7 @@ fn put_outline(
     ensures { filled text.new result ≡ puts (filled text.old pos) (outline d known a b) }
 {
     let from = at(d, a);
-    let to = less(at(d, b), 4);
+    let to = at(d, b).saturating_sub(4);
     let p = put_box_start(known, from, text, pos);
     let q = put_measure(b" 12l4-9H", to, text, p);
     put_measure(b"l4 9-4 9H", from + 4, text, q)
@@ -530,7 +494,7 @@ fn put_pressed(
     requires b_bound { b < 512 }
     ensures { filled text.new result ≡ puts (filled text.old pos) (pressed d a b n) }
 {
-    let room = less(less(at(d, b), at(d, a)), 6);
+    let room = at(d, b).saturating_sub(at(d, a)).saturating_sub(6);
     if room / 7 < n {
         let p = put_measure(b" textLength='", room, text, pos);
         return put_word(b"' lengthAdjust='spacingAndGlyphs'", text, p);
@@ -631,15 +595,13 @@ fn end_of(trace: &[u64], v: usize, a: Value, h: usize, end: usize) -> usize
     ensures value { result ≡ end_of (value_in trace.now v) a (end - h) h }
     ensures upper_bound { result ≤ end }
 {
-    let mut e = h;
-    while e < end {
+    for e in h..end {
         let b = value_at(trace, v, e);
         if !values::same(a, b) {
             return e;
         }
-        e += 1;
     }
-    e
+    end
 }
 
 // The stretch of the value that begins in a half, if one does.
@@ -679,10 +641,8 @@ fn put_stretches(
 {
     let end = halves(d);
     let mut p = pos;
-    let mut h: usize = 0;
-    while h < end {
+    for h in 0..end {
         p = put_from(d, width, trace, v, h, text, p);
-        h += 1;
     }
     p
 }
@@ -694,7 +654,7 @@ fn put_range(width: u8, text: &mut [u8; 65536], pos: usize) -> usize
     if width < 2 {
         return pos;
     }
-    let p = put_measure(b"[", wide(width) - 1, text, pos);
+    let p = put_measure(b"[", width as usize - 1, text, pos);
     put_word(b":0]", text, p)
 }
 
@@ -725,7 +685,7 @@ fn put_lane_frame(d: Drawing, i: usize, text: &mut [u8; 65536], pos: usize) -> u
     ensures { filled text.new result ≡ puts (filled text.old pos) (lane_frame d i) }
 {
     let y = 28 * naming::within(i) + 28;
-    let x = less(across(d), 2);
+    let x = across(d).saturating_sub(2);
     let p = put_measure(b"<svg x='", d.left as usize + 9, text, pos);
     let q = put_measure(b"' y='", y, text, p);
     let s = put_measure(b"' width='", x, text, q);

@@ -74,12 +74,10 @@ fn marked_byte(mark: u8, n: usize, j: usize) -> u8
 pub fn fill_plain(inputs: u8, registers: u8, names: &mut [u8; 2560])
     ensures { names.new ≡ plainly names.old inputs registers }
 {
-    let mut k = 0;
-    while k < 2560 {
+    for k in 0..2560 {
         let mark = plain_mark(inputs, registers, k / 32);
         let n = plain_number(inputs, registers, k / 32);
         names[k] = marked_byte(mark, n, k % 32);
-        k += 1;
     }
 }
 
@@ -93,14 +91,12 @@ pub fn name_length(names: &[u8; 2560], v: usize) -> usize
         return 0;
     }
     let at = v * 32;
-    let mut n = 0;
-    while n < 32 {
+    for n in 0..32 {
         if names[at + n] == 0 {
             return n;
         }
-        n += 1;
     }
-    n
+    32
 }
 
 // The name of a variable, past the table nothing.
@@ -114,10 +110,8 @@ pub fn put_name(names: &[u8; 2560], v: usize, text: &mut [u8; 65536], pos: usize
     let n = name_length(names, v);
     let at = v * 32;
     let mut p = pos;
-    let mut i = 0;
-    while i < n {
+    for i in 0..n {
         p = put_byte(names[at + i], text, p);
-        i += 1;
     }
     p
 }
@@ -126,7 +120,7 @@ pub fn put_name(names: &[u8; 2560], v: usize, text: &mut [u8; 65536], pos: usize
 pub fn within(n: usize) -> usize
     ensures { result ≡ within n }
 {
-    if n < 80 { n } else { 80 }
+    n.min(80)
 }
 
 // Is this the name of a variable?
@@ -141,12 +135,10 @@ pub fn same_name(names: &[u8; 2560], v: usize, name: &[u8]) -> bool
         return true;
     }
     let at = v * 32;
-    let mut i = 0;
-    while i < n {
+    for i in 0..n {
         if names[at + i] != name[i] {
             return false;
         }
-        i += 1;
     }
     true
 }
@@ -172,9 +164,7 @@ pub fn set_name(names: &mut [u8; 2560], v: usize, name: &[u8])
         return;
     }
     let at = v * 32;
-    let mut j = 0;
-    while j < 32 {
+    for j in 0..32 {
         names[at + j] = row_byte(name, j);
-        j += 1;
     }
 }

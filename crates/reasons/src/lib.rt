@@ -12,14 +12,12 @@ use writing::put_byte;
 pub fn next_line(table: &[u8], from: usize) -> usize
     ensures { drop result table.now ≡ other_lines (drop from table.now) }
 {
-    let mut i = from;
-    while i < table.len() {
+    for i in from..table.len() {
         if table[i] == b'\n' {
             return i + 1;
         }
-        i += 1;
     }
-    i
+    table.len()
 }
 
 // The line at a place.
@@ -27,13 +25,11 @@ pub fn put_rest(table: &[u8], from: usize, text: &mut [u8; 65536], pos: usize) -
     ensures { filled text.new result ≡ puts (filled text.old pos) (first_line (drop from table.now)) }
 {
     let mut p = pos;
-    let mut i = from;
-    while i < table.len() {
+    for i in from..table.len() {
         if table[i] == b'\n' {
             return p;
         }
         p = put_byte(table[i], text, p);
-        i += 1;
     }
     p
 }
@@ -43,10 +39,8 @@ pub fn put_line(table: &[u8], n: usize, text: &mut [u8; 65536], pos: usize) -> u
     ensures { filled text.new result ≡ puts (filled text.old pos) (line_of n table.now) }
 {
     let mut from = 0;
-    let mut left = n;
-    while left > 0 {
+    for _ in 0..n {
         from = next_line(table, from);
-        left -= 1;
     }
     put_rest(table, from, text, pos)
 }

@@ -1,7 +1,7 @@
 // A run as a table of text, put into a lent buffer line by line: titles, cycles and values.
 #![tactic(auto)]
 
-ghost use Rattle.std.specs.Prelude.{◌≡◌, ◌-◌, ◌<◌, length, get_or};
+ghost use Rattle.std.specs.Prelude.{◌≡◌, ◌<◌, length, get_or};
 ghost use Rattle.values.specs.Cells.{cell_at};
 ghost use Rattle.writing.specs.Numbers.{decimal};
 ghost use Rattle.writing.specs.Buffer.{filled, puts};
@@ -15,27 +15,13 @@ use values::Value;
 use writing::{put_byte, put_decimal, put_many, put_word};
 
 // How a table is written: the base of its numbers (16, 2, else 10), and commas in place of columns.
-#[derive(Clone, Copy)]
+#[derive(Clone, Copy, Debug, PartialEq, Eq)]
 pub struct Form {
     pub base: u8,
     pub csv: bool,
 }
 
 // ---- widths of columns
-
-// A byte as a variable.
-fn wide(b: u8) -> usize
-    ensures { result ≡ b }
-{
-    b as usize
-}
-
-// How many places are left of a width.
-fn left_of(width: usize, n: usize) -> usize
-    ensures { result ≡ width - n }
-{
-    if n < width { width - n } else { 0 }
-}
 
 // How many decimal digits a number has.
 fn digit_count(n: usize) -> usize
@@ -54,7 +40,7 @@ fn digit_count(n: usize) -> usize
 pub fn longer(a: usize, b: usize) -> usize
     ensures { result ≡ longer a b }
 {
-    if a < b { b } else { a }
+    a.max(b)
 }
 
 // How many places the values of a width take.
@@ -67,8 +53,7 @@ pub fn places(base: u8, width: u8) -> usize
     if base == 2 {
         return longer(1, width as usize);
     }
-    let all = values::all_unknown(width);
-    digit_count(values::marks_of(all) as usize)
+    digit_count(values::all_unknown(width).unknown as usize)
 }
 
 // The width of a variable's column.
@@ -129,7 +114,7 @@ pub fn put_shown(base: u8, width: u8, a: Value, text: &mut [u8; 65536], pos: usi
     ensures { filled text.new result ≡ puts (filled text.old pos) (shown base width a) }
 {
     if is_known(a) {
-        return put_number(base, width, values::number_of(a), text, pos);
+        return put_number(base, width, a.number, text, pos);
     }
     if is_x(width, a) {
         return put_byte(b'x', text, pos);
@@ -146,7 +131,7 @@ fn number_length(base: u8, width: u8, n: u32) -> usize
         return (width as usize + 3) / 4;
     }
     if base == 2 {
-        return wide(width);
+        return width as usize;
     }
     digit_count(n as usize)
 }
@@ -164,12 +149,12 @@ pub fn shown_length(base: u8, width: u8, a: Value) -> usize
     ensures { result ≡ length (shown base width a) }
 {
     if is_known(a) {
-        return number_length(base, width, values::number_of(a));
+        return number_length(base, width, a.number);
     }
     if is_x(width, a) {
         return 1;
     }
-    lead_length(base) + wide(width)
+    lead_length(base) + width as usize
 }
 
 // ---- cells
@@ -182,7 +167,7 @@ fn put_gap(csv: bool, width: usize, n: usize, text: &mut [u8; 65536], pos: usize
         return put_word(b",", text, pos);
     }
     let p = put_word(b"  ", text, pos);
-    put_many(b' ', left_of(width, n), text, p)
+    put_many(b' ', width.saturating_sub(n), text, p)
 }
 
 // The title of a variable's column.
@@ -243,7 +228,7 @@ fn put_cycle(csv: bool, n: usize, text: &mut [u8; 65536], pos: usize) -> usize
     if csv {
         return put_decimal(n, text, pos);
     }
-    let p = put_many(b' ', left_of(8, digit_count(n)), text, pos);
+    let p = put_many(b' ', 8usize.saturating_sub(digit_count(n)), text, pos);
     put_decimal(n, text, p)
 }
 
@@ -260,10 +245,8 @@ fn put_titles(
         (columns (title form widths.now names.now) vs.now) }
 {
     let mut p = pos;
-    let mut i: usize = 0;
-    while i < vs.len() {
-        p = put_title(form, widths, names, wide(vs[i]), text, p);
-        i += 1;
+    for &v in vs {
+        p = put_title(form, widths, names, v as usize, text, p);
     }
     p
 }
@@ -282,12 +265,9 @@ fn put_entries(
         (columns (entry form widths.now names.now (cell_at row.now)) vs.now) }
 {
     let mut p = pos;
-    let mut i: usize = 0;
-    while i < vs.len() {
-        let v = wide(vs[i]);
-        let a = value_in(row, v);
-        p = put_entry(form, widths, names, v, a, text, p);
-        i += 1;
+    for &v in vs {
+        let a = value_in(row, v as usize);
+        p = put_entry(form, widths, names, v as usize, a, text, p);
     }
     p
 }

@@ -12,7 +12,7 @@ use values::Value;
 fn word_at(row: &[u64], i: usize) -> u64
     ensures { result ≡ get_or row.now i 0 }
 {
-    if i < row.len() { row[i] } else { 0 }
+    row.get(i).copied().unwrap_or(0)
 }
 
 // The value of a variable.

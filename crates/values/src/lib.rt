@@ -4,7 +4,7 @@
 
 ghost use Rattle.std.specs.Prelude.{◌≡◌, ◌%◌, ◌^◌, ◌<◌, nat_lt, slice_index};
 ghost use Rattle.values.specs.Values.{pick, known, ones, all_unknown, fits, holds, same};
-ghost use Rattle.values.specs.Operators.{unary_width, unary, flag, possible, marked, between, outside, certain};
+ghost use Rattle.values.specs.Operators.{unary_width, unary, possible, marked, between, outside, certain};
 ghost use Rattle.values.specs.Operators.{inverted, both, either, differing, equal, negated};
 ghost use Rattle.values.specs.Operators.{binary_width, binary, agreed, choice};
 ghost use Rattle.values.specs.Edges.{level, fires, edge_of, edge_number};
@@ -12,18 +12,18 @@ ghost use Rattle.values.specs.Planes.{value_at, number_of, marks_of};
 ghost use Rattle.values.specs.Cells.{cell_of, value_of};
 
 // A number, and a second one that marks its unknown bits. In a value that fits its width the first has 0 under each mark.
-#[derive(Clone, Copy)]
+#[derive(Clone, Copy, Debug, PartialEq, Eq)]
 pub struct Value {
     pub number: u32,
     pub unknown: u32,
 }
 
 // What a wait waits for in a variable: any change, a posedge or a negedge.
-#[derive(Clone, Copy)]
+#[derive(Clone, Copy, Debug, PartialEq, Eq)]
 pub enum Edge {
-    Change,
-    Posedge,
-    Negedge,
+    Change = 0,
+    Posedge = 1,
+    Negedge = 2,
 }
 
 // A known number.
@@ -61,6 +61,7 @@ pub fn all_unknown(width: u8) -> Value
 pub fn below(width: u8, n: u32) -> bool
     ensures { result ≡ nat_lt n (2 ^ width) }
 {
+    // An if and no ||: a width that every number of 32 bits fits has an answer of its own.
     if 32 <= width { true } else { n < 1u32 << width }
 }
 
@@ -68,13 +69,7 @@ pub fn below(width: u8, n: u32) -> bool
 pub fn fits(width: u8, a: Value) -> bool
     ensures { result ≡ fits width a }
 {
-    if !below(width, a.number) {
-        return false;
-    }
-    if !below(width, a.unknown) {
-        return false;
-    }
-    (a.number & a.unknown) == 0
+    below(width, a.number) && below(width, a.unknown) && (a.number & a.unknown) == 0
 }
 
 // Does a condition of this value hold?
@@ -88,7 +83,7 @@ pub fn holds(a: Value) -> bool
 pub fn same(a: Value, b: Value) -> bool
     ensures { result ≡ same a b }
 {
-    a.number == b.number && a.unknown == b.unknown
+    a == b
 }
 
 // The width of a unary operator's result.
@@ -102,12 +97,10 @@ pub fn unary_width(op: u8, width: u8) -> u8
 pub fn binary_width(op: u8, width: u8) -> u8
     ensures { result ≡ binary_width op width }
 {
-    if op == 8 {
-        1
-    } else if op == 9 {
-        1
-    } else {
-        width
+    match op {
+        8 => 1,
+        9 => 1,
+        _ => width,
     }
 }
 
@@ -116,13 +109,6 @@ fn reduce(n: u32, width: u8) -> u32
     ensures { result ≡ n % 2 ^ width }
 {
     if 32 <= width { n } else { n % (1u32 << width) }
-}
-
-// A test as a number of width 1.
-fn flag(t: bool) -> u32
-    ensures { result ≡ flag t }
-{
-    if t { 1 } else { 0 }
 }
 
 // The bits that are 1 or unknown.
@@ -259,7 +245,7 @@ pub fn binary(op: u8, width: u8, a: Value, b: Value) -> Value
             reduce(std::num::wrapping_sub_u32(a.number, b.number), width),
         ),
         8 => equal(a, b),
-        9 => certain(1, a, b, flag(a.number < b.number)),
+        9 => certain(1, a, b, u32::from(a.number < b.number)),
         _ => all_unknown(binary_width(op, width)),
     }
 }
@@ -339,18 +325,14 @@ pub fn edge_of(n: u8) -> Edge
 pub fn edge_number(edge: Edge) -> u8
     ensures { result ≡ edge_number edge }
 {
-    match edge {
-        Edge::Change => 0,
-        Edge::Posedge => 1,
-        Edge::Negedge => 2,
-    }
+    edge as u8
 }
 
 // The number at a place of a plane, 0 past its end.
 fn plane_at(plane: &[u32], v: usize) -> u32
     ensures { result ≡ slice_index plane.now v }
 {
-    if v < plane.len() { plane[v] } else { 0 }
+    plane.get(v).copied().unwrap_or(0)
 }
 
 // The value in slot `v` of the two planes.

@@ -17,18 +17,11 @@ use values::Value;
 use writing::{put_byte, put_marked, put_word};
 
 // How many of each kind a module has.
-#[derive(Clone, Copy)]
+#[derive(Clone, Copy, Debug, PartialEq, Eq)]
 pub struct Counts {
     pub inputs: u8,
     pub registers: u8,
     pub wires: u8,
-}
-
-// A byte as a number of places.
-fn wide(b: u8) -> usize
-    ensures { result ≡ b }
-{
-    b as usize
 }
 
 // The identifier code of a variable.
@@ -70,7 +63,7 @@ fn put_declaration(
 {
     let p = put_word(b"$var ", text, pos);
     let q = put_kind(inputs, registers, v, text, p);
-    let w = put_marked(b' ', wide(byte_at(widths, v)), text, q);
+    let w = put_marked(b' ', byte_at(widths, v) as usize, text, q);
     let s = put_byte(b' ', text, w);
     let d = put_byte(ident(v), text, s);
     let e = put_byte(b' ', text, d);
@@ -93,10 +86,8 @@ fn put_declarations(
 {
     let end = naming::within(n);
     let mut p = pos;
-    let mut v: usize = 0;
-    while v < end {
+    for v in 0..end {
         p = put_declaration(widths, names, inputs, registers, v, text, p);
-        v += 1;
     }
     p
 }
@@ -119,10 +110,8 @@ fn put_comment(file: &[u8], text: &mut [u8; 65536], pos: usize) -> usize
     ensures { filled text.new result ≡ puts (filled text.old pos) (map comment_byte file.now) }
 {
     let mut p = pos;
-    let mut i = 0;
-    while i < file.len() {
-        p = put_byte(comment_byte(file[i]), text, p);
-        i += 1;
+    for &b in file {
+        p = put_byte(comment_byte(b), text, p);
     }
     p
 }
@@ -154,7 +143,7 @@ pub fn print_header(
 {
     let inputs = m.inputs;
     let registers = m.registers;
-    let n = wide(inputs) + wide(registers) + wide(m.wires);
+    let n = inputs as usize + registers as usize + m.wires as usize;
     let p = put_front(file, text, pos);
     let q = put_declarations(widths, names, inputs, registers, n, text, p);
     put_word(b"$upscope $end\n$enddefinitions $end\n", text, q)
@@ -189,7 +178,7 @@ fn put_figures(width: u8, a: Value, text: &mut [u8; 65536], pos: usize) -> usize
     ensures { filled text.new result ≡ puts (filled text.old pos) (figures width a) }
 {
     if is_known(a) {
-        return put_shortened(width, values::number_of(a), text, pos);
+        return put_shortened(width, a.number, text, pos);
     }
     if is_x(width, a) {
         return put_byte(b'x', text, pos);
@@ -228,12 +217,10 @@ fn put_values(widths: &[u8], n: usize, row: &[u64], text: &mut [u8; 65536], pos:
 {
     let end = naming::within(n);
     let mut p = pos;
-    let mut v: usize = 0;
-    while v < end {
+    for v in 0..end {
         let w = byte_at(widths, v);
         let a = value_in(row, v);
         p = put_value(w, v, a, text, p);
-        v += 1;
     }
     p
 }
@@ -281,13 +268,11 @@ pub fn print_changes(
 {
     let end = naming::within(n);
     let mut p = pos;
-    let mut v: usize = 0;
-    while v < end {
+    for v in 0..end {
         let w = byte_at(widths, v);
         let a = value_in(old, v);
         let b = value_in(new, v);
         p = put_change(w, v, a, b, text, p);
-        v += 1;
     }
     p
 }

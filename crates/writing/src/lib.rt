@@ -22,10 +22,8 @@ pub fn put_word(word: &[u8], text: &mut [u8; 65536], pos: usize) -> usize
     ensures { filled text.new result ≡ puts (filled text.old pos) word.now }
 {
     let mut p = pos;
-    let mut i = 0;
-    while i < word.len() {
-        p = put_byte(word[i], text, p);
-        i += 1;
+    for &letter in word {
+        p = put_byte(letter, text, p);
     }
     p
 }
@@ -35,10 +33,8 @@ pub fn put_many(b: u8, n: usize, text: &mut [u8; 65536], pos: usize) -> usize
     ensures { filled text.new result ≡ puts (filled text.old pos) (replicate n b) }
 {
     let mut p = pos;
-    let mut i = 0;
-    while i < n {
+    for _ in 0..n {
         p = put_byte(b, text, p);
-        i += 1;
     }
     p
 }

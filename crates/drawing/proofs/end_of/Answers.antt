@@ -1,5 +1,6 @@
 -- `drawing::end_of` meets its contract. The loop's invariant: the end that is still to be found is the end. Assumes nothing.
-use mathlib.Core.Path.{◌∙◌, ap, refl, sym}
+use mathlib.Core.Path.{◌≡◌, ◌∙◌, ap, refl, sym}
+use native.Mathlib.Omega.{arith}
 use borrow.Author.Rules.{rules}
 use Rattle.drawing.proofs.Laws.{end-here, end_later, end_none}
 use Rattle.drawing.specs.Drawing.{value_in}
@@ -28,4 +29,6 @@ pub returns : goal.returns
 returns c =
     let l = c.loop-e in
     let a = c.args in
-    (record { value = sym (end_none (value_in a.trace.now a.v) a.a a.end l.e c.loop-e-test.false) ∙ l.invariant.1; upper_bound = l.invariant.0 })
+    let last : a.end ≡ l.e = omega arith in
+    let e = sym (end_none (value_in a.trace.now a.v) a.a a.end l.e c.loop-e-test.false) in
+    record { value = last ∙ e ∙ l.invariant.1; upper_bound = omega arith }

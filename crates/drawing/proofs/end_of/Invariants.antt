@@ -7,7 +7,3 @@ use Rattle.drawing.proofs.end_of.Given as goal
 abbrev pub invariant-loop-e : goal.invariant-loop-e
 invariant-loop-e l =
     (l.e ≤ l.end) × (end_of (value_in l.trace l.v) l.a (l.end - l.e) l.e ≡ end_of (value_in l.trace l.v) l.a (l.end - l.h) l.h)
-
-abbrev pub decreases-loop-e : goal.decreases-loop-e
-decreases-loop-e l =
-    l.end - l.e

@@ -5,20 +5,20 @@ use Rattle.drawing.specs.Drawing.{value_size}
 use Rattle.tabulate.specs.Tabulate.{longer}
 use Rattle.drawing.proofs.largest_value.Goals as goal
 
-pub loop-i-init : goal.loop-i-init
-loop-i-init c =
+pub loop-v-init : goal.loop-v-init
+loop-v-init c =
     refl
 
-pub loop-i-preserved : goal.loop-i-preserved
-loop-i-preserved c =
-    let l = c.loop-i in
+pub loop-v-preserved : goal.loop-v-preserved
+loop-v-preserved c =
+    let l = c.loop-v in
     let a = c.args in
     let size = value_size a.base a.widths.now in
-    let e = c.longer-m.ensures ∙ ap (λ x. longer l.m x) (c.value_size.ensures ∙ ap size c.wide.ensures.value) in
-    largest-next size l.m _ a.vs.now l.i c.loop-i-test.true e ∙ l.invariant
+    let e = c.longer-m.ensures ∙ ap (λ x. longer l.m x) c.value_size.ensures in
+    largest-next size l.m _ a.vs.now l.v-index c.loop-v-test.true e ∙ l.invariant
 
 pub returns : goal.returns
 returns c =
-    let l = c.loop-i in
+    let l = c.loop-v in
     let a = c.args in
-    sym (largest-done (value_size a.base a.widths.now) l.m a.vs.now l.i c.loop-i-test.false) ∙ l.invariant
+    sym (largest-done (value_size a.base a.widths.now) l.m a.vs.now l.v-index c.loop-v-test.false) ∙ l.invariant

@@ -6,4 +6,4 @@ use Rattle.drawing.proofs.last_cycle.Goals as goal
 pub returns : goal.returns
 unfolding last_cycle
 returns c =
-    omega (arith, c.less.ensures)
+    omega (arith, c.saturating_sub.ensures)

@@ -5,18 +5,18 @@ use Rattle.tabulate.proofs.Tabulate.{columns-done, columns-next}
 use Rattle.writing.specs.Buffer.{filled}
 use Rattle.drawing.proofs.put_escaped.Goals as goal
 
-pub loop-i-init : goal.loop-i-init
-loop-i-init c =
+pub loop-b-init : goal.loop-b-init
+loop-b-init c =
     refl
 
-pub loop-i-preserved : goal.loop-i-preserved
-loop-i-preserved c =
-    let l = c.loop-i in
-    columns-next escaped_byte (filled l.text l.p) _ c.args.word.now l.i c.loop-i-test.true
+pub loop-b-preserved : goal.loop-b-preserved
+loop-b-preserved c =
+    let l = c.loop-b in
+    columns-next escaped_byte (filled l.text l.p) _ c.args.word.now l.b-index c.loop-b-test.true
     c.put_escaped_byte-p.ensures ∙ l.invariant
 
 pub returns : goal.returns
 unfolding escaped
 returns c =
-    let l = c.loop-i in
-    sym (columns-done escaped_byte (filled l.text l.p) c.args.word.now l.i c.loop-i-test.false) ∙ l.invariant
+    let l = c.loop-b in
+    sym (columns-done escaped_byte (filled l.text l.p) c.args.word.now l.b-index c.loop-b-test.false) ∙ l.invariant

@@ -17,7 +17,7 @@ overflow_add-y c =
 pub returns : goal.returns
 unfolding ascii lane_frame
 returns c =
-    rw (← c.within.ensures, ← c.across.ensures.value, ← c.less-x.ensures)
+    rw (← c.within.ensures, ← c.across.ensures.value, ← c.saturating_sub-x.ensures)
     (both _ _ _ _ _ c.put_measure-p.ensures
     (both _ _ _ _ _ c.put_measure-q.ensures
     (both _ _ _ _ _ c.put_measure-s.ensures

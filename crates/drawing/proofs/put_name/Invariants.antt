@@ -1,5 +1,5 @@
 -- `drawing::put_name` meets its contract. The loop's invariant: what is still to be put gives the whole. Assumes nothing.
-use Prim.Native.Nat.{◌-◌, ◌≤◌}
+use Prim.Native.Nat.{◌≤◌}
 use mathlib.Core.Path.{◌≡◌}
 use lib.ListN.{drop}
 use Rattle.drawing.specs.Drawing.{escaped_byte}
@@ -13,7 +13,3 @@ invariant-loop-i l =
     (l.i ≤ l.n) × (l.n ≤ 32)
     × (puts (filled l.text l.p) (columns escaped_byte (drop l.i (name_of l.names l.v)))
     ≡ puts (filled l.initial.text l.pos) (columns escaped_byte (name_of l.names l.v)))
-
-abbrev pub decreases-loop-i : goal.decreases-loop-i
-decreases-loop-i l =
-    l.n - l.i

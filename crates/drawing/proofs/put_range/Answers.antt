@@ -1,7 +1,5 @@
 -- `drawing::put_range` meets its contract. Assumes nothing.
-use Prim.Native.Nat.{◌-◌}
-use mathlib.Core.Path.{◌≡◌, sym}
-use native.Mathlib.Omega.{arith}
+use mathlib.Core.Path.{sym}
 use borrow.Author.Tests.{le-ltb, lt-ltb}
 use Rattle.drawing.specs.Drawing.{range}
 use Rattle.writing.proofs.Buffer.{both, puts-nil}
@@ -16,7 +14,6 @@ returns-then-width-lt2 c =
 pub returns : goal.returns
 unfolding ascii range
 returns c =
-    let e : c.wide.result - 1 ≡ c.args.width - 1 = omega (arith, c.wide.ensures.value) in
-    rw (le-ltb _ _ c.if-width-lt2.false, ← e)
+    rw (le-ltb _ _ c.if-width-lt2.false)
     (both _ _ _ _ _ c.put_measure-p.ensures
     c.put_word.ensures)

@@ -12,9 +12,9 @@ use Rattle.drawing.proofs.put_rises.Goals as goal
 pub loop-k-init : goal.loop-k-init
 loop-k-init c =
     let a = c.args in
-    let e : c.wide-end.result - 0 ≡ a.d.cycles = omega (arith, c.wide-end.ensures.value) in (
+    let e : a.d.cycles - 0 ≡ a.d.cycles = omega arith in (
       search rules,
-      omega (arith, c.wide-end.ensures.value, c.wide-end.ensures.upper_bound),
+      omega arith,
       ap (λ n. puts (filled a.text.now a.pos) (texts (rise a.d) n 0)) e,
     )
 
@@ -25,7 +25,7 @@ loop-k-preserved c =
     let t = filled l.text l.p in (
       search rules,
       l.invariant.1,
-      texts-next (rise a.d) t _ c.wide-end.result l.k c.loop-k-test.true c.put_rise-p.ensures
+      texts-next (rise a.d) t _ a.d.cycles l.k c.loop-k-test.true c.put_rise-p.ensures
           ∙ l.invariant.2,
     )
 
@@ -33,4 +33,4 @@ pub returns : goal.returns
 returns c =
     let l = c.loop-k in
     let a = c.args in
-    sym (texts-done (rise a.d) (filled l.text l.p) c.wide-end.result l.k c.loop-k-test.false) ∙ l.invariant.2
+    sym (texts-done (rise a.d) (filled l.text l.p) a.d.cycles l.k c.loop-k-test.false) ∙ l.invariant.2

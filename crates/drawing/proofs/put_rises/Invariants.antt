@@ -10,7 +10,3 @@ abbrev pub invariant-loop-k : goal.invariant-loop-k
 invariant-loop-k l =
     (l.k ≤ l.end) × (l.end ≤ 255)
     × (puts (filled l.text l.p) (texts (rise l.d) (l.end - l.k) l.k) ≡ puts (filled l.initial.text l.pos) (texts (rise l.d) l.d.cycles 0))
-
-abbrev pub decreases-loop-k : goal.decreases-loop-k
-decreases-loop-k l =
-    l.end - l.k

@@ -11,7 +11,3 @@ invariant-loop-h l =
     (l.h ≤ l.end) × (l.end ≡ halves l.d)
     × (puts (filled l.text l.p) (texts (stretch_from l.d l.width (value_in l.trace l.v)) (l.end - l.h) l.h)
     ≡ puts (filled l.initial.text l.pos) (texts (stretch_from l.d l.width (value_in l.trace l.v)) (halves l.d) 0))
-
-abbrev pub decreases-loop-h : goal.decreases-loop-h
-decreases-loop-h l =
-    l.end - l.h

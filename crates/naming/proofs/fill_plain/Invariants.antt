@@ -1,6 +1,6 @@
 -- `naming::fill_plain` meets its contract. The loop's invariant: the bytes still to be stored give the whole table.
 -- Assumes nothing.
-use Prim.Native.Nat.{◌≤◌, ◌-◌, ◌/◌}
+use Prim.Native.Nat.{◌≤◌}
 use mathlib.Core.Path.{◌≡◌, sym, ◌∙◌}
 use native.Mathlib.Omega.{arith}
 use borrow.Author.Rules.{rules}
@@ -13,7 +13,3 @@ use Rattle.naming.proofs.fill_plain.Given as goal
 abbrev pub invariant-loop-k : goal.invariant-loop-k
 invariant-loop-k l =
     (l.k ≤ 2560) × (sets l.names l.k (drop l.k (plain_table l.inputs l.registers)) ≡ plainly l.initial.names l.inputs l.registers)
-
-abbrev pub decreases-loop-k : goal.decreases-loop-k
-decreases-loop-k l =
-    2560 - l.k

@@ -1,7 +1,8 @@
 -- `naming::name_length` meets its contract. The loop's invariant: the bytes passed and the rest of the name are the whole.
 -- Assumes nothing.
 use Prim.Native.Nat.{◌≤◌, ◌-◌, ◌+◌, ◌*◌}
-use mathlib.Core.Path.{◌≡◌, sym, ap}
+use mathlib.Core.Path.{◌≡◌, sym, ap, ◌∙◌}
+use native.Mathlib.Omega.{arith}
 use borrow.Author.Rules.{rules}
 use lib.ListN.{length}
 use Rattle.naming.specs.Naming.{name_from, name_of}
@@ -34,4 +35,5 @@ pub returns : goal.returns
 returns c =
     let a = c.args in
     let l = c.loop-n in
-    count-all a.names.now a.v c.if-v-ge80.false l.n l.invariant.1 c.loop-n-test.false
+    let last : 32 ≡ l.n = omega arith in
+    last ∙ count-all a.names.now a.v c.if-v-ge80.false l.n l.invariant.1 c.loop-n-test.false

@@ -11,7 +11,3 @@ use Rattle.naming.proofs.name_length.Given as goal
 abbrev pub invariant-loop-n : goal.invariant-loop-n
 invariant-loop-n l =
     (l.n ≤ 32) × (l.n + length (name_from (32 - l.n) l.names (l.v * 32 + l.n)) ≡ length (name_of l.names l.v))
-
-abbrev pub decreases-loop-n : goal.decreases-loop-n
-decreases-loop-n l =
-    32 - l.n

@@ -1,6 +1,6 @@
 -- `naming::put_name` meets its contract. The loop's invariant: what is still to be put gives the whole.
 -- Assumes nothing.
-use Prim.Native.Nat.{◌≤◌, ◌<◌, ◌-◌}
+use Prim.Native.Nat.{◌≤◌}
 use mathlib.Core.Path.{◌≡◌, refl, sym, ◌∙◌, ap}
 use mathlib.Core.List.{[], ◌∷◌}
 use native.Mathlib.Omega.{arith}
@@ -15,7 +15,3 @@ use Rattle.naming.proofs.put_name.Given as goal
 abbrev pub invariant-loop-i : goal.invariant-loop-i
 invariant-loop-i l =
     (l.i ≤ l.n) × (l.n ≤ 32) × (puts (filled l.text l.p) (drop l.i (name_of l.names l.v)) ≡ puts (filled l.initial.text l.pos) (name_of l.names l.v))
-
-abbrev pub decreases-loop-i : goal.decreases-loop-i
-decreases-loop-i l =
-    l.n - l.i

@@ -1,6 +1,6 @@
 -- `naming::same_name` meets its contract. The loop's invariant: the texts are equal if their rests are.
 -- Assumes nothing.
-use Prim.Native.Nat.{◌≤◌, ◌<◌, ◌-◌}
+use Prim.Native.Nat.{◌≤◌}
 use mathlib.Core.Path.{◌≡◌, refl, sym, ◌∙◌, ap}
 use native.Mathlib.Omega.{arith}
 use borrow.Author.Rules.{rules}
@@ -13,7 +13,3 @@ use Rattle.naming.proofs.same_name.Given as goal
 abbrev pub invariant-loop-i : goal.invariant-loop-i
 invariant-loop-i l =
     (l.i ≤ l.n) × (l.n ≤ 32) × (same_text (drop l.i (name_of l.names l.v)) (drop l.i l.name) ≡ same_text (name_of l.names l.v) l.name)
-
-abbrev pub decreases-loop-i : goal.decreases-loop-i
-decreases-loop-i l =
-    l.n - l.i

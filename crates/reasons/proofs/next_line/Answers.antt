@@ -1,9 +1,9 @@
 -- `reasons::next_line` meets its contract. The loop's invariant: what stands behind the line is the same from here on. Assumes
 -- nothing.
-use Prim.Native.Nat.{◌-◌}
-use mathlib.Core.Path.{◌≡◌, refl, ◌∙◌}
-use borrow.Author.Rules.{rules}
-use lib.ListN.{length, drop}
+use Prim.Native.Nat.{◌≤◌}
+use native.Mathlib.Omega.{arith}
+use mathlib.Core.Path.{refl, sym, ◌∙◌}
+use lib.ListN.{length, drop_of_length-le}
 use Rattle.reasons.specs.Reasons.{other_lines}
 use Rattle.reasons.proofs.Reasons.{rest-none, rest_end, rest_more}
 use Rattle.reasons.proofs.next_line.Goals as goal
@@ -27,4 +27,7 @@ loop-i-preserved c =
 pub returns : goal.returns
 returns c =
     let l = c.loop-i in
-    rest-none c.args.table.now l.i c.loop-i-test.false ∙ l.invariant
+    let table = c.args.table.now in
+    let all : length table ≤ length table = omega arith in
+    drop_of_length-le table all ∙ sym (drop_of_length-le table c.loop-i-test.false)
+    ∙ rest-none table l.i c.loop-i-test.false ∙ l.invariant

@@ -11,7 +11,3 @@ use Rattle.reasons.proofs.next_line.Given as goal
 abbrev pub invariant-loop-i : goal.invariant-loop-i
 invariant-loop-i l =
     other_lines (drop l.i l.table) ≡ other_lines (drop l.from l.table)
-
-abbrev pub decreases-loop-i : goal.decreases-loop-i
-decreases-loop-i l =
-    length l.table - l.i

@@ -1,5 +1,4 @@
 -- `reasons::put_rest` meets its contract. The loop's invariant: what is left of the line gives the whole. Assumes nothing.
-use Prim.Native.Nat.{◌-◌}
 use mathlib.Core.Path.{◌≡◌, refl, sym, ap, ◌∙◌}
 use borrow.Author.Rules.{rules}
 use lib.ListN.{length, drop}
@@ -12,7 +11,3 @@ use Rattle.reasons.proofs.put_rest.Given as goal
 abbrev pub invariant-loop-i : goal.invariant-loop-i
 invariant-loop-i l =
     puts (filled l.text l.p) (first_line (drop l.i l.table)) ≡ puts (filled l.initial.text l.pos) (first_line (drop l.from l.table))
-
-abbrev pub decreases-loop-i : goal.decreases-loop-i
-decreases-loop-i l =
-    length l.table - l.i

@@ -15,7 +15,7 @@ returns-then-base-eq16 c =
 pub returns-then-base-eq2 : goal.returns-then-base-eq2
 unfolding numbered
 returns-then-base-eq2 c =
-    rw (ne_eqb _ _ c.if-base-eq16.false, eq-eqb _ _ c.if-base-eq2.true) (c.wide.ensures ∙ sym (length-bits _ _ _))
+    rw (ne_eqb _ _ c.if-base-eq16.false, eq-eqb _ _ c.if-base-eq2.true) (sym (length-bits _ _ _))
 
 pub returns : goal.returns
 unfolding numbered

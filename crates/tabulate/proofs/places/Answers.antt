@@ -24,4 +24,4 @@ unfolding places marks_of all_unknown
 returns c =
     rw (ne_eqb _ _ c.if-base-eq16.false, ne_eqb _ _ c.if-base-eq2.false)
     (c.digit_count.ensures
-    ∙ ap (λ n. length (decimal n)) (c.marks_of.ensures ∙ ap marks_of c.all_unknown-all.ensures))
+    ∙ ap (λ n. length (decimal n)) (ap marks_of c.all_unknown.ensures))

@@ -14,5 +14,5 @@ returns-then-csv c =
 pub returns : goal.returns
 unfolding cycle_cell aligned
 returns c =
-    rw c.if-csv.false (rw (sym (c.left_of.ensures ∙ ap (λ k. 8 - k) c.digit_count.ensures))
+    rw c.if-csv.false (rw (sym (c.saturating_sub.ensures ∙ ap (λ k. 8 - k) c.digit_count.ensures))
     (both _ _ _ _ _ c.put_many-p.ensures c.put_decimal-2.ensures))

@@ -9,24 +9,24 @@ use Rattle.tabulate.specs.Tabulate.{entry, columns}
 use Rattle.tabulate.proofs.Tabulate.{columns-next, columns-done}
 use Rattle.tabulate.proofs.put_entries.Goals as goal
 
-pub loop-i-init : goal.loop-i-init
-loop-i-init c =
+pub loop-v-init : goal.loop-v-init
+loop-v-init c =
     refl
 
-pub loop-i-preserved : goal.loop-i-preserved
+pub loop-v-preserved : goal.loop-v-preserved
 unfolding entry
-loop-i-preserved c =
-    let l = c.loop-i in
+loop-v-preserved c =
+    let l = c.loop-v in
     let a = c.args in
-    columns-next (entry a.form a.widths.now a.names.now (cell_at a.row.now)) (filled l.text l.p) _ a.vs.now l.i
-    c.loop-i-test.true
-    (rw (c.value_in-a.ensures, c.wide-v.ensures) at c.put_entry-p.ensures)
+    columns-next (entry a.form a.widths.now a.names.now (cell_at a.row.now)) (filled l.text l.p) _ a.vs.now l.v-index
+    c.loop-v-test.true
+    (rw c.value_in-a.ensures at c.put_entry-p.ensures)
     ∙ l.invariant
 
 pub returns : goal.returns
 returns c =
-    let l = c.loop-i in
+    let l = c.loop-v in
     let a = c.args in
-    sym (columns-done (entry a.form a.widths.now a.names.now (cell_at a.row.now)) (filled l.text l.p) a.vs.now l.i
-    c.loop-i-test.false)
+    sym (columns-done (entry a.form a.widths.now a.names.now (cell_at a.row.now)) (filled l.text l.p) a.vs.now l.v-index
+    c.loop-v-test.false)
     ∙ l.invariant

@@ -1,5 +1,4 @@
 -- `tabulate::put_entries` meets its contract. The loop's invariant: what is still to be put gives the whole. Assumes nothing.
-use Prim.Native.Nat.{◌≤◌, ◌-◌}
 use mathlib.Core.Path.{◌≡◌, refl, sym, ◌∙◌}
 use lib.ListN.{length, drop}
 use borrow.Author.Rules.{rules}
@@ -9,11 +8,7 @@ use Rattle.tabulate.specs.Tabulate.{entry, columns}
 use Rattle.tabulate.proofs.Tabulate.{columns-next, columns-done}
 use Rattle.tabulate.proofs.put_entries.Given as goal
 
-abbrev pub invariant-loop-i : goal.invariant-loop-i
-invariant-loop-i l =
-    puts (filled l.text l.p) (columns (entry l.form l.widths l.names (cell_at l.row)) (drop l.i l.vs))
+abbrev pub invariant-loop-v : goal.invariant-loop-v
+invariant-loop-v l =
+    puts (filled l.text l.p) (columns (entry l.form l.widths l.names (cell_at l.row)) (drop l.v-index l.vs))
     ≡ puts (filled l.initial.text l.pos) (columns (entry l.form l.widths l.names (cell_at l.row)) l.vs)
-
-abbrev pub decreases-loop-i : goal.decreases-loop-i
-decreases-loop-i l =
-    length l.vs - l.i

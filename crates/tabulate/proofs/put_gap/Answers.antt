@@ -14,4 +14,4 @@ returns-then-csv c =
 pub returns : goal.returns
 unfolding ascii gap
 returns c =
-    rw c.if-csv.false (rw (sym c.left_of.ensures) (both _ _ _ _ _ c.put_word-p.ensures c.put_many.ensures))
+    rw c.if-csv.false (rw (sym c.saturating_sub.ensures) (both _ _ _ _ _ c.put_word-p.ensures c.put_many.ensures))

@@ -8,21 +8,21 @@ use Rattle.tabulate.specs.Tabulate.{title, columns}
 use Rattle.tabulate.proofs.Tabulate.{columns-next, columns-done}
 use Rattle.tabulate.proofs.put_titles.Goals as goal
 
-pub loop-i-init : goal.loop-i-init
-loop-i-init c =
+pub loop-v-init : goal.loop-v-init
+loop-v-init c =
     refl
 
-pub loop-i-preserved : goal.loop-i-preserved
-loop-i-preserved c =
-    let l = c.loop-i in
+pub loop-v-preserved : goal.loop-v-preserved
+loop-v-preserved c =
+    let l = c.loop-v in
     let a = c.args in
-    columns-next (title a.form a.widths.now a.names.now) (filled l.text l.p) _ a.vs.now l.i c.loop-i-test.true
-    (rw c.wide.ensures at c.put_title-p.ensures)
+    columns-next (title a.form a.widths.now a.names.now) (filled l.text l.p) _ a.vs.now l.v-index c.loop-v-test.true
+    c.put_title-p.ensures
     ∙ l.invariant
 
 pub returns : goal.returns
 returns c =
-    let l = c.loop-i in
+    let l = c.loop-v in
     let a = c.args in
-    sym (columns-done (title a.form a.widths.now a.names.now) (filled l.text l.p) a.vs.now l.i c.loop-i-test.false)
+    sym (columns-done (title a.form a.widths.now a.names.now) (filled l.text l.p) a.vs.now l.v-index c.loop-v-test.false)
     ∙ l.invariant

@@ -2,6 +2,7 @@
 use mathlib.Core.Path.{sym, ap₂, ◌∙◌}
 use Prim.Native.Nat.{◌+◌}
 use lib.ListN.{length-append}
+use Rattle.values.specs.Planes.{number_of}
 use Rattle.binary_text.specs.BinaryText.{bits_of}
 use Rattle.binary_text.proofs.BinaryText.{length-bits-of}
 use Rattle.tabulate.specs.Tabulate.{lead, shown}
@@ -9,9 +10,9 @@ use borrow.Author.Rules.{rules}
 use Rattle.tabulate.proofs.shown_length.Goals as goal
 
 pub returns-then-is_known : goal.returns-then-is_known
-unfolding shown
+unfolding shown number_of
 returns-then-is_known c =
-    rw (sym c.is_known.ensures ∙ c.if-is_known.true, sym c.number_of.ensures) c.number_length.ensures
+    rw (sym c.is_known.ensures ∙ c.if-is_known.true) c.number_length.ensures
 
 pub returns-then-is_x : goal.returns-then-is_x
 unfolding shown
@@ -23,5 +24,5 @@ unfolding shown
 returns c =
     let a = c.args in
     rw (sym c.is_known.ensures ∙ c.if-is_known.false, sym c.is_x.ensures ∙ c.if-is_x.false)
-    (ap₂ ◌+◌ c.lead_length.ensures.value (c.wide.ensures ∙ sym (length-bits-of a.width a.a))
+    (ap₂ ◌+◌ c.lead_length.ensures.value (sym (length-bits-of a.width a.a))
     ∙ sym (length-append (lead a.base) (bits_of a.width a.a)))

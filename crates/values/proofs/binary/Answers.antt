@@ -1,7 +1,13 @@
 -- `values::binary` meets its contract. Assumes nothing.
-use Rattle.std.proofs.Common.{◌≡◌, ◌+◌, ◌-◌, ◌%◌, ◌^◌, arith, ne_eqb}
-use Rattle.values.specs.Operators.{sum, difference, binary}
+use Rattle.std.proofs.Common.{◌≡◌, ◌+◌, ◌-◌, ◌%◌, ◌^◌, Bool, true, false, ltb, refl, arith, ne_eqb}
+use mir.Val.{bool_byte}
+use Rattle.values.specs.Operators.{flag, sum, difference, binary}
 use Rattle.values.proofs.binary.Goals as goal
+
+byte_flag : (t : Bool) → bool_byte t ≡ flag t
+unfolding flag
+byte_flag true = refl
+byte_flag false = refl
 
 pub returns-in-3 : goal.returns-in-3
 unfolding binary
@@ -39,7 +45,7 @@ returns-in-8 c =
 pub returns-in-9 : goal.returns-in-9
 unfolding binary
 returns-in-9 c =
-    rw (c.in-9.is, c.certain-in-9.ensures, c.flag.ensures)
+    rw (c.in-9.is, c.certain-in-9.ensures, c.from.ensures, byte_flag (ltb c.args.a.number c.args.b.number))
 
 pub returns-in_default : goal.returns-in_default
 unfolding binary

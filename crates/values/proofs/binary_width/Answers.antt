@@ -1,19 +1,19 @@
 -- `values::binary_width` meets its contract. Assumes nothing.
-use Rattle.std.proofs.Common.{eq-eqb, ne_eqb}
+use Rattle.std.proofs.Common.{arith, ne_eqb}
 use Rattle.values.specs.Operators.{binary_width}
 use Rattle.values.proofs.binary_width.Goals as goal
 
-pub returns-then-op-eq8 : goal.returns-then-op-eq8
+pub returns-in-8 : goal.returns-in-8
 unfolding binary_width
-returns-then-op-eq8 c =
-    simp (eq-eqb _ _ c.if-op-eq8.true)
+returns-in-8 c =
+    rw c.in-8.is
 
-pub returns-then-op-eq9 : goal.returns-then-op-eq9
+pub returns-in-9 : goal.returns-in-9
 unfolding binary_width
-returns-then-op-eq9 c =
-    simp (ne_eqb _ _ c.if-op-eq8.false, eq-eqb _ _ c.if-op-eq9.true)
+returns-in-9 c =
+    rw c.in-9.is
 
-pub returns-else-op-eq9 : goal.returns-else-op-eq9
+pub returns-in_default : goal.returns-in_default
 unfolding binary_width
-returns-else-op-eq9 c =
-    simp (ne_eqb _ _ c.if-op-eq8.false, ne_eqb _ _ c.if-op-eq9.false)
+returns-in_default c =
+    simp (ne_eqb c.args.op 8 (omega arith), ne_eqb c.args.op 9 (omega arith))

@@ -1,19 +1,22 @@
 -- `values::fits` meets its contract. Assumes nothing.
-use Rattle.std.proofs.Common.{sym, refl, ◌∙◌}
+use Rattle.std.proofs.Common.{◌≡◌, ℕ, arith, sym, refl, ◌∙◌}
 use Rattle.values.specs.Values.{fits}
+use Rattle.values.proofs.fits.Goals.{then-below, else-below}
 use Rattle.values.proofs.fits.Goals as goal
 
-pub returns-then-not-below : goal.returns-then-not-below
+pub returns-then-below-2 : goal.returns-then-below-2
 unfolding fits
-returns-then-not-below c =
-    rw (sym c.below.ensures ∙ c.if-not-below.true) refl
+returns-then-below-2 c =
+    elim c.if-below.branch [
+      | then-below w ↦ rw (sym c.below.ensures ∙ w.if-below.true, sym w.below-then-below.ensures ∙ sym w.value-is ∙ c.if-below-2.true) refl
+      | else-below w ↦ let z : ◌≡◌ {A = ℕ} 0 1 = cc (sym c.if-below-2.true ∙ w.value-is ∙ w.if-below.false) in absurd (omega arith)
+    ]
 
-pub returns-then-not-below-2 : goal.returns-then-not-below-2
+pub returns-else-below-2 : goal.returns-else-below-2
 unfolding fits
-returns-then-not-below-2 c =
-    rw (sym c.below.ensures ∙ c.if-not-below.false, sym c.below-2.ensures ∙ c.if-not-below-2.true) refl
-
-pub returns : goal.returns
-unfolding fits
-returns c =
-    rw (sym c.below.ensures ∙ c.if-not-below.false, sym c.below-2.ensures ∙ c.if-not-below-2.false) refl
+returns-else-below-2 c =
+    c.if-below-2.false
+    ∙ elim c.if-below.branch [
+      | then-below w ↦ rw (sym c.below.ensures ∙ w.if-below.true, sym w.below-then-below.ensures ∙ sym w.value-is ∙ c.if-below-2.false) refl
+      | else-below w ↦ rw (sym c.below.ensures ∙ w.if-below.false) refl
+    ]

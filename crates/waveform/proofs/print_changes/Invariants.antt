@@ -19,7 +19,3 @@ invariant-loop-v l =
     (l.v ≤ l.end) × (l.end ≤ 80)
     × (puts (filled l.text l.p) (texts (change_of l.widths (cell_at l.old) (cell_at l.new)) (l.end - l.v) l.v)
     ≡ puts (filled l.initial.text l.pos) (changes l.widths l.n (cell_at l.old) (cell_at l.new)))
-
-abbrev pub decreases-loop-v : goal.decreases-loop-v
-decreases-loop-v l =
-    l.end - l.v

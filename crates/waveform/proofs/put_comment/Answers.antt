@@ -10,22 +10,22 @@ use Rattle.waveform.specs.Waveform.{comment_byte}
 use Rattle.waveform.proofs.Waveform.{comment-step, comment-end}
 use Rattle.waveform.proofs.put_comment.Goals as goal
 
-pub loop-i-init : goal.loop-i-init
-loop-i-init c =
+pub loop-b-init : goal.loop-b-init
+loop-b-init c =
     (search rules, refl)
 
-pub loop-i-preserved : goal.loop-i-preserved
-loop-i-preserved c =
-    let l = c.loop-i in
+pub loop-b-preserved : goal.loop-b-preserved
+loop-b-preserved c =
+    let l = c.loop-b in
     let file = c.args.file.now in
     let t = filled l.text l.p in
     let e = c.put_byte-p.ensures ∙ ap (λ b. puts t (b ∷ [])) c.comment_byte.ensures in (
       search rules,
-      comment-step t _ file l.i c.loop-i-test.true e ∙ l.invariant.1,
+      comment-step t _ file l.b-index c.loop-b-test.true e ∙ l.invariant.1,
     )
 
 pub returns : goal.returns
 returns c =
-    let l = c.loop-i in
+    let l = c.loop-b in
     let a = c.args in
-    sym (comment-end (filled l.text l.p) a.file.now l.i c.loop-i-test.false) ∙ l.invariant.1
+    sym (comment-end (filled l.text l.p) a.file.now l.b-index c.loop-b-test.false) ∙ l.invariant.1

@@ -1,5 +1,5 @@
 -- `waveform::put_declaration` meets its contract, part by part. Assumes nothing.
-use mathlib.Core.Path.{sym, ◌∙◌}
+use mathlib.Core.Path.{sym}
 use Rattle.writing.specs.Ascii.{ascii}
 use Rattle.writing.proofs.Buffer.{both}
 use Rattle.waveform.specs.Waveform.{declaration}
@@ -9,7 +9,7 @@ use Rattle.waveform.proofs.put_declaration.Goals as goal
 pub returns : goal.returns
 unfolding ascii declaration
 returns c =
-    rw (sym (c.wide.ensures ∙ c.byte_at.ensures), sym c.ident.ensures)
+    rw (sym c.byte_at.ensures, sym c.ident.ensures)
     (both _ _ _ _ _ c.put_word-p.ensures
     (both _ _ _ _ _ c.put_kind-q.ensures
     (both _ _ _ _ _ c.put_marked-w.ensures

@@ -14,7 +14,3 @@ abbrev pub invariant-loop-v : goal.invariant-loop-v
 invariant-loop-v l =
     (l.v ≤ l.end) × (l.end ≤ 80) × (puts (filled l.text l.p) (texts (declaration l.widths l.names l.inputs l.registers) (l.end - l.v) l.v)
     ≡ puts (filled l.initial.text l.pos) (declarations l.widths l.names l.inputs l.registers l.n))
-
-abbrev pub decreases-loop-v : goal.decreases-loop-v
-decreases-loop-v l =
-    l.end - l.v

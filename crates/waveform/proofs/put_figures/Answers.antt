@@ -1,13 +1,14 @@
 -- `waveform::put_figures` meets its contract. Assumes nothing.
 use mathlib.Core.Path.{sym, ◌∙◌}
+use Rattle.values.specs.Planes.{number_of}
 use Rattle.waveform.specs.Waveform.{figures}
 use borrow.Author.Rules.{rules}
 use Rattle.waveform.proofs.put_figures.Goals as goal
 
 pub returns-then-is_known : goal.returns-then-is_known
-unfolding figures
+unfolding figures number_of
 returns-then-is_known c =
-    rw (sym c.is_known.ensures ∙ c.if-is_known.true, sym c.number_of.ensures) c.put_shortened.ensures
+    rw (sym c.is_known.ensures ∙ c.if-is_known.true) c.put_shortened.ensures
 
 pub returns-then-is_x : goal.returns-then-is_x
 unfolding figures

@@ -16,7 +16,3 @@ abbrev pub invariant-loop-v : goal.invariant-loop-v
 invariant-loop-v l =
     (l.v ≤ l.end) × (l.end ≤ 80) × (puts (filled l.text l.p) (texts (value_of l.widths (cell_at l.row)) (l.end - l.v) l.v)
     ≡ puts (filled l.initial.text l.pos) (texts (value_of l.widths (cell_at l.row)) (within l.n) 0))
-
-abbrev pub decreases-loop-v : goal.decreases-loop-v
-decreases-loop-v l =
-    l.end - l.v

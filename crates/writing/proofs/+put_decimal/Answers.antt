@@ -1,5 +1,4 @@
 -- `writing::put_decimal` meets its contract; the number falls with each call. Assumes nothing.
-use Prim.Native.Nat.{ℕ, ◌<◌}
 use mathlib.Core.Path.{sym, ap, ◌∙◌}
 use borrow.Author.Rules.{rules}
 use Rattle.writing.specs.Buffer.{puts, filled}

@@ -1,5 +1,4 @@
 -- `writing::put_byte` meets its contract. Assumes nothing.
-use borrow.Author.Rules.{rules}
 use mathlib.Core.Path.{sym}
 use Rattle.writing.specs.Buffer.{puts}
 use Rattle.writing.proofs.Buffer.{put_in, put_full}

@@ -1,6 +1,5 @@
 -- `writing::put_marked` meets its contract. Assumes nothing.
 use Rattle.writing.proofs.Buffer.{both}
-use borrow.Author.Rules.{rules}
 use Rattle.writing.proofs.put_marked.Goals as goal
 
 pub returns : goal.returns

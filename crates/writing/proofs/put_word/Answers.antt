@@ -1,28 +1,27 @@
 -- `writing::put_word` meets its contract. The loop's invariant: what is still to be put gives the whole.
 -- Assumes nothing.
-use Prim.Native.Nat.{◌≤◌, ◌-◌}
-use mathlib.Core.Path.{◌≡◌, refl, sym, ◌∙◌, ap}
+use mathlib.Core.Path.{refl, sym, ◌∙◌, ap}
 use borrow.Author.Rules.{rules}
-use lib.ListN.{length, drop, drop_of_length-le}
+use lib.ListN.{drop_of_length-le}
 use Rattle.writing.specs.Buffer.{filled, puts}
 use Rattle.writing.proofs.Buffer.{puts-step, puts-nil}
 use Rattle.writing.proofs.put_word.Goals as goal
 
-pub loop-i-init : goal.loop-i-init
-loop-i-init c =
+pub loop-letter-init : goal.loop-letter-init
+loop-letter-init c =
     (search rules, refl)
 
-pub loop-i-preserved : goal.loop-i-preserved
-loop-i-preserved c =
-    let l = c.loop-i in
+pub loop-letter-preserved : goal.loop-letter-preserved
+loop-letter-preserved c =
+    let l = c.loop-letter in
     let word = c.args.word.now in (
       search rules,
-      puts-step (filled l.text l.p) _ word l.i c.loop-i-test.true c.put_byte-p.ensures
+      puts-step (filled l.text l.p) _ word l.letter-index c.loop-letter-test.true c.put_byte-p.ensures
           ∙ l.invariant.1,
     )
 
 pub returns : goal.returns
 returns c =
-    let l = c.loop-i in
-    let e = drop_of_length-le c.args.word.now c.loop-i-test.false in
+    let l = c.loop-letter in
+    let e = drop_of_length-le c.args.word.now c.loop-letter-test.false in
     sym (puts-nil _) ∙ ap (λ x. puts (filled l.text l.p) x) (sym e) ∙ l.invariant.1

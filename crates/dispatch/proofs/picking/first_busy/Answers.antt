@@ -21,14 +21,6 @@ pub returns-then-r : goal.returns-then-r
 returns-then-r c =
     first-here _ _ _ (omega arith) c.if-r.true ∙ c.loop-i.invariant
 
-pub overflow_add-i : goal.overflow_add-i
-overflow_add-i c =
-    omega arith
-
-pub loop-i-smaller : goal.loop-i-smaller
-loop-i-smaller c =
-    omega arith
-
 pub loop-i-preserved : goal.loop-i-preserved
 loop-i-preserved c =
     sym (first_on _ _ _ (omega arith) c.if-r.false) ∙ c.loop-i.invariant

@@ -8,7 +8,3 @@ use Rattle.dispatch.proofs.picking.first_busy.Given as goal
 abbrev pub invariant-loop-i : goal.invariant-loop-i
 invariant-loop-i l =
     first_busy l.list l.i (l.to - l.i) ≡ first_busy l.list l.from (l.to - l.from)
-
-abbrev pub decreases-loop-i : goal.decreases-loop-i
-decreases-loop-i l =
-    l.to - l.i

@@ -13,22 +13,22 @@ returns-in_default c =
 
 pub offset_bounds-list-i : goal.offset_bounds-list-i
 offset_bounds-list-i c =
-    let h : c.in-At.i < 8 = c.requires _ c.in-At.is in
+    let h : c.in-Some.i < 8 = c.requires _ c.in-Some.is in
     omega arith
 
 pub bounds-list-i : goal.bounds-list-i
 bounds-list-i c =
-    c.requires _ c.in-At.is
+    c.requires _ c.in-Some.is
 
 pub returns-then-r : goal.returns-then-r
 returns-then-r c =
-    c.refused.ensures ∙ turn-full _ _ c.in-At.is c.if-r.true
+    c.refused.ensures ∙ turn-full _ _ c.in-Some.is c.if-r.true
 
 pub overflow_cast-result : goal.overflow_cast-result
 overflow_cast-result c =
-    let h : c.in-At.i < 8 = c.requires _ c.in-At.is in
+    let h : c.in-Some.i < 8 = c.requires _ c.in-Some.is in
     omega arith
 
 pub returns : goal.returns
 returns c =
-    turn-picked _ _ c.in-At.is c.if-r.false
+    turn-picked _ _ c.in-Some.is c.if-r.false
