@@ -1,6 +1,6 @@
 -- Laws of filling the bodies' code table: one store, the ways through each form, and fetching what was stored. Assumes nothing.
 use mathlib.Core.Path.{◌≡◌, refl, ap, ◌∙◌}
-use mathlib.Core.Logic.{◌≢◌}
+use mathlib.Core.Logic.{◌≢◌, ◌⊎◌, inl, inr}
 use Prim.Native.Nat.{ℕ, zero, suc, ◌+◌, ◌-◌, ◌*◌, ◌/◌, ◌%◌, ◌≤◌, ◌<◌}
 use native.Mathlib.Omega.{arith}
 use native.Mathlib.Numerals.{sub-one}
@@ -160,6 +160,11 @@ module _ (s ds : List ℕ) (f : Filling) where
   unfolding fill_at
   fill-full zero h l = refl
   fill-full (suc d) h l = simp (lt-ltb f.next 8192 h, le-ltb f.place 4096 l)
+
+  pub fill-stop : (d : ℕ) → (d ≡ 0) ⊎ (((d ≡ 0 → ⊥) × (8192 ≤ f.next)) ⊎ ((d ≡ 0 → ⊥) × (f.next < 8192) × (4096 ≤ f.place))) → fill_at s ds d f ≡ f
+  fill-stop d (inl e) = fill_none d e
+  fill-stop d (inr (inl e)) = fill-far d e.1
+  fill-stop d (inr (inr e)) = fill-full d e.1 e.2
 
   pub fill-read : (d : ℕ) (k : Res Form) → (d ≡ 0 → ⊥) → f.next < 8192 → f.place < 4096 → form_of (get_or s f.next 0) f.next ≡ k
       → fill_at s ds d f ≡ fill_form s ds (fill_at s ds (d - 1)) f k

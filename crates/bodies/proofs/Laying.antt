@@ -1,6 +1,6 @@
 -- The code table of an accepted sheet holds the instructions of each function's body: one turn of the loop, and the law. Assumes nothing.
 use mathlib.Core.Path.{◌≡◌, refl, sym, ap, ◌∙◌, subst}
-use Prim.Native.Nat.{ℕ, zero, suc, ◌+◌, ◌-◌, ◌*◌, ◌≤◌, ◌<◌}
+use Prim.Native.Nat.{ℕ, zero, suc, ◌+◌, ◌-◌, ◌*◌, ◌≤◌, ◌<◌, min}
 use native.Mathlib.Omega.{arith}
 use mathlib.Core.Bool.{Bool, true, false}
 use mathlib.Core.List.{List, [], ◌∷◌, ◌++◌, append-nil, append_assoc}
@@ -29,13 +29,13 @@ use Rattle.bodies.proofs.Holding.{Held, held-before, held_at, fills}
 
 -- ---- one turn of the loop
 
-pub function_count-in : (n : ℕ) → n < 8 → function_count n ≡ n
+pub function_count-min : (n : ℕ) → min n 8 ≡ function_count n
 unfolding function_count
-function_count-in n l = simp (lt-ltb n 8 l)
-
-pub function_count-out : (n : ℕ) → 8 ≤ n → function_count n ≡ 8
-unfolding function_count
-function_count-out n l = simp (le-ltb n 8 l)
+function_count-min n = by (ltb n 8) refl
+  where
+    by : (t : Bool) → ltb n 8 ≡ t → min n 8 ≡ pick t n 8
+    by true e = let l = ltb-true n 8 e in omega arith
+    by false e = let l = ltb-false n 8 e in omega arith
 
 pub body_at-in : (s : List ℕ) (d : ℕ) → d < 8192 → body_at s d ≡ d + 2 + get_or s d 0
 unfolding body_at

@@ -3,11 +3,11 @@
 #![tactic(auto)]
 
 ghost use Rattle.std.specs.Prelude.{◌≡◌};
-ghost use Rattle.pseudocode.specs.Filling.{first_word, filling, filled};
+ghost use Rattle.pseudocode.specs.Filling.{kind_number, filling, filled};
 ghost use Rattle.bodies.specs.Filling.{store, after, fill_result, fill_in_turn, fill_if, fill_if_else, fill_at};
 ghost use Rattle.bodies.specs.Laying.{body_at, function_count, lay_at, decode, fetch_at};
 
-use pseudocode::Filled;
+use pseudocode::{Filled, Kind};
 use sheet::byte_at;
 
 // An instruction of a body. An expression stands by its place in the sheet.
@@ -25,46 +25,16 @@ pub struct Bodies {
     pub ends: [usize; 8],
 }
 
-// The kinds of instructions in the code table.
-const SET: u8 = 1;
-
-const GO: u8 = 3;
-
-const IFNOT: u8 = 4;
-
-// A byte as a place.
-fn wide(b: u8) -> usize
-    ensures { result ≡ b }
-{
-    b as usize
-}
-
-// A word as a place.
-fn wide_word(w: u16) -> usize
-    ensures { result ≡ w }
-{
-    w as usize
-}
-
-// The first word of an instruction: its kind, and the place of its expression.
-fn first_word(kind: u8, at: usize) -> u16
-    ensures { result ≡ first_word kind at }
-{
-    let k = kind % 8;
-    let p = at % 8192;
-    k as u16 + 8 * (p as u16)
-}
-
 // Stores an instruction at a place; past the table nothing.
-fn store(code: &mut [u16; 8192], place: usize, kind: u8, at: usize, goal: usize)
-    ensures { code.new ≡ store place kind at goal code.old }
+fn store(code: &mut [u16; 8192], place: usize, kind: Kind, at: usize, goal: usize)
+    ensures { code.new ≡ store place (kind_number kind) at goal code.old }
 {
     if 4096 <= place {
         return;
     }
     let i = 2 * place;
     let g = goal % 65536;
-    code[i] = first_word(kind, at);
+    code[i] = pseudocode::first_word(kind, at);
     code[i + 1] = g as u16;
 }
 
@@ -86,7 +56,7 @@ fn fill_result(
     ensures { filled result code.new ≡ fill_result sheet.now definitions.now (filling at place code.old) }
 {
     let next = pseudocode::skip_expr(sheet, definitions, at, 16);
-    store(code, place, SET, at, 0);
+    store(code, place, Kind::Set, at, 0);
     Filled {
         next,
         place: after(place),
@@ -124,7 +94,7 @@ fn fill_if(
     let inside = pseudocode::skip_expr(sheet, definitions, at, 16);
     let first = after(place);
     let a = fill_body(sheet, definitions, inside, depth, first, code);
-    store(code, place, IFNOT, at, a.place);
+    store(code, place, Kind::IfNot, at, a.place);
     a
 }
 
@@ -145,8 +115,8 @@ fn fill_if_else(
     let a = fill_body(sheet, definitions, inside, depth, first, code);
     let second = after(a.place);
     let b = fill_body(sheet, definitions, a.next, depth, second, code);
-    store(code, a.place, GO, 0, b.place);
-    store(code, place, IFNOT, at, second);
+    store(code, a.place, Kind::Go, 0, b.place);
+    store(code, place, Kind::IfNot, at, second);
     b
 }
 
@@ -162,17 +132,10 @@ fn fill_body(
 ) -> Filled
     ensures { filled result code.new ≡ fill_at sheet.now definitions.now depth (filling at place code.old) }
 {
-    if depth == 0 {
+    if depth == 0 || 8192 <= at || 4096 <= place {
         return Filled { next: at, place };
     }
-    if 8192 <= at {
-        return Filled { next: at, place };
-    }
-    if 4096 <= place {
-        return Filled { next: at, place };
-    }
-    let map = byte_at(sheet, at);
-    match map {
+    match byte_at(sheet, at) {
         0x00 => Filled {
             next: at + 1,
             place,
@@ -190,7 +153,7 @@ fn body_at(sheet: &[u8], definition: usize) -> usize
     ensures { result ≡ body_at sheet.now definition }
 {
     if definition < 8192 {
-        definition + 2 + wide(byte_at(sheet, definition))
+        definition + 2 + byte_at(sheet, definition) as usize
     } else {
         definition
     }
@@ -200,7 +163,7 @@ fn body_at(sheet: &[u8], definition: usize) -> usize
 fn function_count(functions: u8) -> usize
     ensures { result ≡ function_count functions }
 {
-    if functions < 8 { wide(functions) } else { 8 }
+    (functions as usize).min(8)
 }
 
 // Fills the code of each function's body, one after the other, and gives where each begins and ends.
@@ -218,14 +181,12 @@ pub fn fill_bodies(
     let mut ends = [0usize; 8];
     let mut place: usize = 0;
     let count = function_count(functions);
-    let mut k: usize = 0;
-    while k < count {
+    for k in 0..count {
         let at = body_at(sheet, definitions[k]);
         let f = fill_body(sheet, definitions, at, 64, place, code);
         starts[k] = place;
         ends[k] = f.place;
         place = f.place;
-        k += 1;
     }
     Bodies { starts, ends }
 }
@@ -237,11 +198,11 @@ fn decode(w: u16, x: u16) -> Move
     let kind = w % 8;
     let at = w / 8;
     match kind {
-        1 => Move::Set(wide_word(at)),
-        3 => Move::Go(wide_word(x)),
+        1 => Move::Set(at as usize),
+        3 => Move::Go(x as usize),
         _ => Move::IfNot {
-            goal: wide_word(x),
-            at: wide_word(at),
+            goal: x as usize,
+            at: at as usize,
         },
     }
 }

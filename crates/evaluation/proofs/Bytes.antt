@@ -2,6 +2,7 @@
 use mathlib.Core.Path.{◌≡◌, refl, sym, ap, ◌∙◌}
 use mathlib.Core.Bool.{Bool, true, false}
 use mathlib.Core.List.{List}
+use mathlib.Core.Logic.{◌⊎◌, inl, inr}
 use Prim.Native.Nat.{ℕ, zero, suc, ◌+◌, ◌-◌, ◌≤◌, ◌<◌}
 use native.Mathlib.Omega.{arith}
 use native.Mathlib.Numerals.{sub-one}
@@ -73,6 +74,10 @@ module _ (calling : Calling) (s ws : List ℕ) (env : ℕ → Value) (p : ℕ) w
   unfolding node_at inner_node
   work_at-end d h l = work_at-node d h (get_or-eq_default s 0 l)
 
+  pub work_at-stop : (d : ℕ) → (d ≡ 0) ⊎ ((d ≡ 0 → ⊥) × (length s ≤ p)) → work_at calling d s ws env p ≡ nothing
+  work_at-stop d (inl e) = work_at-deep d e
+  work_at-stop d (inr e) = work_at-end d e.0 e.1
+
 -- ---- what isn't run
 
 module _ (skip : ℕ → ℕ) (n p : ℕ) where
@@ -98,6 +103,10 @@ module _ (s ds : List ℕ) (p : ℕ) where
   skip_at-end zero l = refl
   skip_at-end (suc d) l = rw (le-ltb p (length s) l)
 
+  pub skip_at-stop : (d : ℕ) → (d ≡ 0) ⊎ ((d ≡ 0 → ⊥) × (length s ≤ p)) → p ≡ skip_at d s ds p
+  skip_at-stop d (inl e) = skip_at-deep d e
+  skip_at-stop d (inr e) = skip_at-end d e.1
+
   skip_at-node : (d : ℕ) → (d ≡ 0 → ⊥) → p < length s → skip_at d s ds p ≡ skip_node (skip_at (d - 1) s ds) s ds (get_or s p 0) p
   unfolding skip_at
   skip_at-node zero h l = absurd (h refl)
@@ -122,6 +131,10 @@ module _ (s ds : List ℕ) (p : ℕ) where
   skip_body-end zero l = refl
   skip_body-end (suc d) l = rw (le-ltb p (length s) l)
 
+  pub skip_body-stop : (d : ℕ) → (d ≡ 0) ⊎ ((d ≡ 0 → ⊥) × (length s ≤ p)) → p ≡ skip_body d s ds p
+  skip_body-stop d (inl e) = skip_body-deep d e
+  skip_body-stop d (inr e) = skip_body-end d e.1
+
   pub skip_body-form : (d : ℕ) {m : ℕ} → (d ≡ 0 → ⊥) → p < length s → get_or s p 0 ≡ m →
       skip_body d s ds p ≡ skip_form (skip_body (d - 1) s ds) (skip_at 16 s ds) m p
   unfolding skip_body
@@ -139,6 +152,10 @@ module _ (calling : Calling) (s ds ws cs : List ℕ) (p : ℕ) where
   unfolding run_at
   run_at-end zero l = refl
   run_at-end (suc d) l = rw (le-ltb p (length s) l)
+
+  pub run_at-stop : (d : ℕ) → (d ≡ 0) ⊎ ((d ≡ 0 → ⊥) × (length s ≤ p)) → record { cells = cs; next = p } ≡ run_at calling d s ds ws cs p
+  run_at-stop d (inl e) = run_at-deep d e
+  run_at-stop d (inr e) = run_at-end d e.1
 
   pub run_at-form : (d : ℕ) {m : ℕ} → (d ≡ 0 → ⊥) → p < length s → get_or s p 0 ≡ m →
       run_at calling d s ds ws cs p
@@ -238,3 +255,8 @@ call-answer s ds operand n p k e l h x =
 pub call-nowhere : (s ds : List ℕ) (operand : ℕ → Evaluated) (n p k : ℕ) {d : ℕ} → d ≡ definition_at ds n → n < k → length s ≤ d →
     nothing ≡ calls_at k s ds operand n p
 call-nowhere s ds operand n p k e l h = sym (calls-nowhere s ds operand n p k l (rw (← e) h))
+
+pub call-stop : (s ds : List ℕ) (operand : ℕ → Evaluated) (n p k : ℕ) {d : ℕ} → d ≡ definition_at ds n
+    → (k ≤ n) ⊎ ((n < k) × (length s ≤ d)) → nothing ≡ calls_at k s ds operand n p
+call-stop s ds operand n p k e (inl l) = sym (calls-none s ds operand n p k l)
+call-stop s ds operand n p k e (inr l) = call-nowhere s ds operand n p k e l.0 l.1

@@ -5,12 +5,11 @@
 
 ghost use Rattle.std.specs.Prelude.{◌≡◌, ◌+◌, ◌-◌, ◌<◌, length, get_or, drop, set};
 ghost use Rattle.values.specs.Cells.{cell_at};
-ghost use Rattle.sheet.specs.Parts.{definition_at};
 ghost use Rattle.evaluation.specs.Bytes.{nothing, variable_node, unary_node, binary_node, conditional_node, inner_node};
 ghost use Rattle.evaluation.specs.Bytes.{passed, operands_of, skip_at, skip_body, result_form, turn_form, if_form, else_form};
 ghost use Rattle.evaluation.specs.Bytes.{arguments_at, calls_at, eval_in, run_in};
 
-use sheet::{byte_at, word_at};
+use sheet::{byte_at, definition_at, word_at};
 use values::Value;
 
 // A value, the width of the expression that has it, and the place after that expression.
@@ -46,13 +45,6 @@ fn nothing() -> Evaluated
     }
 }
 
-// The place of a definition, 0 past the last.
-fn definition_at(definitions: &[usize; 8], n: u8) -> usize
-    ensures { result ≡ definition_at definitions.now n }
-{
-    if n < 8 { definitions[n as usize] } else { 0 }
-}
-
 // The width of a variable, whose widths stand from a place on.
 fn width_at(sheet: &[u8], widths: usize, v: u8) -> u8
     ensures { result ≡ get_or (drop widths sheet.now) v 0 }
@@ -67,11 +59,7 @@ fn width_at(sheet: &[u8], widths: usize, v: u8) -> u8
 fn value_at(cells: &[u64], v: usize) -> Value
     ensures { result ≡ cell_at cells.now v }
 {
-    if v < cells.len() {
-        values::load(cells[v])
-    } else {
-        values::load(0)
-    }
+    values::load(cells.get(v).copied().unwrap_or(0))
 }
 
 // The cells with one of them changed.
@@ -115,10 +103,7 @@ fn skip_operands(sheet: &[u8], definitions: &[usize; 8], at: usize, depth: u8, c
 fn skip_expr(sheet: &[u8], definitions: &[usize; 8], at: usize, depth: u8) -> usize
     ensures { result ≡ skip_at depth sheet.now definitions.now at }
 {
-    if depth == 0 {
-        return at;
-    }
-    if sheet.len() <= at {
+    if depth == 0 || sheet.len() <= at {
         return at;
     }
     let map = sheet[at];
@@ -133,10 +118,7 @@ fn skip_expr(sheet: &[u8], definitions: &[usize; 8], at: usize, depth: u8) -> us
 fn skip_body(sheet: &[u8], definitions: &[usize; 8], at: usize, depth: u8) -> usize
     ensures { result ≡ skip_body depth sheet.now definitions.now at }
 {
-    if depth == 0 {
-        return at;
-    }
-    if sheet.len() <= at {
+    if depth == 0 || sheet.len() <= at {
         return at;
     }
     let map = sheet[at];
@@ -163,10 +145,9 @@ fn skip_body(sheet: &[u8], definitions: &[usize; 8], at: usize, depth: u8) -> us
 fn eval_variable(sheet: &[u8], names: Names, cells: &[u64], v: u8, next: usize) -> Evaluated
     ensures { result ≡ variable_node (drop names.widths sheet.now) (cell_at cells.now) v next }
 {
-    let widths = names.widths;
     Evaluated {
         value: value_at(cells, v as usize),
-        width: width_at(sheet, widths, v),
+        width: width_at(sheet, names.widths, v),
         next,
     }
 }
@@ -185,11 +166,9 @@ fn eval_unary(
     ensures { result ≡ unary_node (eval_in names depth sheet.now definitions.now cells.now) op at }
 {
     let a = eval_expr(sheet, definitions, names, cells, at, depth);
-    let operand = a.value;
-    let width = a.width;
     Evaluated {
-        value: values::unary(op, width, operand),
-        width: values::unary_width(op, width),
+        value: values::unary(op, a.width, a.value),
+        width: values::unary_width(op, a.width),
         next: a.next,
     }
 }
@@ -209,12 +188,9 @@ fn eval_binary(
 {
     let a = eval_expr(sheet, definitions, names, cells, at, depth);
     let b = eval_expr(sheet, definitions, names, cells, a.next, depth);
-    let left = a.value;
-    let right = b.value;
-    let width = a.width;
     Evaluated {
-        value: values::binary(op, width, left, right),
-        width: values::binary_width(op, width),
+        value: values::binary(op, a.width, a.value, b.value),
+        width: values::binary_width(op, a.width),
         next: b.next,
     }
 }
@@ -234,11 +210,8 @@ fn eval_conditional(
     let c = eval_expr(sheet, definitions, names, cells, at, depth);
     let a = eval_expr(sheet, definitions, names, cells, c.next, depth);
     let b = eval_expr(sheet, definitions, names, cells, a.next, depth);
-    let condition = c.value;
-    let first = a.value;
-    let second = b.value;
     Evaluated {
-        value: values::choice(condition, first, second),
+        value: values::choice(c.value, a.value, b.value),
         width: a.width,
         next: b.next,
     }
@@ -262,10 +235,9 @@ fn eval_arguments(
         return frame;
     }
     let e = eval_expr(sheet, definitions, names, cells, frame.next, depth);
-    let value = e.value;
     let row = frame.cells;
     let filled = Frame {
-        cells: put(row, k, values::store(value)),
+        cells: put(row, k, values::store(e.value)),
         next: e.next,
     };
     eval_arguments(
@@ -294,10 +266,7 @@ fn eval_call(
     ensures { result ≡ calls_at names.callable sheet.now definitions.now (eval_in names depth sheet.now definitions.now cells.now) n at }
 {
     let place = definition_at(definitions, n);
-    if names.callable <= n {
-        return nothing();
-    }
-    if sheet.len() <= place {
+    if names.callable <= n || sheet.len() <= place {
         return nothing();
     }
     let count = byte_at(sheet, place);
@@ -371,10 +340,7 @@ pub fn eval_expr(
 ) -> Evaluated
     ensures { result ≡ eval_in names depth sheet.now definitions.now cells.now at }
 {
-    if depth == 0 {
-        return nothing();
-    }
-    if sheet.len() <= at {
+    if depth == 0 || sheet.len() <= at {
         return nothing();
     }
     let map = sheet[at];
@@ -414,9 +380,8 @@ fn run_result(
 {
     let target = byte_at(sheet, at + 1);
     let e = eval_expr(sheet, definitions, names, &cells, at + 2, 16);
-    let value = e.value;
     Frame {
-        cells: put(cells, target, values::store(value)),
+        cells: put(cells, target, values::store(e.value)),
         next: e.next,
     }
 }
@@ -453,8 +418,7 @@ fn run_if(
     ensures { result ≡ if_form (eval_in names 16 sheet.now definitions.now) (run_in names depth sheet.now definitions.now) (skip_body depth sheet.now definitions.now) cells at }
 {
     let e = eval_expr(sheet, definitions, names, &cells, at + 1, 16);
-    let condition = e.value;
-    if values::holds(condition) {
+    if values::holds(e.value) {
         return run_body(sheet, definitions, names, cells, e.next, depth);
     }
     Frame {
@@ -477,8 +441,7 @@ fn run_if_else(
     ensures { result ≡ else_form (eval_in names 16 sheet.now definitions.now) (run_in names depth sheet.now definitions.now) (skip_body depth sheet.now definitions.now) cells at }
 {
     let e = eval_expr(sheet, definitions, names, &cells, at + 1, 16);
-    let condition = e.value;
-    if values::holds(condition) {
+    if values::holds(e.value) {
         let a = run_body(sheet, definitions, names, cells, e.next, depth);
         let row = a.cells;
         return Frame {
@@ -502,10 +465,7 @@ fn run_body(
 ) -> Frame
     ensures { result ≡ run_in names depth sheet.now definitions.now cells at }
 {
-    if depth == 0 {
-        return Frame { cells, next: at };
-    }
-    if sheet.len() <= at {
+    if depth == 0 || sheet.len() <= at {
         return Frame { cells, next: at };
     }
     let map = sheet[at];

@@ -6,9 +6,8 @@ use Prim.Native.Nat.{ℕ, ◌+◌, ◌<◌, ◌≤◌}
 use native.Mathlib.Numerals.{add-one}
 use borrow.Author.Tests.{lt-ltb, le-ltb, eq-eqb, ne_eqb}
 use lib.ListN.{length, get_or, drop, drop_of_length-le}
-use lib.Dec.{eqb}
 use lib.Seq.{drop-cons}
-use Rattle.hextext.specs.Characters.{digit_of, is_digit, is_blank, is_gap, is_text}
+use Rattle.hextext.specs.Characters.{digit_of, is_digit, is_gap, is_text}
 
 -- ---- is_digit, from the digit's value
 
@@ -19,29 +18,6 @@ digit-is b h = lt-ltb _ _ h
 pub digit_not : (b : ℕ) → 16 ≤ digit_of b → is_digit b ≡ false
 unfolding is_digit
 digit_not b h = le-ltb _ _ h
-
--- ---- is_blank, is_gap, by row
-
-module _ (b : ℕ) where
-  pub blank-space : b ≡ 32 → true ≡ is_blank b
-  unfolding is_blank
-  blank-space e = rw (eq-eqb b 32 e)
-
-  pub blank-tab : (b ≡ 32 → ⊥) → b ≡ 9 → true ≡ is_blank b
-  unfolding is_blank
-  blank-tab d e = rw (ne_eqb b 32 d, eq-eqb b 9 e)
-
-  pub blank-return : (b ≡ 32 → ⊥) → (b ≡ 9 → ⊥) → eqb b 13 ≡ is_blank b
-  unfolding is_blank
-  blank-return d e = rw (ne_eqb b 32 d, ne_eqb b 9 e)
-
-  pub gap-end : b ≡ 10 → true ≡ is_gap b
-  unfolding is_gap
-  gap-end e = rw (eq-eqb b 10 e)
-
-  pub gap-blank : (b ≡ 10 → ⊥) → is_blank b ≡ is_gap b
-  unfolding is_gap
-  gap-blank e = rw (ne_eqb b 10 e)
 
 -- ---- is_text, from the i-th character on
 

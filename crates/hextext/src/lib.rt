@@ -41,71 +41,46 @@ pub struct Place {
 
 // ---- characters
 
-// The value of a hex digit, 16 for another character.
+// The value of a hex digit, 16 for another character: a number, as its definition and six crates have it.
+#[tactic(auto, unfolding(crate::specs::Characters::digit_of))]
 pub fn digit_of(b: u8) -> u8
     ensures { result ≡ digit_of b }
 {
-    if b < 48 {
-        return 16;
+    match b {
+        b'0'..=b'9' => b - b'0',
+        b'A'..=b'F' => b - b'A' + 10,
+        b'a'..=b'f' => b - b'a' + 10,
+        _ => 16,
     }
-    if b < 58 {
-        return b - 48;
-    }
-    if b < 65 {
-        return 16;
-    }
-    if b < 71 {
-        return b - 55;
-    }
-    if b < 97 {
-        return 16;
-    }
-    if b < 103 {
-        return b - 87;
-    }
-    16
 }
 
 // Is it a blank within a line: a space, a tab or CR?
+#[tactic(auto, unfolding(crate::specs::Characters::is_blank))]
 pub fn is_blank(b: u8) -> bool
     ensures { result ≡ is_blank b }
 {
-    if b == 32 {
-        return true;
-    }
-    if b == 9 {
-        return true;
-    }
-    b == 13
+    b == b' ' || b == b'\t' || b == b'\r'
 }
 
 // Is it a blank or a line end?
+#[tactic(auto, unfolding(crate::specs::Characters::is_gap))]
 fn is_gap(b: u8) -> bool
     ensures { result ≡ is_gap b }
 {
-    if b == 10 {
-        return true;
-    }
-    is_blank(b)
+    b == b'\n' || is_blank(b)
 }
 
 // Is this hex text? It is if its first character that is neither a blank nor a line end is a hex digit or `#`.
 pub fn is_text(bytes: &[u8]) -> bool
     ensures { result ≡ is_text bytes.now }
 {
-    let mut i = 0;
-    while i < bytes.len() {
-        let b = bytes[i];
-        if b == 35 {
-            return true;
-        }
-        if digit_of(b) < 16 {
+    for &b in bytes {
+        if b == b'#' || digit_of(b) < 16 {
             return true;
         }
         if !is_gap(b) {
             return false;
         }
-        i += 1;
     }
     false
 }
@@ -142,10 +117,7 @@ fn next_line(s: Scan) -> Scan
         line: more(s.line),
         column: 1,
         comment: false,
-        half: s.half,
-        high: s.high,
-        count: s.count,
-        error: s.error,
+        ..s
     }
 }
 
@@ -154,13 +126,9 @@ fn along(comment: bool, s: Scan) -> Scan
     ensures { result ≡ along comment s }
 {
     Scan {
-        line: s.line,
         column: more(s.column),
         comment,
-        half: s.half,
-        high: s.high,
-        count: s.count,
-        error: s.error,
+        ..s
     }
 }
 
@@ -169,13 +137,9 @@ fn first(d: u8, s: Scan) -> Scan
     ensures { result ≡ first d s }
 {
     Scan {
-        line: s.line,
-        column: s.column,
-        comment: s.comment,
         half: true,
         high: d,
-        count: s.count,
-        error: s.error,
+        ..s
     }
 }
 
@@ -184,13 +148,10 @@ fn second(s: Scan) -> Scan
     ensures { result ≡ second s }
 {
     Scan {
-        line: s.line,
         column: more(more(s.column)),
-        comment: s.comment,
         half: false,
-        high: s.high,
         count: more(s.count),
-        error: s.error,
+        ..s
     }
 }
 
@@ -198,15 +159,7 @@ fn second(s: Scan) -> Scan
 fn failed(error: u8, s: Scan) -> Scan
     ensures { result ≡ failed error s }
 {
-    Scan {
-        line: s.line,
-        column: s.column,
-        comment: s.comment,
-        half: s.half,
-        high: s.high,
-        count: s.count,
-        error,
-    }
+    Scan { error, ..s }
 }
 
 // Past one character.
@@ -214,7 +167,7 @@ fn step(s: Scan, b: u8) -> Scan
     ensures { result ≡ step s b }
 {
     if s.comment {
-        if b == 10 {
+        if b == b'\n' {
             return next_line(s);
         }
         return along(true, s);
@@ -229,10 +182,10 @@ fn step(s: Scan, b: u8) -> Scan
     if d < 16 {
         return first(d, s);
     }
-    if b == 10 {
+    if b == b'\n' {
         return next_line(s);
     }
-    if b == 35 {
+    if b == b'#' {
         return along(true, s);
     }
     if is_blank(b) {
@@ -244,16 +197,11 @@ fn step(s: Scan, b: u8) -> Scan
 // ---- decoding
 
 // Does the character make a byte whole?
+#[tactic(auto, unfolding(crate::specs::Decoding::completes, crate::specs::Characters::is_digit))]
 fn completes(s: Scan, b: u8) -> bool
     ensures { result ≡ completes s b }
 {
-    if s.comment {
-        return false;
-    }
-    if s.half {
-        return digit_of(b) < 16;
-    }
-    false
+    !s.comment && s.half && digit_of(b) < 16
 }
 
 // The byte that the character makes whole, if it makes one, put in its place.
@@ -272,26 +220,19 @@ fn store(bytes: &mut [u8; 8193], s: Scan, b: u8)
 }
 
 // Does decoding stop here: at an error, or with 8,193 bytes?
+#[tactic(auto, unfolding(crate::specs::Decoding::full))]
 fn full(s: Scan) -> bool
     ensures { result ≡ full s }
 {
-    if s.error == 0 {
-        return 8193 <= s.count;
-    }
-    true
+    s.error != 0 || 8193 <= s.count
 }
 
 // The error that a scan which ends here has. A digit that still waits for its second is one.
+#[tactic(auto, unfolding(crate::specs::Decoding::error_of))]
 fn error_of(s: Scan) -> u8
     ensures { result ≡ error_of s }
 {
-    if s.error != 0 {
-        return s.error;
-    }
-    if s.half {
-        return 2;
-    }
-    0
+    if s.error == 0 && s.half { 2 } else { s.error }
 }
 
 // What decoding gives where it ends.
@@ -312,15 +253,12 @@ pub fn decode(text: &[u8], bytes: &mut [u8; 8193]) -> Decoded
         × (bytes.new ≡ sets bytes.old 0 (bytes_of text.now)) }
 {
     let mut s = start();
-    let mut i = 0;
-    while i < text.len() {
+    for &b in text {
         if full(s) {
             return ending(s);
         }
-        let b = text[i];
         store(bytes, s, b);
         s = step(s, b);
-        i += 1;
     }
     ending(s)
 }
@@ -328,16 +266,11 @@ pub fn decode(text: &[u8], bytes: &mut [u8; 8193]) -> Decoded
 // ---- where a byte stands
 
 // Is the first digit of byte `n` read, or an error met?
+#[tactic(auto, unfolding(crate::specs::Decoding::found))]
 fn found(n: usize, s: Scan) -> bool
     ensures { result ≡ found n s }
 {
-    if s.error == 0 {
-        if s.half {
-            return s.count == n;
-        }
-        return false;
-    }
-    true
+    s.error != 0 || s.half && s.count == n
 }
 
 // Where the scan stands.
@@ -355,14 +288,11 @@ pub fn spot(text: &[u8], n: usize) -> Place
     ensures { result ≡ spot_of text.now n }
 {
     let mut s = start();
-    let mut i = 0;
-    while i < text.len() {
+    for &b in text {
         if found(n, s) {
             return spotted(s);
         }
-        let b = text[i];
         s = step(s, b);
-        i += 1;
     }
     spotted(s)
 }

@@ -29,11 +29,9 @@ fn print_code(
     ensures { filled text.new result ≡ puts (filled text.old pos) (code_lines sheet.now definitions.now code.now thread size 0) }
 {
     let mut p = pos;
-    let mut place = 0;
-    while place < size {
+    for place in 0..size {
         let i = pseudocode::fetch(sheet, code, thread, place);
         p = text::print_line(sheet, definitions, thread, place, i, text, p);
-        place += 1;
     }
     p
 }
@@ -42,7 +40,7 @@ fn print_code(
 fn size_at(sizes: [usize; 8], thread: usize) -> usize
     ensures { result ≡ get_or sizes thread 0 }
 {
-    if thread < 8 { sizes[thread] } else { 0 }
+    sizes.get(thread).copied().unwrap_or(0)
 }
 
 // The lines of the first threads.
@@ -58,11 +56,9 @@ fn print_threads(
     ensures { filled text.new result ≡ puts (filled text.old pos) (thread_lines sheet.now definitions.now code.now sizes threads 0) }
 {
     let mut p = pos;
-    let mut thread = 0;
-    while thread < threads {
+    for thread in 0..threads {
         let size = size_at(sizes, thread);
         p = print_code(sheet, definitions, code, thread, size, text, p);
-        thread += 1;
     }
     p
 }

@@ -1,7 +1,7 @@
 -- The law of the code table, specs/Translated: for a sheet that is accepted, what is fetched at each place of each thread is the
 -- instruction at that place of the thread's translation, and the sizes are those of the threads (`compile-law`).
 use mathlib.Core.Path.{◌≡◌, refl, sym, ap, ◌∙◌, subst}
-use Prim.Native.Nat.{ℕ, zero, suc, ◌+◌, ◌-◌, ◌≤◌, ◌<◌}
+use Prim.Native.Nat.{ℕ, zero, suc, ◌+◌, ◌-◌, ◌≤◌, ◌<◌, min}
 use native.Mathlib.Omega.{arith}
 use mathlib.Core.Bool.{Bool, true, false}
 use mathlib.Core.List.{List, [], ◌∷◌}
@@ -41,6 +41,14 @@ thread_count-most n = by (ltb n 8) refl
     by : (x : Bool) → ltb n 8 ≡ x → pick x n 8 ≤ 8
     by true e = let l = ltb-true n 8 e in omega arith
     by false e = omega arith
+
+pub thread_count-min : (n : ℕ) → min n 8 ≡ thread_count n
+unfolding thread_count
+thread_count-min n = by (ltb n 8) refl
+  where
+    by : (x : Bool) → ltb n 8 ≡ x → min n 8 ≡ pick x n 8
+    by true e = let l = ltb-true n 8 e in omega arith
+    by false e = let l = ltb-false n 8 e in omega arith
 
 pub thread_count-same : (n : ℕ) → n ≤ 8 → thread_count n ≡ n
 unfolding thread_count

@@ -4,6 +4,7 @@ use Prim.Native.Nat.{ℕ, zero, suc, ◌+◌, ◌*◌, ◌/◌, ◌%◌, ◌≤�
 use native.Mathlib.Omega.{arith}
 use mathlib.Core.Bool.{Bool, true, false}
 use mathlib.Core.List.{List, [], ◌∷◌}
+use mathlib.Core.Logic.{◌⊎◌, inl, inr}
 use lib.ListN.{length, get_or, get_or-eq_default}
 use lib.Dec.{ltb}
 use borrow.Author.Tests.{lt-ltb, le-ltb, ltb-true, ltb-false, ne_eqb}
@@ -140,6 +141,10 @@ module _ (s code : List ℕ) (t n : ℕ) where
   pub fetch-place : t < 8 → 256 ≤ n → fetch_at s code t n ≡ Act (Go 0)
   unfolding fetch_at
   fetch-place h l = simp (lt-ltb t 8 h, le-ltb n 256 l)
+
+  pub fetch-outside : (8 ≤ t) ⊎ ((t < 8) × (256 ≤ n)) → fetch_at s code t n ≡ Act (Go 0)
+  fetch-outside (inl h) = fetch-thread h
+  fetch-outside (inr h) = fetch-place h.0 h.1
 
   -- The same two words are the same instruction.
   pub fetch-same : (code' : List ℕ) → get_or code' (cell t n) 0 ≡ get_or code (cell t n) 0

@@ -1,6 +1,6 @@
 -- Laws of filling the code table: one store, the ways through each form, and the table left as it was outside.
 use mathlib.Core.Path.{◌≡◌, refl, ap, ◌∙◌}
-use mathlib.Core.Logic.{◌≢◌}
+use mathlib.Core.Logic.{◌≢◌, ◌⊎◌, inl, inr}
 use Prim.Native.Nat.{ℕ, zero, suc, ◌+◌, ◌-◌, ◌%◌, ◌≤◌, ◌<◌}
 use native.Mathlib.Omega.{arith}
 use native.Mathlib.Numerals.{sub-one}
@@ -40,6 +40,10 @@ module _ (t n kind at goal : ℕ) (code : List ℕ) where
   pub store-place : t < 8 → 256 ≤ n → store t n kind at goal code ≡ code
   unfolding store
   store-place h l = simp (lt-ltb t 8 h, le-ltb n 256 l)
+
+  pub store-outside : (8 ≤ t) ⊎ ((t < 8) × (256 ≤ n)) → store t n kind at goal code ≡ code
+  store-outside (inl h) = store-thread h
+  store-outside (inr h) = store-place h.0 h.1
 
   pub length-store : length (store t n kind at goal code) ≡ length code
   unfolding store
@@ -130,6 +134,11 @@ module _ (s ds : List ℕ) (t : ℕ) (f : Filling) where
   unfolding fill_at
   fill-full zero h l = refl
   fill-full (suc d) h l = simp (lt-ltb f.next 8192 h, le-ltb f.place 256 l)
+
+  pub fill-stop : (d : ℕ) → (d ≡ 0) ⊎ (((d ≡ 0 → ⊥) × (8192 ≤ f.next)) ⊎ ((d ≡ 0 → ⊥) × (f.next < 8192) × (256 ≤ f.place))) → fill_at s ds t d f ≡ f
+  fill-stop d (inl e) = fill_none d e
+  fill-stop d (inr (inl e)) = fill-far d e.1
+  fill-stop d (inr (inr e)) = fill-full d e.1 e.2
 
   fill-read : (d : ℕ) (k : Res Form) → (d ≡ 0 → ⊥) → f.next < 8192 → f.place < 256 → form_of (get_or s f.next 0) f.next ≡ k
       → fill_at s ds t d f ≡ fill_form s ds t (fill_at s ds t (d - 1)) f k

@@ -1,14 +1,15 @@
 -- Laws of skipping an expression: one node, how many arguments a call has, and that skipping ends where the reader ends.
 use mathlib.Core.Path.{◌≡◌, refl, sym, ap, ◌∙◌}
-use Prim.Native.Nat.{ℕ, zero, suc, ◌+◌, ◌-◌, ◌≤◌, ◌<◌}
+use Prim.Native.Nat.{ℕ, zero, suc, ◌+◌, ◌-◌, ◌≤◌, ◌<◌, min}
 use native.Mathlib.Omega.{arith}
 use native.Mathlib.Numerals.{sub-one}
 use mathlib.Core.Bool.{Bool, true, false}
 use mathlib.Core.List.{List, [], ◌∷◌, ◌++◌}
+use mathlib.Core.Logic.{◌⊎◌, inl, inr}
 use lib.ListN.{length, get_or, set, length-append, length-set, get_or-append}
 use lib.Seq.{sets, get_or_at, get_or-set_same, get_or-set_other, length-take-le}
 use lib.Dec.{ltb, leb}
-use borrow.Author.Tests.{lt-ltb, le-ltb, ltb-true, ltb-false, le-leb, lt-leb, leb-true}
+use borrow.Author.Tests.{lt-ltb, le-ltb, ltb-true, ltb-false, le-leb, lt-leb, leb-true, leb-false}
 use Rattle.values.specs.Values.{pick}
 use Rattle.sheet.specs.Reading.{Res, ok, no, within}
 use Rattle.sheet.specs.Expression.{Expr, Function, no_function, Scope, Parsed, Passed, Kind, a_variable, a_constant, an_unknown, a_unary, a_binary, a_conditional, a_call, kind_of, read_expr, tree, located}
@@ -45,6 +46,14 @@ module _ (s ds : List ℕ) (n : ℕ) (h : n < 8) where
   unfolding argument_count least
   arguments-cut e l = rw (lt-ltb n 8 h, ← e, lt-leb _ 4 l) refl
 
+  pub arguments-least : {c : ℕ} → c ≡ get_or s (get_or ds n 0) 0 → min c 4 ≡ argument_count s ds n
+  unfolding argument_count least
+  arguments-least {c} e = rw (lt-ltb n 8 h, ← e) (by (leb c 4) refl)
+    where
+      by : (x : Bool) → leb c 4 ≡ x → min c 4 ≡ pick x c 4
+      by true q = let l = leb-true c 4 q in omega arith
+      by false q = let l = leb-false c 4 q in omega arith
+
 pub arguments-most : (s ds : List ℕ) (n : ℕ) → argument_count s ds n ≤ 4
 unfolding argument_count least
 arguments-most s ds n = by (ltb n 8) (leb (get_or s (get_or ds n 0) 0) 4) refl
@@ -65,6 +74,10 @@ module _ (s ds : List ℕ) (p : ℕ) where
   unfolding skip_at
   skip-far zero h = refl
   skip-far (suc d) h = simp (le-ltb _ _ h)
+
+  pub skip-stop : (d : ℕ) → (d ≡ 0) ⊎ ((d ≡ 0 → ⊥) × (8192 ≤ p)) → skip_at d s ds p ≡ p
+  skip-stop d (inl e) = skip-none d e
+  skip-stop d (inr e) = skip-far d e.1
 
   skip-node : (d : ℕ) (k : Res Kind) → (d ≡ 0 → ⊥) → p < 8192 → kind_of every_map (get_or s p 0) p ≡ k
       → skip_at d s ds p ≡ skip_node s ds (skip_at (d - 1) s ds) p k

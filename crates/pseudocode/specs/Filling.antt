@@ -5,6 +5,7 @@ use Rattle.values.specs.Values.{pick}
 use Rattle.sheet.specs.Reading.{Res, ok, no}
 use Rattle.sheet.specs.Statement.{Form, an_empty, an_assign, a_later, a_sequence, an_if, an_if_else, a_while, a_forever, a_wait, form_of}
 use Rattle.pseudocode.specs.declared.Filled.{Filled}
+use Rattle.pseudocode.specs.declared.Kind as Kind
 use Rattle.pseudocode.specs.Skipping.{skip_at}
 
 -- ---- kinds of instructions
@@ -23,6 +24,14 @@ go_kind = 3
 
 abbrev pub ifnot_kind : ℕ
 ifnot_kind = 4
+
+-- The number of a kind as the code names it.
+abbrev pub kind_number : Kind.Kind → ℕ
+kind_number Kind.TheVariants.Wait = wait_kind
+kind_number Kind.TheVariants.Set = set_kind
+kind_number Kind.TheVariants.Later = later_kind
+kind_number Kind.TheVariants.Go = go_kind
+kind_number Kind.TheVariants.IfNot = ifnot_kind
 
 -- ---- store: the table with an instruction at place n of a thread
 

@@ -4,7 +4,7 @@
 
 ghost use Rattle.std.specs.Prelude.{◌≡◌, ◌+◌};
 ghost use Rattle.pseudocode.specs.Skipping.{argument_count, skip_arguments, skip_at};
-ghost use Rattle.pseudocode.specs.Filling.{first_word, store, after, emit, filling, filled, fill_assign, fill_sequence, fill_if, fill_if_else, fill_while, fill_forever, fill_at};
+ghost use Rattle.pseudocode.specs.Filling.{kind_number, first_word, store, after, emit, filling, filled, fill_assign, fill_sequence, fill_if, fill_if_else, fill_while, fill_forever, fill_at};
 ghost use Rattle.pseudocode.specs.Compiling.{thread_count, compile_at};
 ghost use Rattle.pseudocode.specs.Fetching.{term_from, terms_from, terms_at, term_at, decode, fetch_at};
 ghost use Rattle.pseudocode.specs.Instruction.{no_term};
@@ -48,22 +48,14 @@ pub struct Filled {
     pub place: usize,
 }
 
-// The kinds of instructions in the code table.
-const WAIT: u8 = 0;
-
-const SET: u8 = 1;
-
-const LATER: u8 = 2;
-
-const GO: u8 = 3;
-
-const IFNOT: u8 = 4;
-
-// A byte as a place.
-fn wide(b: u8) -> usize
-    ensures { result ≡ b }
-{
-    b as usize
+// The kinds of instructions in the code table, by their numbers there.
+#[derive(Clone, Copy, Debug, PartialEq, Eq)]
+pub enum Kind {
+    Wait,
+    Set,
+    Later,
+    Go,
+    IfNot,
 }
 
 // How many arguments a call of a function has, by its number and the places of the definitions: at most 4, past the last none.
@@ -73,8 +65,7 @@ pub fn argument_count(sheet: &[u8], definitions: &[usize; 8], n: u8) -> u8
     if 8 <= n {
         return 0;
     }
-    let count = byte_at(sheet, definitions[n as usize]);
-    if count <= 4 { count } else { 4 }
+    byte_at(sheet, definitions[n as usize]).min(4)
 }
 
 // The place after so many arguments, the first at `at`.
@@ -94,14 +85,10 @@ fn skip_arguments(sheet: &[u8], definitions: &[usize; 8], count: u8, at: usize, 
 pub fn skip_expr(sheet: &[u8], definitions: &[usize; 8], at: usize, depth: u8) -> usize
     ensures { result ≡ skip_at depth sheet.now definitions.now at }
 {
-    if depth == 0 {
+    if depth == 0 || 8192 <= at {
         return at;
     }
-    if 8192 <= at {
-        return at;
-    }
-    let map = byte_at(sheet, at);
-    match map {
+    match byte_at(sheet, at) {
         0x02 => at + 2,
         0x0C => at + 6,
         0x04 => at + 2,
@@ -124,22 +111,18 @@ pub fn skip_expr(sheet: &[u8], definitions: &[usize; 8], at: usize, depth: u8) -
 }
 
 // The first word of an instruction: its kind, and the place of its operands.
-fn first_word(kind: u8, at: usize) -> u16
-    ensures { result ≡ first_word kind at }
+pub fn first_word(kind: Kind, at: usize) -> u16
+    ensures { result ≡ first_word (kind_number kind) at }
 {
-    let k = kind % 8;
     let p = at % 8192;
-    k as u16 + 8 * (p as u16)
+    kind as u16 + 8 * (p as u16)
 }
 
 // Stores an instruction at a place of a thread; outside the table nothing.
-fn store(code: &mut [u16; 4096], thread: usize, place: usize, kind: u8, at: usize, goal: usize)
-    ensures { code.new ≡ store thread place kind at goal code.old }
+fn store(code: &mut [u16; 4096], thread: usize, place: usize, kind: Kind, at: usize, goal: usize)
+    ensures { code.new ≡ store thread place (kind_number kind) at goal code.old }
 {
-    if 8 <= thread {
-        return;
-    }
-    if 256 <= place {
+    if 8 <= thread || 256 <= place {
         return;
     }
     let i = 512 * thread + 2 * place;
@@ -160,12 +143,12 @@ fn emit(
     code: &mut [u16; 4096],
     thread: usize,
     place: usize,
-    kind: u8,
+    kind: Kind,
     at: usize,
     goal: usize,
     next: usize,
 ) -> Filled
-    ensures { filled result code.new ≡ emit thread kind at goal next (filling at place code.old) }
+    ensures { filled result code.new ≡ emit thread (kind_number kind) at goal next (filling at place code.old) }
 {
     store(code, thread, place, kind, at, goal);
     Filled {
@@ -180,15 +163,15 @@ fn fill_assign(
     definitions: &[usize; 8],
     at: usize,
     target: u8,
-    kind: u8,
+    kind: Kind,
     place: usize,
     thread: usize,
     code: &mut [u16; 4096],
 ) -> Filled
-    ensures { filled result code.new ≡ fill_assign sheet.now definitions.now thread kind target at (filling at place code.old) }
+    ensures { filled result code.new ≡ fill_assign sheet.now definitions.now thread (kind_number kind) target at (filling at place code.old) }
 {
     let next = skip_expr(sheet, definitions, at, 16);
-    emit(code, thread, place, kind, at, wide(target), next)
+    emit(code, thread, place, kind, at, target as usize, next)
 }
 
 // Fills two statements, one after the other.
@@ -224,7 +207,7 @@ fn fill_if(
     let inside = skip_expr(sheet, definitions, at, 16);
     let first = after(place);
     let a = fill_stmt(sheet, definitions, inside, depth, first, thread, code);
-    store(code, thread, place, IFNOT, at, a.place);
+    store(code, thread, place, Kind::IfNot, at, a.place);
     a
 }
 
@@ -246,8 +229,8 @@ fn fill_if_else(
     let a = fill_stmt(sheet, definitions, inside, depth, first, thread, code);
     let second = after(a.place);
     let b = fill_stmt(sheet, definitions, a.next, depth, second, thread, code);
-    store(code, thread, a.place, GO, 0, b.place);
-    store(code, thread, place, IFNOT, at, second);
+    store(code, thread, a.place, Kind::Go, 0, b.place);
+    store(code, thread, place, Kind::IfNot, at, second);
     b
 }
 
@@ -267,8 +250,8 @@ fn fill_while(
     let inside = skip_expr(sheet, definitions, at, 16);
     let first = after(place);
     let a = fill_stmt(sheet, definitions, inside, depth, first, thread, code);
-    let b = emit(code, thread, a.place, GO, 0, place, a.next);
-    store(code, thread, place, IFNOT, at, b.place);
+    let b = emit(code, thread, a.place, Kind::Go, 0, place, a.next);
+    store(code, thread, place, Kind::IfNot, at, b.place);
     b
 }
 
@@ -286,7 +269,7 @@ fn fill_forever(
     ensures { filled result code.new ≡ fill_forever sheet.now definitions.now thread (fill_at sheet.now definitions.now thread depth) (filling at place code.old) }
 {
     let a = fill_stmt(sheet, definitions, at, depth, place, thread, code);
-    emit(code, thread, a.place, GO, 0, place, a.next)
+    emit(code, thread, a.place, Kind::Go, 0, place, a.next)
 }
 
 // Fills the statement whose map stands at `at`, from a place of a thread.
@@ -302,13 +285,7 @@ fn fill_stmt(
 ) -> Filled
     ensures { filled result code.new ≡ fill_at sheet.now definitions.now thread depth (filling at place code.old) }
 {
-    if depth == 0 {
-        return Filled { next: at, place };
-    }
-    if 8192 <= at {
-        return Filled { next: at, place };
-    }
-    if 256 <= place {
+    if depth == 0 || 8192 <= at || 256 <= place {
         return Filled { next: at, place };
     }
     let map = byte_at(sheet, at);
@@ -318,13 +295,22 @@ fn fill_stmt(
             next: at + 1,
             place,
         },
-        0x03 => fill_assign(sheet, definitions, at + 2, field, SET, place, thread, code),
+        0x03 => fill_assign(
+            sheet,
+            definitions,
+            at + 2,
+            field,
+            Kind::Set,
+            place,
+            thread,
+            code,
+        ),
         0x23 => fill_assign(
             sheet,
             definitions,
             at + 2,
             field,
-            LATER,
+            Kind::Later,
             place,
             thread,
             code,
@@ -338,10 +324,10 @@ fn fill_stmt(
             code,
             thread,
             place,
-            WAIT,
+            Kind::Wait,
             at + 1,
             0,
-            at + 2 + 2 * wide(field),
+            at + 2 + 2 * field as usize,
         ),
         _ => Filled { next: at, place },
     }
@@ -351,7 +337,7 @@ fn fill_stmt(
 fn thread_count(threads: u8) -> usize
     ensures { result ≡ thread_count threads }
 {
-    if threads < 8 { wide(threads) } else { 8 }
+    (threads as usize).min(8)
 }
 
 // Fills the code of each thread, the first one's statement at `body`, and gives each thread's size, 0 past the last.
@@ -368,30 +354,20 @@ pub fn compile(
     let mut sizes = [0usize; 8];
     let mut next = body;
     let count = thread_count(threads);
-    let mut t: usize = 0;
-    while t < count {
+    for t in 0..count {
         let f = fill_forever(sheet, definitions, next, 64, 0, t, code);
         sizes[t] = f.place;
         next = f.next;
-        t += 1;
     }
     sizes
-}
-
-// A word as a place.
-fn wide_word(w: u16) -> usize
-    ensures { result ≡ w }
-{
-    w as usize
 }
 
 // What stands in the fields past a wait's last term.
 fn no_term() -> EdgeTerm
     ensures { result ≡ no_term }
 {
-    let e = Edge::Change;
     EdgeTerm {
-        edge: e,
+        edge: Edge::Change,
         variable: 0,
     }
 }
@@ -401,12 +377,10 @@ fn term_from(sheet: &[u8], at: u16, count: u8, k: u8) -> EdgeTerm
     ensures { result ≡ term_from sheet.now at count k }
 {
     if k < count {
-        let i = wide_word(at) + 1 + 2 * wide(k);
-        let e = values::edge_of(byte_at(sheet, i));
-        let v = byte_at(sheet, i + 1);
+        let i = at as usize + 1 + 2 * k as usize;
         EdgeTerm {
-            edge: e,
-            variable: v,
+            edge: values::edge_of(byte_at(sheet, i)),
+            variable: byte_at(sheet, i + 1),
         }
     } else {
         no_term()
@@ -417,24 +391,16 @@ fn term_from(sheet: &[u8], at: u16, count: u8, k: u8) -> EdgeTerm
 fn terms_from(sheet: &[u8], at: u16, count: u8) -> EdgeTerms
     ensures { result ≡ terms_from sheet.now at count }
 {
-    let t0 = term_from(sheet, at, count, 0);
-    let t1 = term_from(sheet, at, count, 1);
-    let t2 = term_from(sheet, at, count, 2);
-    let t3 = term_from(sheet, at, count, 3);
-    let t4 = term_from(sheet, at, count, 4);
-    let t5 = term_from(sheet, at, count, 5);
-    let t6 = term_from(sheet, at, count, 6);
-    let t7 = term_from(sheet, at, count, 7);
     EdgeTerms {
         count,
-        t0,
-        t1,
-        t2,
-        t3,
-        t4,
-        t5,
-        t6,
-        t7,
+        t0: term_from(sheet, at, count, 0),
+        t1: term_from(sheet, at, count, 1),
+        t2: term_from(sheet, at, count, 2),
+        t3: term_from(sheet, at, count, 3),
+        t4: term_from(sheet, at, count, 4),
+        t5: term_from(sheet, at, count, 5),
+        t6: term_from(sheet, at, count, 6),
+        t7: term_from(sheet, at, count, 7),
     }
 }
 
@@ -442,7 +408,7 @@ fn terms_from(sheet: &[u8], at: u16, count: u8) -> EdgeTerms
 fn terms_at(sheet: &[u8], at: u16) -> EdgeTerms
     ensures { result ≡ terms_at sheet.now at }
 {
-    let count = byte_at(sheet, wide_word(at));
+    let count = byte_at(sheet, at as usize);
     terms_from(sheet, at, count)
 }
 
@@ -474,16 +440,16 @@ fn decode(sheet: &[u8], w: u16, x: u16) -> Instruction
         0 => Instruction::Wait(terms_at(sheet, at)),
         1 => Instruction::Act(Action::Set {
             target,
-            at: wide_word(at),
+            at: at as usize,
         }),
         2 => Instruction::Act(Action::Later {
             target,
-            at: wide_word(at),
+            at: at as usize,
         }),
-        3 => Instruction::Act(Action::Go(wide_word(x))),
+        3 => Instruction::Act(Action::Go(x as usize)),
         _ => Instruction::Act(Action::IfNot {
-            goal: wide_word(x),
-            at: wide_word(at),
+            goal: x as usize,
+            at: at as usize,
         }),
     }
 }
@@ -492,10 +458,7 @@ fn decode(sheet: &[u8], w: u16, x: u16) -> Instruction
 pub fn fetch(sheet: &[u8], code: &[u16; 4096], thread: usize, place: usize) -> Instruction
     ensures { result ≡ fetch_at sheet.now code.now thread place }
 {
-    if 8 <= thread {
-        return Instruction::Act(Action::Go(0));
-    }
-    if 256 <= place {
+    if 8 <= thread || 256 <= place {
         return Instruction::Act(Action::Go(0));
     }
     let i = 512 * thread + 2 * place;

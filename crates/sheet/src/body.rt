@@ -30,9 +30,8 @@ fn read_wires(
     let blank = [0usize; 32];
     let mut starts = [0usize; 32];
     let mut variable = (inputs as usize) + (registers as usize);
-    let mut k: u8 = 0;
     let mut place = at;
-    while k < count {
+    for k in 0..count {
         let e = located(sheet, widths, definitions, declared, declared, place);
         match e {
             ExprRead::Refused { number, place } => {
@@ -51,7 +50,6 @@ fn read_wires(
                 starts[k as usize] = place;
                 place = next;
                 variable += 1;
-                k += 1;
             }
         }
     }
@@ -74,9 +72,8 @@ fn read_threads(
 ) -> PlaceRead
     ensures { result ≡ place_answer (read_threads (located sheet.now) (scope_of inputs registers widths.now declared (outlines sheet.now definitions.now declared)) sheet.now count at) }
 {
-    let mut k: u8 = 0;
     let mut place = at;
-    while k < count {
+    for _ in 0..count {
         let b = read_stmt(
             sheet,
             widths,
@@ -96,7 +93,6 @@ fn read_threads(
                     return PlaceRead::Refused { number: 11, place };
                 }
                 place = next;
-                k += 1;
             }
         }
     }
@@ -107,23 +103,20 @@ fn read_threads(
 pub(crate) fn refused(number: u8, place: usize) -> SheetRead
     ensures { result ≡ sheet_answer (no number place) }
 {
-    let starts = [0usize; 32];
-    let definitions = [0usize; 8];
-    let layout = Layout {
-        inputs: 0,
-        registers: 0,
-        wires: 0,
-        threads: 0,
-        functions: 0,
-        widths: 0,
-        definitions,
-        starts,
-        body: 0,
-    };
     SheetRead {
         number,
         place,
-        layout,
+        layout: Layout {
+            inputs: 0,
+            registers: 0,
+            wires: 0,
+            threads: 0,
+            functions: 0,
+            widths: 0,
+            definitions: [0; 8],
+            starts: [0; 32],
+            body: 0,
+        },
     }
 }
 
@@ -132,8 +125,7 @@ pub(crate) fn wires_after(sheet: &[u8], at: usize, head: HeadRead, all: Function
     requires { (head ≡ head_read sheet.now) × (all ≡ functions_answer (functions_read sheet.now)) }
     ensures { result ≡ wires_answer (wires_from sheet.now at) }
 {
-    let read = all.read;
-    if let PlaceRead::Refused { number, place } = read {
+    if let PlaceRead::Refused { number, place } = all.read {
         return WiresRead {
             read: PlaceRead::Refused { number, place },
             starts: [0usize; 32],
@@ -148,17 +140,16 @@ pub(crate) fn wires_after(sheet: &[u8], at: usize, head: HeadRead, all: Function
             inputs,
             registers,
             wires,
-            threads: _,
             functions,
+            ..
         } => {
             let start = widths_at(functions);
             let first = start + (inputs as usize) + (registers as usize) + (wires as usize);
             let widths = &sheet[start..first];
-            let definitions = all.definitions;
             read_wires(
                 sheet,
                 widths,
-                &definitions,
+                &all.definitions,
                 functions,
                 inputs,
                 registers,
@@ -173,13 +164,9 @@ pub(crate) fn wires_after(sheet: &[u8], at: usize, head: HeadRead, all: Function
 pub(crate) fn row_end(row: WiresRead) -> usize
     ensures { result ≡ row_end row }
 {
-    let read = row.read;
-    match read {
+    match row.read {
         PlaceRead::At(next) => next,
-        PlaceRead::Refused {
-            number: _,
-            place: _,
-        } => 0,
+        PlaceRead::Refused { .. } => 0,
     }
 }
 
@@ -194,8 +181,7 @@ pub(crate) fn threads_after(
     requires { (head ≡ head_read sheet.now) × (all ≡ functions_answer (functions_read sheet.now)) × (row ≡ wires_answer (wires_read sheet.now)) }
     ensures { result ≡ place_answer (threads_from sheet.now at) }
 {
-    let read = row.read;
-    if let PlaceRead::Refused { number, place } = read {
+    if let PlaceRead::Refused { number, place } = row.read {
         return PlaceRead::Refused { number, place };
     }
     match head {
@@ -210,11 +196,10 @@ pub(crate) fn threads_after(
             let start = widths_at(functions);
             let first = start + (inputs as usize) + (registers as usize) + (wires as usize);
             let widths = &sheet[start..first];
-            let definitions = all.definitions;
             read_threads(
                 sheet,
                 widths,
-                &definitions,
+                &all.definitions,
                 functions,
                 inputs,
                 registers,

@@ -11,14 +11,14 @@ use super::{ByteRead, WordRead};
 pub fn byte_at(s: &[u8], at: usize) -> u8
     ensures { result ≡ get_or s.now at 0 }
 {
-    if at < s.len() { s[at] } else { 0 }
+    s.get(at).copied().unwrap_or(0)
 }
 
 // Four bytes as a number, low byte first.
 fn word(a: u8, b: u8, c: u8, d: u8) -> u32
     ensures { result ≡ word a b c d }
 {
-    (a as u32) + 256 * (b as u32) + 65536 * (c as u32) + 16777216 * (d as u32)
+    u32::from_le_bytes([a, b, c, d])
 }
 
 // The number whose four bytes stand at a place, 0 for those past the end.
@@ -53,8 +53,7 @@ pub(crate) fn read_word(sheet: &[u8], at: usize) -> WordRead
 pub(crate) fn left_of(sheet: &[u8], at: usize) -> usize
     ensures { result ≡ length sheet.now - at }
 {
-    let end = sheet.len();
-    if end <= at { 0 } else { end - at }
+    sheet.len().saturating_sub(at)
 }
 
 // A byte from low to high; outside, the number is met at that byte.
@@ -69,10 +68,7 @@ pub(crate) fn read_within(sheet: &[u8], at: usize, low: u8, high: u8, number: u8
         };
     }
     let b = sheet[at];
-    if b < low {
-        return ByteRead::Refused { number, place: at };
-    }
-    if high < b {
+    if b < low || high < b {
         return ByteRead::Refused { number, place: at };
     }
     ByteRead::Byte(b)

@@ -240,7 +240,7 @@ fn read_conditional(
 }
 
 // The place of a definition, 0 past the last.
-pub(crate) fn definition_at(definitions: &[usize; 8], n: u8) -> usize
+pub fn definition_at(definitions: &[usize; 8], n: u8) -> usize
     ensures { result ≡ definition_at definitions.now n }
 {
     if n < 8 { definitions[n as usize] } else { 0 }
@@ -311,10 +311,9 @@ fn read_arguments(
             let ArgumentsRead::Read { next, fits } = rest else {
                 return rest;
             };
-            if wanted == width {
-                ArgumentsRead::Read { next, fits }
-            } else {
-                ArgumentsRead::Read { next, fits: false }
+            ArgumentsRead::Read {
+                next,
+                fits: wanted == width && fits,
             }
         }
     }

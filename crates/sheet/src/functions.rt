@@ -287,9 +287,8 @@ fn read_functions(sheet: &[u8], count: u8, at: usize) -> FunctionsRead
 {
     let blank = [0usize; 8];
     let mut definitions = [0usize; 8];
-    let mut k: u8 = 0;
     let mut place = at;
-    while k < count {
+    for k in 0..count {
         let f = read_function(sheet, &definitions, count, k, place);
         match f {
             PlaceRead::Refused { number, place } => {
@@ -301,7 +300,6 @@ fn read_functions(sheet: &[u8], count: u8, at: usize) -> FunctionsRead
             PlaceRead::At(next) => {
                 definitions[k as usize] = place;
                 place = next;
-                k += 1;
             }
         }
     }
@@ -321,13 +319,7 @@ pub(crate) fn functions_after(sheet: &[u8], at: usize, head: HeadRead) -> Functi
             read: PlaceRead::Refused { number, place },
             definitions: [0usize; 8],
         },
-        HeadRead::Read {
-            inputs: _,
-            registers: _,
-            wires: _,
-            threads: _,
-            functions,
-        } => read_functions(sheet, functions, at),
+        HeadRead::Read { functions, .. } => read_functions(sheet, functions, at),
     }
 }
 
@@ -335,12 +327,8 @@ pub(crate) fn functions_after(sheet: &[u8], at: usize, head: HeadRead) -> Functi
 pub(crate) fn functions_end(all: FunctionsRead) -> usize
     ensures { result ≡ functions_end all }
 {
-    let read = all.read;
-    match read {
+    match all.read {
         PlaceRead::At(next) => next,
-        PlaceRead::Refused {
-            number: _,
-            place: _,
-        } => 0,
+        PlaceRead::Refused { .. } => 0,
     }
 }

@@ -12,13 +12,11 @@ use super::{ByteRead, HeadRead, WidthsRead};
 pub(crate) fn read_widths(sheet: &[u8], first: usize, end: usize) -> WidthsRead
     ensures { result ≡ widths_answer (read_widths (end - first) sheet.now first) }
 {
-    let mut at = first;
-    while at < end {
+    for at in first..end {
         let read = read_within(sheet, at, 1, 32, 4);
         if let ByteRead::Refused { number, place } = read {
             return WidthsRead::Refused { number, place };
         }
-        at += 1;
     }
     WidthsRead::Fine
 }
@@ -43,13 +41,7 @@ pub(crate) fn read_first(sheet: &[u8], at: usize) -> ByteRead
     }
     let b = sheet[at];
     let inputs = inputs_of(b);
-    if inputs < 1 {
-        return ByteRead::Refused {
-            number: 3,
-            place: at,
-        };
-    }
-    if 16 < inputs {
+    if inputs < 1 || 16 < inputs {
         return ByteRead::Refused {
             number: 3,
             place: at,
@@ -156,17 +148,8 @@ pub(crate) fn other_widths(counts: HeadRead) -> usize
     ensures { result ≡ other_widths counts }
 {
     match counts {
-        HeadRead::Refused {
-            number: _,
-            place: _,
-        } => 0,
-        HeadRead::Read {
-            inputs: _,
-            registers: _,
-            wires: _,
-            threads: _,
-            functions,
-        } => widths_at(functions) + 1,
+        HeadRead::Refused { .. } => 0,
+        HeadRead::Read { functions, .. } => widths_at(functions) + 1,
     }
 }
 
@@ -175,16 +158,13 @@ pub(crate) fn head_end(head: HeadRead) -> usize
     ensures { result ≡ head_end head }
 {
     match head {
-        HeadRead::Refused {
-            number: _,
-            place: _,
-        } => 0,
+        HeadRead::Refused { .. } => 0,
         HeadRead::Read {
             inputs,
             registers,
             wires,
-            threads: _,
             functions,
+            ..
         } => widths_at(functions) + (inputs as usize) + (registers as usize) + (wires as usize),
     }
 }

@@ -15,6 +15,7 @@ ghost use Rattle.sheet.specs.Module.{whole_sheet, read_sheet};
 ghost use Rattle.sheet.specs.Answers.{sheet_answer};
 
 pub use bytes::{byte_at, word_at};
+pub use expr::definition_at;
 use values::Edge;
 
 // One pair of a wait: an edge and the variable that it is awaited on.

@@ -11,13 +11,11 @@ use super::{ByteRead, EdgeTerm, ExprRead, StmtRead, TermsRead};
 use values::Edge;
 
 // Does the number name a register?
+#[tactic(auto, unfolding(crate::specs::Statement::is_register))]
 pub(crate) fn is_register(inputs: u8, registers: u8, v: u8) -> bool
     ensures { result ≡ is_register (scope_of inputs registers [] 0 []) v }
 {
-    if v < inputs {
-        return false;
-    }
-    (v as usize) < (inputs as usize) + (registers as usize)
+    inputs <= v && (v as usize) < (inputs as usize) + (registers as usize)
 }
 
 // An assignment, plain or later: a register, and an expression of its width.
@@ -66,9 +64,8 @@ fn read_assignment(
 fn narrow(widths: &[u8], term: EdgeTerm) -> bool
     ensures { result ≡ narrow widths.now term }
 {
-    let edge = term.edge;
     let width = byte_at(widths, term.variable as usize);
-    match edge {
+    match term.edge {
         Edge::Change => true,
         Edge::Posedge => width == 1,
         Edge::Negedge => width == 1,
@@ -104,10 +101,8 @@ fn read_terms(sheet: &[u8], widths: &[u8], at: usize, count: u8) -> TermsRead
         edge: values::edge_of(edge),
         variable,
     };
-    if narrow(widths, term) {
-        TermsRead::Read { narrow: others }
-    } else {
-        TermsRead::Read { narrow: false }
+    TermsRead::Read {
+        narrow: narrow(widths, term) && others,
     }
 }
 

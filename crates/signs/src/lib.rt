@@ -31,9 +31,12 @@ pub fn operands(op: u8) -> u8
     ensures { result ≡ operands op }
 {
     if op < 3 {
-        return 1;
+        1
+    } else if op < 10 {
+        2
+    } else {
+        3
     }
-    if op < 10 { 2 } else { 3 }
 }
 
 // What stands in front of an operand, when `n` operands are still to come, this one among them.

@@ -1,7 +1,7 @@
 -- Laws of the text over any bytes: the ways through its definitions, and that it is the tree's text where an expression
 -- was read.
 use mathlib.Core.Path.{◌≡◌, refl, sym, ap, ◌∙◌}
-use Prim.Native.Nat.{ℕ, zero, suc, ◌+◌, ◌-◌, ◌≤◌, ◌<◌}
+use Prim.Native.Nat.{ℕ, zero, suc, ◌+◌, ◌-◌, ◌≤◌, ◌<◌, min}
 use native.Mathlib.Numerals.{sub-one, add-one}
 use native.Mathlib.Omega.{arith}
 use mathlib.Core.List.{List, [], ◌∷◌, ◌++◌, append-nil}
@@ -202,17 +202,9 @@ module _ (c : Scope) (s ds : List ℕ) (counted : Counted s ds c.functions) wher
 
 -- ---- term_list
 
-pub length-terms : (t : EdgeTerms) → length (term_list t) ≤ 8
+pub count-min : (t : EdgeTerms) → min t.count 8 ≡ length (term_list t)
 unfolding term_list all_terms
-length-terms t = simp length-take (omega arith)
-
-pub count-terms : (t : EdgeTerms) → t.count < 8 → t.count ≡ length (term_list t)
-unfolding term_list all_terms
-count-terms t h = simp length-take (omega arith)
-
-pub count-eight : (t : EdgeTerms) → 8 ≤ t.count → 8 ≡ length (term_list t)
-unfolding term_list all_terms
-count-eight t h = simp length-take (omega arith)
+count-min t = simp length-take (omega arith)
 
 pub term_of : (t : EdgeTerms) (k : ℕ) → k < length (term_list t)
     → get_or (all_terms t) k no_term ≡ get_or (term_list t) k no_term

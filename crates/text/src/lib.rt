@@ -169,7 +169,7 @@ fn print_term(t: EdgeTerm, text: &mut [u8; 65536], pos: usize) -> usize
 fn term_count(t: EdgeTerms) -> u8
     ensures { result ≡ length (term_list t) }
 {
-    if t.count < 8 { t.count } else { 8 }
+    t.count.min(8)
 }
 
 // A pair of a wait by its number.
@@ -198,11 +198,9 @@ fn print_terms(t: EdgeTerms, text: &mut [u8; 65536], pos: usize) -> usize
 {
     let n = term_count(t);
     let mut p = pos;
-    let mut k: u8 = 0;
-    while k < n {
+    for k in 0..n {
         let e = term_at(t, k);
         p = print_term(e, text, p);
-        k += 1;
     }
     p
 }

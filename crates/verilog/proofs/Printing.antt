@@ -1,6 +1,6 @@
 -- Laws of the text over any bytes: what printing leaves, and the ways through its definitions.
 use mathlib.Core.Path.{◌≡◌, refl, sym, ap, ◌∙◌}
-use Prim.Native.Nat.{ℕ, zero, suc, ◌+◌, ◌-◌, ◌*◌, ◌≤◌, ◌<◌}
+use Prim.Native.Nat.{ℕ, zero, suc, ◌+◌, ◌-◌, ◌*◌, ◌≤◌, ◌<◌, min}
 use native.Mathlib.Numerals.{sub-one}
 use native.Mathlib.Omega.{arith}
 use mathlib.Core.List.{List, [], ◌++◌, append-nil}
@@ -275,6 +275,13 @@ module _ (s : List ℕ) (p : ℕ) where
       by : (b : Bool) → ltb (length s) p ≡ b → inside s p ≤ length s
       by true e = rw (inside-end (ltb-true (length s) p e)) (omega arith)
       by false e = let h = ltb-false (length s) p e in rw (inside-place h) h
+
+  pub inside-min : min p (length s) ≡ inside s p
+  inside-min = by (ltb (length s) p) refl
+    where
+      by : (b : Bool) → ltb (length s) p ≡ b → min p (length s) ≡ inside s p
+      by true e = let h = ltb-true (length s) p e in rw (inside-end h) (omega arith)
+      by false e = let h = ltb-false (length s) p e in rw (inside-place h) (omega arith)
 
 -- ---- the parts of a sheet
 

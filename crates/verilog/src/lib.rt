@@ -8,7 +8,7 @@ ghost use Rattle.writing.specs.Buffer.{filled, puts};
 ghost use Rattle.naming.specs.Naming.{name_of};
 ghost use Rattle.verilog.specs.Verilog.{indent, before, edge_text, direction_text, range_text, ports_text, declaration_text};
 ghost use Rattle.verilog.specs.Verilog.{port_text, function_head, function_end, answer, verilog_of};
-ghost use Rattle.verilog.specs.Printing.{told, leaves, lead_at, operands_at, opening_at, inside, count_of, operator_of};
+ghost use Rattle.verilog.specs.Printing.{told, leaves, lead_at, operands_at, opening_at, count_of, operator_of};
 ghost use Rattle.verilog.specs.Printing.{word_at, shape_of, bodies_of, flat, inner_level, end_at, closing_at, bodies_at};
 ghost use Rattle.verilog.specs.Printing.{shown_at, term_at, terms_at, assign_at, condition_at, wait_at, heading_at, stmt_at};
 ghost use Rattle.verilog.specs.Printing.{declarations_at, wire_at, wires_at, opens_at, block_at, waiting_at, thread_at};
@@ -48,13 +48,6 @@ pub struct Bodies {
     pub shape: u8,
     pub level: u8,
     pub left: u8,
-}
-
-// A byte as a number of its own.
-fn wide(b: u8) -> usize
-    ensures { result ≡ b }
-{
-    b as usize
 }
 
 // A separator in front of every item but the first.
@@ -128,7 +121,7 @@ fn put_opening(map: u8, b: u8, text: &mut [u8; 65536], pos: usize) -> usize
         return put_word(b"(", text, pos);
     }
     let p = put_word(b"f", text, pos);
-    let q = put_decimal(wide(b), text, p);
+    let q = put_decimal(b as usize, text, p);
     put_word(b"(", text, q)
 }
 
@@ -171,7 +164,7 @@ pub fn print_expr(
     let map = byte_at(sheet, at);
     let b = byte_at(sheet, at + 1);
     if map == 0x02 {
-        let p = put_name(names, wide(b), text, pos);
+        let p = put_name(names, b as usize, text, pos);
         return Printed {
             next: at + 2,
             pos: p,
@@ -227,15 +220,7 @@ fn put_term(
     let v = byte_at(sheet, at + 1);
     let p = put_before(b" or ", k, text, pos);
     let q = put_edge(edge, text, p);
-    put_name(names, wide(v), text, q)
-}
-
-// A place that is within the sheet, or its end for one past it.
-fn inside(sheet: &[u8], at: usize) -> usize
-    ensures { result ≡ inside sheet.now at }
-{
-    let end = sheet.len();
-    if end < at { end } else { at }
+    put_name(names, v as usize, text, q)
 }
 
 // The pairs of a wait, the first at a place.
@@ -250,14 +235,12 @@ pub fn put_terms(
     ensures { filled text.new result ≡
         puts (filled text.old pos) (terms_at (name_of names.now) sheet.now n 0 at) }
 {
-    let count = wide(n);
-    let start = inside(sheet, at);
+    let count = n as usize;
+    let start = at.min(sheet.len());
     let mut p = pos;
-    let mut k: usize = 0;
     let mut q = start;
-    while k < count {
+    for k in 0..count {
         p = put_term(sheet, q, k, names, text, p);
-        k += 1;
         q += 2;
     }
     p
@@ -269,7 +252,7 @@ pub fn put_terms(
 pub fn put_indent(level: u8, text: &mut [u8; 65536], pos: usize) -> usize
     ensures { filled text.new result ≡ puts (filled text.old pos) (indent level) }
 {
-    put_many(b' ', 2 * wide(level), text, pos)
+    put_many(b' ', 2 * level as usize, text, pos)
 }
 
 // An assignment whose map stands at `at`.
@@ -289,7 +272,7 @@ fn print_assign(
 {
     let target = byte_at(sheet, at + 1);
     let p = put_indent(level, text, pos);
-    let q = put_name(names, wide(target), text, p);
+    let q = put_name(names, target as usize, text, p);
     let w = put_word(sign, text, q);
     let e = print_expr(sheet, definitions, at + 2, 16, names, text, w);
     let end = put_word(b";\n", text, e.pos);
@@ -344,7 +327,7 @@ fn print_wait(
     let w = put_terms(sheet, at + 2, n, names, text, q);
     let end = put_word(word, text, w);
     Printed {
-        next: at + 2 + 2 * wide(n),
+        next: at + 2 + 2 * n as usize,
         pos: end,
     }
 }
@@ -553,20 +536,13 @@ fn put_direction(inputs: u8, registers: u8, v: usize, text: &mut [u8; 65536], po
     ensures { filled text.new result ≡
         puts (filled text.old pos) (direction_text inputs registers v) }
 {
-    if v < wide(inputs) {
+    if v < inputs as usize {
         return put_word(b"input ", text, pos);
     }
-    if v < wide(inputs) + wide(registers) {
+    if v < inputs as usize + registers as usize {
         return put_word(b"reg ", text, pos);
     }
     put_word(b"wire ", text, pos)
-}
-
-// One less, 0 for 0.
-fn less(width: u8) -> usize
-    ensures { result ≡ width - 1 }
-{
-    if width == 0 { 0 } else { wide(width) - 1 }
 }
 
 // The range of a variable that is wider than one bit.
@@ -577,7 +553,7 @@ fn put_range(width: u8, text: &mut [u8; 65536], pos: usize) -> usize
         return pos;
     }
     let p = put_word(b"[", text, pos);
-    let q = put_decimal(less(width), text, p);
+    let q = put_decimal((width as usize).saturating_sub(1), text, p);
     put_word(b":0] ", text, q)
 }
 
@@ -617,11 +593,9 @@ fn put_declarations(
         (declarations_at (name_of names.now) sheet.now inputs registers first n 0) }
 {
     let mut p = pos;
-    let mut v = 0;
-    while v < n {
+    for v in 0..n {
         let width = byte_at(sheet, first + v);
         p = put_declaration(names, inputs, registers, v, width, text, p);
-        v += 1;
     }
     p
 }
@@ -641,10 +615,8 @@ fn put_ports(n: usize, names: &[u8; 2560], text: &mut [u8; 65536], pos: usize) -
         puts (filled text.old pos) (ports_text (name_of names.now) n 0) }
 {
     let mut p = pos;
-    let mut v = 0;
-    while v < n {
+    for v in 0..n {
         p = put_port(names, v, text, p);
-        v += 1;
     }
     p
 }
@@ -690,12 +662,10 @@ fn print_wires(
 {
     let mut next = at;
     let mut p = pos;
-    let mut k = 0;
-    while k < n {
+    for k in 0..n {
         let w = print_wire(sheet, definitions, next, first + k, names, text, p);
         next = w.next;
         p = w.pos;
-        k += 1;
     }
     Printed { next, pos: p }
 }
@@ -789,12 +759,10 @@ fn print_threads(
 {
     let mut next = at;
     let mut p = pos;
-    let mut k: u8 = 0;
-    while k < n {
+    for _ in 0..n {
         let a = print_thread(sheet, definitions, next, names, text, p);
         next = a.next;
         p = a.pos;
-        k += 1;
     }
     Printed { next, pos: p }
 }
@@ -837,7 +805,7 @@ fn print_function(
         return Printed { next: at, pos };
     }
     let k = byte_at(sheet, at);
-    let count = wide(k);
+    let count = k as usize;
     let width = byte_at(sheet, at + 1 + count);
     let mut names = [0u8; 2560];
     naming::fill_plain(k, 1, &mut names);
@@ -864,15 +832,12 @@ fn print_functions(
     ensures { told result text.new ≡ leaves (filled text.old pos)
         (definitions_at sheet.now definitions.now n 0 at) }
 {
-    let count = wide(n);
     let mut next = at;
     let mut p = pos;
-    let mut k = 0;
-    while k < count {
+    for k in 0..n as usize {
         let a = print_function(sheet, definitions, next, k, text, p);
         next = a.next;
         p = a.pos;
-        k += 1;
     }
     Printed { next, pos: p }
 }
@@ -889,10 +854,10 @@ pub struct Counts {
 fn counts_of(l: Layout) -> Counts
     ensures { (result.first ≡ l.inputs + l.registers) × (result.wires ≡ l.wires) × (result.first + result.wires < 1000) }
 {
-    let first = wide(l.inputs) + wide(l.registers);
+    let first = l.inputs as usize + l.registers as usize;
     Counts {
         first,
-        wires: wide(l.wires),
+        wires: l.wires as usize,
     }
 }
 
@@ -910,7 +875,7 @@ fn print_module(sheet: &[u8], l: Layout, names: &[u8; 2560], text: &mut [u8; 655
     let wires = counts.wires;
     let n = first + wires;
     let a = put_word(b"module walbryts (", text, 0);
-    let b = put_ports(wide(l.inputs), names, text, a);
+    let b = put_ports(l.inputs as usize, names, text, a);
     let c = put_word(b");\n", text, b);
     let d = put_declarations(sheet, widths, n, names, l.inputs, l.registers, text, c);
     let f = print_functions(sheet, &definitions, widths + n, l.functions, text, d);

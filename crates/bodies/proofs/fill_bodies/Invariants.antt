@@ -11,7 +11,3 @@ invariant-loop-k l =
     × (length l.ends ≡ 8)
     × (lay_from l.sheet l.definitions (l.count - l.k) l.k (laid l.place l.starts l.ends l.code)
     ≡ lay_from l.sheet l.definitions l.count 0 (laid 0 (replicate 8 0) (replicate 8 0) l.initial.code))
-
-abbrev pub decreases-loop-k : goal.decreases-loop-k
-decreases-loop-k l =
-    l.count - l.k

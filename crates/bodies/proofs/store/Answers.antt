@@ -1,5 +1,6 @@
 -- The two words are stored inside the table, and nothing outside. Assumes nothing.
 use mathlib.Core.Path.{sym}
+use Rattle.pseudocode.specs.Filling.{kind_number}
 use Rattle.bodies.proofs.Filling.{store_in, store_out}
 use Rattle.bodies.proofs.store.Goals as goal
 
@@ -10,4 +11,4 @@ returns-then-place-ge4096 c =
 pub returns : goal.returns
 returns c =
     let a = c.args in
-    rw (store_in a.place a.kind a.at a.goal a.code.now c.if-place-ge4096.false, c.first_word.ensures)
+    rw (store_in a.place (kind_number a.kind) a.at a.goal a.code.now c.if-place-ge4096.false, c.first_word.ensures)

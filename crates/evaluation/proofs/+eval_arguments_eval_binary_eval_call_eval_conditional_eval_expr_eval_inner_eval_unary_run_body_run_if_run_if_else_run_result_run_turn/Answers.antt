@@ -3,8 +3,8 @@
 -- an expression of depth d hands its operands on at depth d - 1. Assumes nothing.
 use mathlib.Core.Path.{refl, sym, ◌∙◌}
 use Rattle.evaluation.specs.Bytes.{unary_node, binary_node, conditional_node, inner_node, node_at, form_at}
-use Rattle.evaluation.proofs.Bytes.{inner_node-none, node_at-inner, form_at-other, work_at-deep, work_at-end, work_at-node, run_at-deep, run_at-end, run_at-form}
-use Rattle.evaluation.proofs.Bytes.{arguments-done, arguments-more, calls-none, call-made, call-answer, call-nowhere}
+use Rattle.evaluation.proofs.Bytes.{inner_node-none, node_at-inner, form_at-other, work_at-stop, work_at-node, run_at-stop, run_at-form}
+use Rattle.evaluation.proofs.Bytes.{arguments-done, arguments-more, call-made, call-answer, call-stop}
 use Rattle.evaluation.proofs.Bytes.{result-made, turn-made, if-taken, if-left, else-taken, else-left}
 use Rattle.evaluation.proofs.+eval_arguments_eval_binary_eval_call_eval_conditional_eval_expr_eval_inner_eval_unary_run_body_run_if_run_if_else_run_result_run_turn.Goals as goal
 
@@ -24,12 +24,7 @@ eval_binary-returns t c =
 
 pub eval_call-returns-then-names-n : goal.eval_call-returns-then-names-n
 eval_call-returns-then-names-n t c =
-    c.nothing.ensures ∙ sym (calls-none _ _ _ _ _ _ c.if-names-n.true)
-
-pub eval_call-returns-then-sheet-place : goal.eval_call-returns-then-sheet-place
-eval_call-returns-then-sheet-place t c =
-    let defined = c.definition_at-place.ensures in
-    c.nothing-then-sheet-place.ensures ∙ call-nowhere _ _ _ _ _ _ defined c.if-names-n.false c.if-sheet-place.true
+    c.nothing.ensures ∙ call-stop _ _ _ _ _ _ c.definition_at-place.ensures c.then-names-n.either
 
 pub eval_call-returns : goal.eval_call-returns
 eval_call-returns t c =
@@ -44,11 +39,7 @@ eval_conditional-returns t c =
 
 pub eval_expr-returns-then-depth-eq0 : goal.eval_expr-returns-then-depth-eq0
 eval_expr-returns-then-depth-eq0 t c =
-    c.nothing.ensures ∙ sym (work_at-deep _ _ _ _ _ _ c.if-depth-eq0.true)
-
-pub eval_expr-returns-then-sheet-at : goal.eval_expr-returns-then-sheet-at
-eval_expr-returns-then-sheet-at t c =
-    c.nothing-then-sheet-at.ensures ∙ sym (work_at-end _ _ _ _ _ _ c.if-depth-eq0.false c.if-sheet-at.true)
+    c.nothing.ensures ∙ sym (work_at-stop _ _ _ _ _ _ c.then-depth-eq0.either)
 
 pub eval_expr-returns-in-2 : goal.eval_expr-returns-in-2
 unfolding node_at
@@ -108,11 +99,7 @@ eval_unary-returns t c =
 
 pub run_body-returns-then-depth-eq0 : goal.run_body-returns-then-depth-eq0
 run_body-returns-then-depth-eq0 t c =
-    run_at-deep _ _ _ _ _ _ _ c.if-depth-eq0.true
-
-pub run_body-returns-then-sheet-at : goal.run_body-returns-then-sheet-at
-run_body-returns-then-sheet-at t c =
-    run_at-end _ _ _ _ _ _ _ c.if-sheet-at.true
+    run_at-stop _ _ _ _ _ _ _ c.then-depth-eq0.either
 
 pub run_body-returns-in-3 : goal.run_body-returns-in-3
 unfolding form_at

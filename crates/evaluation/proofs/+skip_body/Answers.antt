@@ -1,16 +1,12 @@
 -- `evaluation::skip_body` meets its contract, map by map; the depth falls. Assumes nothing.
 use mathlib.Core.Path.{refl, sym, ◌∙◌}
 use Rattle.evaluation.specs.Bytes.{skip_form}
-use Rattle.evaluation.proofs.Bytes.{skip_form-other, skip_body-deep, skip_body-end, skip_body-form}
+use Rattle.evaluation.proofs.Bytes.{skip_form-other, skip_body-stop, skip_body-form}
 use Rattle.evaluation.proofs.+skip_body.Goals as goal
 
 pub returns-then-depth-eq0 : goal.returns-then-depth-eq0
 returns-then-depth-eq0 t c =
-    skip_body-deep _ _ _ _ c.if-depth-eq0.true
-
-pub returns-then-sheet-at : goal.returns-then-sheet-at
-returns-then-sheet-at t c =
-    skip_body-end _ _ _ _ c.if-sheet-at.true
+    skip_body-stop _ _ _ _ c.then-depth-eq0.either
 
 pub returns-in-3 : goal.returns-in-3
 unfolding skip_form

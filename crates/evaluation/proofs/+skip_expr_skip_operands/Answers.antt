@@ -1,16 +1,12 @@
 -- An expression is passed by two functions that call each other; each meets its contract.
 -- The measure goes by the depth, then by the operands that are left. Assumes nothing.
 use mathlib.Core.Path.{sym}
-use Rattle.evaluation.proofs.Bytes.{passed_none, passed-more, skip_at-deep, skip_at-end, skip_at-constant, skip_at-other}
+use Rattle.evaluation.proofs.Bytes.{passed_none, passed-more, skip_at-stop, skip_at-constant, skip_at-other}
 use Rattle.evaluation.proofs.+skip_expr_skip_operands.Goals as goal
 
 pub skip_expr-returns-then-depth-eq0 : goal.skip_expr-returns-then-depth-eq0
 skip_expr-returns-then-depth-eq0 t c =
-    skip_at-deep _ _ _ _ c.if-depth-eq0.true
-
-pub skip_expr-returns-then-sheet-at : goal.skip_expr-returns-then-sheet-at
-skip_expr-returns-then-sheet-at t c =
-    skip_at-end _ _ _ _ c.if-sheet-at.true
+    skip_at-stop _ _ _ _ c.then-depth-eq0.either
 
 pub skip_expr-returns-then-map-eq12 : goal.skip_expr-returns-then-map-eq12
 skip_expr-returns-then-map-eq12 t c =

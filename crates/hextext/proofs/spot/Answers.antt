@@ -10,8 +10,8 @@ use Rattle.hextext.specs.Decoding.{found, spotted, spot_of}
 use Rattle.hextext.proofs.Scanning.{scan-stopped, scan-turn, scan-done}
 use Rattle.hextext.proofs.spot.Goals as goal
 
-pub loop-i-init : goal.loop-i-init
-loop-i-init c =
+pub loop-b-init : goal.loop-b-init
+loop-b-init c =
     let a = c.args in
     (omega arith, ap (λ (x : Scan). scan (found a.n) x a.text.now) c.start-s.ensures)
 
@@ -21,18 +21,18 @@ returns-then-found c =
     let a = c.args in
     c.spotted.ensures
     ∙ ap spotted
-    (sym (scan-stopped (found a.n) c.loop-i.s (drop c.loop-i.i a.text.now) (sym c.found.ensures ∙ c.if-found.true))
-    ∙ c.loop-i.invariant.1)
+    (sym (scan-stopped (found a.n) c.loop-b.s (drop c.loop-b.b-index a.text.now) (sym c.found.ensures ∙ c.if-found.true))
+    ∙ c.loop-b.invariant.1)
 
-pub loop-i-preserved : goal.loop-i-preserved
-loop-i-preserved c =
+pub loop-b-preserved : goal.loop-b-preserved
+loop-b-preserved c =
     let a = c.args in (
       omega arith,
-      ap (λ (x : Scan). scan (found a.n) x (drop (c.loop-i.i + 1) a.text.now)) c.step-s.ensures
+      ap (λ (x : Scan). scan (found a.n) x (drop (c.loop-b.b-index + 1) a.text.now)) c.step-s.ensures
           ∙ sym
-          (scan-turn (found a.n) c.loop-i.s a.text.now c.loop-i.i c.loop-i-test.true
+          (scan-turn (found a.n) c.loop-b.s a.text.now c.loop-b.b-index c.loop-b-test.true
           (sym c.found.ensures ∙ c.if-found.false))
-          ∙ c.loop-i.invariant.1,
+          ∙ c.loop-b.invariant.1,
     )
 
 pub returns : goal.returns
@@ -40,4 +40,4 @@ unfolding spot_of
 returns c =
     let a = c.args in
     c.spotted-2.ensures
-    ∙ ap spotted (sym (scan-done (found a.n) c.loop-i.s a.text.now c.loop-i.i c.loop-i-test.false) ∙ c.loop-i.invariant.1)
+    ∙ ap spotted (sym (scan-done (found a.n) c.loop-b.s a.text.now c.loop-b.b-index c.loop-b-test.false) ∙ c.loop-b.invariant.1)

@@ -8,7 +8,3 @@ use Rattle.listings.proofs.print_code.Given as goal
 abbrev pub invariant-loop-place : goal.invariant-loop-place
 invariant-loop-place l =
     (l.place ≤ l.size) × (puts (filled l.text l.p) (code_lines l.sheet l.definitions l.code l.thread (l.size - l.place) l.place) ≡ puts (filled l.initial.text l.pos) (code_lines l.sheet l.definitions l.code l.thread l.size 0))
-
-abbrev pub decreases-loop-place : goal.decreases-loop-place
-decreases-loop-place l =
-    l.size - l.place

@@ -8,7 +8,3 @@ use Rattle.listings.proofs.print_threads.Given as goal
 abbrev pub invariant-loop-thread : goal.invariant-loop-thread
 invariant-loop-thread l =
     (l.thread ≤ l.threads) × (puts (filled l.text l.p) (thread_lines l.sheet l.definitions l.code l.sizes (l.threads - l.thread) l.thread) ≡ puts (filled l.initial.text l.pos) (thread_lines l.sheet l.definitions l.code l.sizes l.threads 0))
-
-abbrev pub decreases-loop-thread : goal.decreases-loop-thread
-decreases-loop-thread l =
-    l.threads - l.thread

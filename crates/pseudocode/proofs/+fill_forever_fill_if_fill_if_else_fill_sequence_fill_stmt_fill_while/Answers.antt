@@ -5,7 +5,7 @@ use mathlib.Core.Path.{sym, ap, ◌∙◌}
 use Rattle.sheet.specs.Statement.{an_empty, an_assign, a_later, a_sequence, an_if, an_if_else, a_while, a_forever, a_wait, form_of}
 use Rattle.sheet.proofs.Statements.{form_map}
 use Rattle.pseudocode.specs.Filling.{filling, emit, set_kind, later_kind, wait_kind, fill_assign, fill_form}
-use Rattle.pseudocode.proofs.Filling.{no-form, fill_none, fill-far, fill-full, fill-form, fill-other, sequence-path, if-path, if-else-path, while-path, forever-path}
+use Rattle.pseudocode.proofs.Filling.{no-form, fill-stop, fill-form, fill-other, sequence-path, if-path, if-else-path, while-path, forever-path}
 use Rattle.pseudocode.proofs.+fill_forever_fill_if_fill_if_else_fill_sequence_fill_stmt_fill_while.Goals as goal
 
 pub fill_forever-returns : goal.fill_forever-returns
@@ -29,15 +29,7 @@ fill_sequence-returns t c =
 
 pub fill_stmt-returns-then-depth-eq0 : goal.fill_stmt-returns-then-depth-eq0
 fill_stmt-returns-then-depth-eq0 t c =
-    sym (fill_none _ _ _ _ _ c.if-depth-eq0.true)
-
-pub fill_stmt-returns-then-at-ge8192 : goal.fill_stmt-returns-then-at-ge8192
-fill_stmt-returns-then-at-ge8192 t c =
-    sym (fill-far _ _ _ _ _ c.if-at-ge8192.true)
-
-pub fill_stmt-returns-then-place-ge256 : goal.fill_stmt-returns-then-place-ge256
-fill_stmt-returns-then-place-ge256 t c =
-    sym (fill-full _ _ _ _ _ c.if-at-ge8192.false c.if-place-ge256.true)
+    sym (fill-stop _ _ _ _ _ c.then-depth-eq0.either)
 
 pub fill_stmt-returns-in-0 : goal.fill_stmt-returns-in-0
 unfolding fill_form form_map
@@ -109,7 +101,7 @@ fill_stmt-returns-in-16 t c =
     let a = c.args in
     let f = filling a.at a.place a.code.now in
     c.emit.ensures
-    ∙ ap (λ (g : ℕ). emit a.thread wait_kind (a.at + 1) 0 (a.at + 2 + 2 * g) f) (c.wide.ensures ∙ c.byte_at-field.ensures)
+    ∙ ap (λ (g : ℕ). emit a.thread wait_kind (a.at + 1) 0 (a.at + 2 + 2 * g) f) c.byte_at-field.ensures
     ∙ sym
     (fill-form _ _ _ _ _ a_wait c.if-depth-eq0.false c.if-at-ge8192.false c.if-place-ge256.false
     (sym c.byte_at-map.ensures ∙ c.in-16.is))

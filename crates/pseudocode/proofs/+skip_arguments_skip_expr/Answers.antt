@@ -7,7 +7,7 @@ use Rattle.sheet.specs.Expression.{a_variable, a_constant, an_unknown, a_unary, 
 use Rattle.sheet.proofs.Expression.{map_of}
 use Rattle.sheet.proofs.Nodes.{other-map}
 use Rattle.pseudocode.specs.Skipping.{every_map, argument_count, skip_arguments, skip_node, skip_at}
-use Rattle.pseudocode.proofs.Skipping.{arguments-most, arguments-none, arguments-next, skip-none, skip-far, skip-kind, skip-other}
+use Rattle.pseudocode.proofs.Skipping.{arguments-most, arguments-none, arguments-next, skip-stop, skip-kind, skip-other}
 use Rattle.pseudocode.proofs.+skip_arguments_skip_expr.Goals as goal
 
 pub skip_arguments-returns-then-count-eq0 : goal.skip_arguments-returns-then-count-eq0
@@ -20,38 +20,34 @@ skip_arguments-returns t c =
 
 pub skip_expr-returns-then-depth-eq0 : goal.skip_expr-returns-then-depth-eq0
 skip_expr-returns-then-depth-eq0 t c =
-    sym (skip-none _ _ _ _ c.if-depth-eq0.true)
-
-pub skip_expr-returns-then-at-ge8192 : goal.skip_expr-returns-then-at-ge8192
-skip_expr-returns-then-at-ge8192 t c =
-    sym (skip-far _ _ _ _ c.if-at-ge8192.true)
+    sym (skip-stop _ _ _ _ c.then-depth-eq0.either)
 
 pub skip_expr-skip_arguments-requires : goal.skip_expr-skip_arguments-requires
 skip_expr-skip_arguments-requires t c =
     let a = c.args in
-    let most = arguments-most a.sheet.now a.definitions.now c.byte_at.result in
+    let most = arguments-most a.sheet.now a.definitions.now c.byte_at-in-128.result in
     let e = c.argument_count-count.ensures in
     search (rules, most, e)
 
 pub skip_expr-returns-in-2 : goal.skip_expr-returns-in-2
 unfolding skip_node map_of
 skip_expr-returns-in-2 t c =
-    sym (skip-kind _ _ _ _ a_variable c.if-depth-eq0.false c.if-at-ge8192.false (sym c.byte_at-map.ensures ∙ c.in-2.is))
+    sym (skip-kind _ _ _ _ a_variable c.if-depth-eq0.false c.if-at-ge8192.false (sym c.byte_at.ensures ∙ c.in-2.is))
 
 pub skip_expr-returns-in-12 : goal.skip_expr-returns-in-12
 unfolding skip_node map_of
 skip_expr-returns-in-12 t c =
-    sym (skip-kind _ _ _ _ a_constant c.if-depth-eq0.false c.if-at-ge8192.false (sym c.byte_at-map.ensures ∙ c.in-12.is))
+    sym (skip-kind _ _ _ _ a_constant c.if-depth-eq0.false c.if-at-ge8192.false (sym c.byte_at.ensures ∙ c.in-12.is))
 
 pub skip_expr-returns-in-4 : goal.skip_expr-returns-in-4
 unfolding skip_node map_of
 skip_expr-returns-in-4 t c =
-    sym (skip-kind _ _ _ _ an_unknown c.if-depth-eq0.false c.if-at-ge8192.false (sym c.byte_at-map.ensures ∙ c.in-4.is))
+    sym (skip-kind _ _ _ _ an_unknown c.if-depth-eq0.false c.if-at-ge8192.false (sym c.byte_at.ensures ∙ c.in-4.is))
 
 pub skip_expr-returns-in-17 : goal.skip_expr-returns-in-17
 unfolding skip_node map_of
 skip_expr-returns-in-17 t c =
-    c.skip_expr.ensures ∙ sym (skip-kind _ _ _ _ a_unary c.if-depth-eq0.false c.if-at-ge8192.false (sym c.byte_at-map.ensures ∙ c.in-17.is))
+    c.skip_expr.ensures ∙ sym (skip-kind _ _ _ _ a_unary c.if-depth-eq0.false c.if-at-ge8192.false (sym c.byte_at.ensures ∙ c.in-17.is))
 
 pub skip_expr-returns-in-49 : goal.skip_expr-returns-in-49
 unfolding skip_node map_of
@@ -59,7 +55,7 @@ skip_expr-returns-in-49 t c =
     let a = c.args in
     c.skip_expr-in-49.ensures
     ∙ ap (skip_at (a.depth - 1) a.sheet.now a.definitions.now) c.skip_expr-b.ensures
-    ∙ sym (skip-kind _ _ _ _ a_binary c.if-depth-eq0.false c.if-at-ge8192.false (sym c.byte_at-map.ensures ∙ c.in-49.is))
+    ∙ sym (skip-kind _ _ _ _ a_binary c.if-depth-eq0.false c.if-at-ge8192.false (sym c.byte_at.ensures ∙ c.in-49.is))
 
 pub skip_expr-returns-in-113 : goal.skip_expr-returns-in-113
 unfolding skip_node map_of
@@ -68,7 +64,7 @@ skip_expr-returns-in-113 t c =
     let skip = skip_at (a.depth - 1) a.sheet.now a.definitions.now in
     c.skip_expr-in-113.ensures
     ∙ ap skip (c.skip_expr-b-in-113.ensures ∙ ap skip c.skip_expr-a.ensures)
-    ∙ sym (skip-kind _ _ _ _ a_conditional c.if-depth-eq0.false c.if-at-ge8192.false (sym c.byte_at-map.ensures ∙ c.in-113.is))
+    ∙ sym (skip-kind _ _ _ _ a_conditional c.if-depth-eq0.false c.if-at-ge8192.false (sym c.byte_at.ensures ∙ c.in-113.is))
 
 pub skip_expr-returns-in-128 : goal.skip_expr-returns-in-128
 unfolding skip_node map_of
@@ -78,8 +74,8 @@ skip_expr-returns-in-128 t c =
     let ds = a.definitions.now in
     c.skip_arguments.ensures
     ∙ ap (λ (n : ℕ). skip_arguments (skip_at (a.depth - 1) s ds) n (a.at + 2))
-    (c.argument_count-count.ensures ∙ ap (argument_count s ds) c.byte_at.ensures)
-    ∙ sym (skip-kind _ _ _ _ a_call c.if-depth-eq0.false c.if-at-ge8192.false (sym c.byte_at-map.ensures ∙ c.in-128.is))
+    (c.argument_count-count.ensures ∙ ap (argument_count s ds) c.byte_at-in-128.ensures)
+    ∙ sym (skip-kind _ _ _ _ a_call c.if-depth-eq0.false c.if-at-ge8192.false (sym c.byte_at.ensures ∙ c.in-128.is))
 
 -- So many arguments as the definition says, at most four, are below the measure of one level more.
 
@@ -89,5 +85,5 @@ skip_expr-returns-in_default t c =
     let r = c.in_default.in_default-own.rest in
     sym
     (skip-other _ _ at _ c.if-depth-eq0.false c.if-at-ge8192.false
-    (ap (λ (m : ℕ). kind_of every_map m at) (sym c.byte_at-map.ensures)
+    (ap (λ (m : ℕ). kind_of every_map m at) (sym c.byte_at.ensures)
     ∙ other-map every_map _ at r.0.0.0.0.0.0.1 r.0.0.0.0.0.1 r.0.0.0.0.1 r.0.0.0.1 r.0.0.1 r.0.1 r.1))

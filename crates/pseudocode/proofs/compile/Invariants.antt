@@ -9,7 +9,3 @@ abbrev pub invariant-loop-t : goal.invariant-loop-t
 invariant-loop-t l =
     (l.t ≤ l.count) × (length l.sizes ≡ 8)
     × (compile_from l.sheet l.definitions (l.count - l.t) l.t (compiled l.next l.sizes l.code) ≡ compile_from l.sheet l.definitions l.count 0 (compiled l.body (replicate 8 0) l.initial.code))
-
-abbrev pub decreases-loop-t : goal.decreases-loop-t
-decreases-loop-t l =
-    l.count - l.t

@@ -1,4 +1,5 @@
 -- An instruction by the kind in its first word.
+use mathlib.Core.Path.{sym}
 use Rattle.pseudocode.proofs.Fetching.{decode-wait, decode-set, decode-later, decode-go, decode-rest}
 use Rattle.pseudocode.proofs.decode.Goals as goal
 
@@ -10,24 +11,20 @@ returns-in-0 c =
 pub returns-in-1 : goal.returns-in-1
 returns-in-1 c =
     let a = c.args in
-    rw (decode-set a.sheet.now a.w a.x c.in-1.is, c.wide_word.ensures)
+    sym (decode-set a.sheet.now a.w a.x c.in-1.is)
 
 pub returns-in-2 : goal.returns-in-2
 returns-in-2 c =
     let a = c.args in
-    rw (decode-later a.sheet.now a.w a.x c.in-2.is, c.wide_word-in-2.ensures)
+    sym (decode-later a.sheet.now a.w a.x c.in-2.is)
 
 pub returns-in-3 : goal.returns-in-3
 returns-in-3 c =
     let a = c.args in
-    rw (decode-go a.sheet.now a.w a.x c.in-3.is, c.wide_word-in-3.ensures)
+    sym (decode-go a.sheet.now a.w a.x c.in-3.is)
 
 pub returns-in_default : goal.returns-in_default
 returns-in_default c =
     let a = c.args in
     let r = c.in_default.in_default-own.rest in
-    rw (
-      decode-rest a.sheet.now a.w a.x r.0.0.0.1 r.0.0.1 r.0.1 r.1,
-      c.wide_word-in_default.ensures,
-      c.wide_word-in_default-2.ensures,
-    )
+    sym (decode-rest a.sheet.now a.w a.x r.0.0.0.1 r.0.0.1 r.0.1 r.1)

@@ -1,15 +1,11 @@
 -- Inside the table the instruction of the two words, and `go 0` outside.
 use mathlib.Core.Path.{sym, ◌∙◌}
-use Rattle.pseudocode.proofs.Fetching.{fetch-in, fetch-thread, fetch-place}
+use Rattle.pseudocode.proofs.Fetching.{fetch-in, fetch-outside}
 use Rattle.pseudocode.proofs.fetch.Goals as goal
 
 pub returns-then-thread-ge8 : goal.returns-then-thread-ge8
 returns-then-thread-ge8 c =
-    sym (fetch-thread _ _ _ _ c.if-thread-ge8.true)
-
-pub returns-then-place-ge256 : goal.returns-then-place-ge256
-returns-then-place-ge256 c =
-    sym (fetch-place _ _ _ _ c.if-thread-ge8.false c.if-place-ge256.true)
+    sym (fetch-outside _ _ _ _ c.then-thread-ge8.either)
 
 pub returns : goal.returns
 returns c =

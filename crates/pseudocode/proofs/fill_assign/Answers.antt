@@ -6,4 +6,4 @@ use Rattle.pseudocode.proofs.fill_assign.Goals as goal
 pub returns : goal.returns
 unfolding fill_assign emit
 returns c =
-    c.emit.ensures ∙ rw (c.wide.ensures, c.skip_expr-next.ensures)
+    c.emit.ensures ∙ rw c.skip_expr-next.ensures

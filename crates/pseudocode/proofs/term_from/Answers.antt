@@ -8,11 +8,9 @@ unfolding term_from
 returns-then-k-count c =
     rw (
       lt-ltb _ _ c.if-k-count.true,
-      c.edge_of-e.ensures,
+      c.edge_of.ensures,
       c.byte_at.ensures,
-      c.byte_at-v.ensures,
-      c.wide.ensures,
-      c.wide_word.ensures,
+      c.byte_at-then-k-count.ensures,
     )
 
 pub returns-else-k-count : goal.returns-else-k-count

@@ -6,4 +6,4 @@ use Rattle.pseudocode.proofs.terms_at.Goals as goal
 pub returns : goal.returns
 unfolding terms_at
 returns c =
-    c.terms_from.ensures ∙ rw (c.byte_at-count.ensures, c.wide_word.ensures)
+    c.terms_from.ensures ∙ rw c.byte_at-count.ensures

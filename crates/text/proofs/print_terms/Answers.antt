@@ -9,7 +9,7 @@ use Rattle.writing.specs.Buffer.{filled, puts}
 use Rattle.text.specs.Listing.{show_term, show_terms}
 use Rattle.text.specs.Printing.{term_list}
 use Rattle.writing.proofs.Buffer.{puts-nil}
-use Rattle.text.proofs.Printing.{terms-step, term_of, length-terms}
+use Rattle.text.proofs.Printing.{terms-step, term_of}
 use Rattle.text.proofs.print_terms.Goals as goal
 
 pub returns : goal.returns
@@ -31,10 +31,6 @@ loop-k-preserved c =
           (c.print_term-p.ensures ∙ ap (λ x. puts (filled l.text l.p) (show_term x)) e)
           ∙ l.invariant.1,
     )
-
-pub overflow_add-k : goal.overflow_add-k
-overflow_add-k c =
-    omega (arith, c.term_count-n.ensures, length-terms c.args.t)
 
 pub loop-k-init : goal.loop-k-init
 loop-k-init c =

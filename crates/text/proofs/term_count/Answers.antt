@@ -1,11 +1,8 @@
 -- `text::term_count` meets its contract. Assumes nothing.
-use Rattle.text.proofs.Printing.{count-terms, count-eight}
+use mathlib.Core.Path.{◌∙◌}
+use Rattle.text.proofs.Printing.{count-min}
 use Rattle.text.proofs.term_count.Goals as goal
 
-pub returns-then-t-lt8 : goal.returns-then-t-lt8
-returns-then-t-lt8 c =
-    count-terms c.args.t c.if-t-lt8.true
-
-pub returns-else-t-lt8 : goal.returns-else-t-lt8
-returns-else-t-lt8 c =
-    count-eight c.args.t c.if-t-lt8.false
+pub returns : goal.returns
+returns c =
+    c.min.ensures ∙ count-min c.args.t

@@ -28,7 +28,7 @@ print_expr-returns-then-map-eq2 t c =
     c.if-sheet-at.false c.byte_at-map.ensures c.byte_at-b.ensures in
     let e = n ∙ Printing.node-variable _ _ _ _ _ _ _
     c.if-map-eq2.true in
-    Printing.leaves-shown _ _ _ e (c.put_name-p.ensures ∙ ap (puts _) (ap (name_of _) c.wide.ensures))
+    Printing.leaves-shown _ _ _ e c.put_name-p.ensures
 
 pub print_expr-returns-then-map-eq12 : goal.print_expr-returns-then-map-eq12
 print_expr-returns-then-map-eq12 t c =

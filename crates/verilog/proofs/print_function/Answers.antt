@@ -1,5 +1,5 @@
 -- `verilog::print_function` meets its contract: its names are those of a module with its parameters and one register. Assumes nothing.
-use mathlib.Core.Path.{◌∙◌}
+use mathlib.Core.Path.{refl, ◌∙◌}
 use lib.ListN.{length-replicate}
 use Prim.Native.Nat.{ℕ}
 use Rattle.writing.specs.Ascii.{ascii}
@@ -16,7 +16,7 @@ unfolding ascii
 returns c =
     let a = c.args in
     definition-path _ _ a.n a.at _ _ _ _ c.if-sheet-at.false c.byte_at-k.ensures
-    c.wide-count.ensures c.byte_at-width.ensures
+    refl c.byte_at-width.ensures
     (c.fill_plain.ensures ∙ plainly-whole _ 1 _ (length-replicate {A = ℕ} 2560 0))
     c.put_function-p.ensures c.put_declarations-q.ensures c.put_word-w.ensures
     c.print_stmt-a.ensures c.put_result-end.ensures

@@ -7,10 +7,6 @@ use Rattle.verilog.proofs.print_functions.Given as goal
 
 abbrev pub invariant-loop-k : goal.invariant-loop-k
 invariant-loop-k l =
-    (l.k ≤ l.count)
-    × (leaves (filled l.text l.p) (definitions_at l.sheet l.definitions (l.count - l.k) l.k l.next) ≡ leaves (filled l.initial.text l.pos)
+    (l.k ≤ l.n)
+    × (leaves (filled l.text l.p) (definitions_at l.sheet l.definitions (l.n - l.k) l.k l.next) ≡ leaves (filled l.initial.text l.pos)
     (definitions_at l.sheet l.definitions l.n 0 l.at))
-
-abbrev pub decreases-loop-k : goal.decreases-loop-k
-decreases-loop-k l =
-    l.count - l.k

@@ -6,12 +6,8 @@ use Rattle.naming.specs.Naming.{name_of}
 use Rattle.verilog.specs.Printing.{leaves, threads_at}
 use Rattle.verilog.proofs.print_threads.Given as goal
 
-abbrev pub invariant-loop-k : goal.invariant-loop-k
-invariant-loop-k l =
-    (l.k ≤ l.n)
-    × (leaves (filled l.text l.p) (threads_at (name_of l.names) l.sheet l.definitions (l.n - l.k) l.next) ≡ leaves (filled l.initial.text l.pos)
+abbrev pub invariant-loop : goal.invariant-loop
+invariant-loop l =
+    (l.counter ≤ l.n)
+    × (leaves (filled l.text l.p) (threads_at (name_of l.names) l.sheet l.definitions (l.n - l.counter) l.next) ≡ leaves (filled l.initial.text l.pos)
     (threads_at (name_of l.names) l.sheet l.definitions l.n l.at))
-
-abbrev pub decreases-loop-k : goal.decreases-loop-k
-decreases-loop-k l =
-    l.n - l.k

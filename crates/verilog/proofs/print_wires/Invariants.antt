@@ -11,7 +11,3 @@ invariant-loop-k l =
     (l.k ≤ l.n)
     × (leaves (filled l.text l.p) (wires_at (name_of l.names) l.sheet l.definitions (l.n - l.k) (l.first + l.k) l.next) ≡ leaves (filled l.initial.text l.pos)
     (wires_at (name_of l.names) l.sheet l.definitions l.n l.first l.at))
-
-abbrev pub decreases-loop-k : goal.decreases-loop-k
-decreases-loop-k l =
-    l.n - l.k

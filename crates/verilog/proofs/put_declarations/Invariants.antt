@@ -11,7 +11,3 @@ invariant-loop-v l =
     (l.v ≤ l.n)
     × (puts (filled l.text l.p) (declarations_at (name_of l.names) l.sheet l.inputs l.registers l.first (l.n - l.v) l.v) ≡ puts (filled l.initial.text l.pos)
     (declarations_at (name_of l.names) l.sheet l.inputs l.registers l.first l.n 0))
-
-abbrev pub decreases-loop-v : goal.decreases-loop-v
-decreases-loop-v l =
-    l.n - l.v

@@ -5,4 +5,4 @@ use Rattle.verilog.proofs.put_indent.Goals as goal
 pub returns : goal.returns
 unfolding indent
 returns c =
-    rw (← c.wide.ensures) c.put_many.ensures
+    c.put_many.ensures

@@ -1,7 +1,6 @@
 -- `verilog::put_opening` meets its contract. Assumes nothing.
 use mathlib.Core.Path.{sym, ap, ◌∙◌}
 use Rattle.writing.specs.Ascii.{ascii}
-use Rattle.writing.specs.Numbers.{decimal}
 use Rattle.writing.specs.Buffer.{puts}
 use Rattle.writing.proofs.Buffer.{both}
 use Rattle.verilog.proofs.Printing.{opening-call, opening-operator}
@@ -16,6 +15,6 @@ pub returns : goal.returns
 unfolding ascii
 returns c =
     both _ _ _ _ _ c.put_word-p.ensures
-    (both _ _ _ _ _ (c.put_decimal-q.ensures ∙ ap (puts _) (ap decimal c.wide.ensures))
+    (both _ _ _ _ _ c.put_decimal-q.ensures
     c.put_word-2.ensures)
     ∙ ap (puts _) (sym (opening-call _ _ c.if-map-ne128.false))

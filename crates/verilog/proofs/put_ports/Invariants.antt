@@ -11,7 +11,3 @@ invariant-loop-v l =
     (l.v ≤ l.n)
     × (puts (filled l.text l.p) (ports_text (name_of l.names) (l.n - l.v) l.v) ≡ puts (filled l.initial.text l.pos)
     (ports_text (name_of l.names) l.n 0))
-
-abbrev pub decreases-loop-v : goal.decreases-loop-v
-decreases-loop-v l =
-    l.n - l.v

@@ -19,5 +19,5 @@ unfolding ascii
 returns c =
     both _ _ _ _ _ c.put_word-p.ensures
     (both _ _ _ _ _ (c.put_decimal-q.ensures ∙ ap (puts _)
-    (ap decimal c.less.ensures)) c.put_word.ensures)
+    (ap decimal c.saturating_sub.ensures)) c.put_word.ensures)
     ∙ ap (puts _) (sym (range-wide _ c.if-width-eq1.false))

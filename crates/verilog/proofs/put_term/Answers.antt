@@ -7,6 +7,6 @@ use Rattle.verilog.proofs.put_term.Goals as goal
 pub returns : goal.returns
 unfolding term_at ascii
 returns c =
-    rw (← c.byte_at-edge.ensures, ← c.byte_at-v.ensures, ← c.wide.ensures)
+    rw (← c.byte_at-edge.ensures, ← c.byte_at-v.ensures)
     (both _ _ _ _ _ c.put_before-p.ensures
     (both _ _ _ _ _ c.put_edge-q.ensures c.put_name.ensures))

@@ -7,7 +7,7 @@ use Rattle.writing.specs.Buffer.{filled, puts}
 use Rattle.writing.proofs.Buffer.{puts-nil}
 use Rattle.naming.specs.Naming.{name_of}
 use Rattle.verilog.specs.Printing.{terms_at}
-use Rattle.verilog.proofs.Printing.{inside-below, terms-inside, terms-turn, terms-end}
+use Rattle.verilog.proofs.Printing.{inside-below, inside-min, terms-inside, terms-turn, terms-end}
 use Rattle.verilog.proofs.put_terms.Goals as goal
 
 pub loop-k-init : goal.loop-k-init
@@ -15,21 +15,14 @@ loop-k-init c =
     let a = c.args in
     let s = a.sheet.now in
     let name = name_of a.names.now in
-    let whole : c.wide-count.result - 0 ≡ a.n = omega (arith, c.wide-count.ensures) in (
+    let start = c.min-start.ensures ∙ inside-min s a.at in
+    let whole : a.n - 0 ≡ a.n = omega arith in (
       search rules,
       search rules,
-      omega (arith, c.inside-start.ensures, inside-below s a.at),
+      omega (arith, start, inside-below s a.at),
       ap (puts (filled a.text.now a.pos))
-          ((λ j. terms_at name s (whole j) 0 (c.inside-start.ensures j)) ∙ terms-inside name s a.n a.at),
+          ((λ j. terms_at name s (whole j) 0 (start j)) ∙ terms-inside name s a.n a.at),
     )
-
-pub put_term-p-requires : goal.put_term-p-requires
-put_term-p-requires c =
-    omega (arith, c.wide-count.ensures)
-
-pub overflow_add-q : goal.overflow_add-q
-overflow_add-q c =
-    omega (arith, c.wide-count.ensures)
 
 pub loop-k-preserved : goal.loop-k-preserved
 loop-k-preserved c =
@@ -38,7 +31,7 @@ loop-k-preserved c =
       search rules,
       search rules,
       search rules,
-      terms-turn (name_of a.names.now) a.sheet.now c.wide-count.result l.k l.q
+      terms-turn (name_of a.names.now) a.sheet.now a.n l.k l.q
           (filled l.text l.p) _ c.loop-k-test.true c.put_term-p.ensures
           ∙ l.invariant.3,
     )
@@ -47,5 +40,5 @@ pub returns : goal.returns
 returns c =
     let a = c.args in
     let l = c.loop-k in
-    let e = terms-end (name_of a.names.now) a.sheet.now c.wide-count.result l.k l.q c.loop-k-test.false in
+    let e = terms-end (name_of a.names.now) a.sheet.now a.n l.k l.q c.loop-k-test.false in
     sym (puts-nil _) ∙ ap (λ x. puts (filled l.text l.p) x) (sym e) ∙ l.invariant.3

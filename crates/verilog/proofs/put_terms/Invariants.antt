@@ -12,7 +12,3 @@ invariant-loop-k l =
     (l.k ≤ l.count) × (l.q ≡ l.start + 2 * l.k) × (l.start ≤ length l.sheet)
     × (puts (filled l.text l.p) (terms_at (name_of l.names) l.sheet (l.count - l.k) l.k l.q) ≡ puts (filled l.initial.text l.pos)
     (terms_at (name_of l.names) l.sheet l.n 0 l.at))
-
-abbrev pub decreases-loop-k : goal.decreases-loop-k
-decreases-loop-k l =
-    l.count - l.k

@@ -6,11 +6,7 @@ use Rattle.sheet.specs.Module.{read_threads}
 use Rattle.sheet.specs.Parts.{scope_of, outlines, place_answer}
 use Rattle.sheet.proofs.body.read_threads.Given as goal
 
-abbrev pub invariant-loop-k : goal.invariant-loop-k
-invariant-loop-k l =
+abbrev pub invariant-loop : goal.invariant-loop
+invariant-loop l =
     place_answer (read_threads (located l.sheet) (scope_of l.inputs l.registers l.widths l.declared (outlines l.sheet l.definitions l.declared)) l.sheet l.count l.at)
-    ≡ place_answer (read_threads (located l.sheet) (scope_of l.inputs l.registers l.widths l.declared (outlines l.sheet l.definitions l.declared)) l.sheet (l.count - l.k) l.place)
-
-abbrev pub decreases-loop-k : goal.decreases-loop-k
-decreases-loop-k l =
-    l.count - l.k
+    ≡ place_answer (read_threads (located l.sheet) (scope_of l.inputs l.registers l.widths l.declared (outlines l.sheet l.definitions l.declared)) l.sheet (l.count - l.counter) l.place)

@@ -13,7 +13,3 @@ invariant-loop-k l =
     × (l.variable ≡ l.inputs + l.registers + l.k)
     × (wires_answer (read_wires (located l.sheet) (scope_of l.inputs l.registers l.widths l.declared (outlines l.sheet l.definitions l.declared)) l.sheet l.count (l.inputs + l.registers) l.at)
     ≡ filled l.starts l.k (read_wires (located l.sheet) (scope_of l.inputs l.registers l.widths l.declared (outlines l.sheet l.definitions l.declared)) l.sheet (l.count - l.k) l.variable l.place))
-
-abbrev pub decreases-loop-k : goal.decreases-loop-k
-decreases-loop-k l =
-    l.count - l.k

@@ -4,6 +4,7 @@ use Rattle.sheet.specs.Reading.{within}
 use Rattle.sheet.specs.Parts.{byte_answer}
 use Rattle.sheet.proofs.Reading.{byte-at, byte-end}
 use Rattle.sheet.proofs.bytes.read_within.Goals as goal
+use Rattle.sheet.proofs.bytes.read_within.Goals.{then-b-low-via-then-b-low, then-b-low-via-else-b-low+then-high-b}
 
 pub returns-then-end-at : goal.returns-then-end-at
 unfolding byte_answer within
@@ -13,12 +14,11 @@ returns-then-end-at c =
 pub returns-then-b-low : goal.returns-then-b-low
 unfolding byte_answer within
 returns-then-b-low c =
-    simp (byte-at c.args.sheet.now c.args.at c.if-end-at.false, lt-leb _ _ c.if-b-low.true)
-
-pub returns-then-high-b : goal.returns-then-high-b
-unfolding byte_answer within
-returns-then-high-b c =
-    simp (byte-at c.args.sheet.now c.args.at c.if-end-at.false, le-leb _ _ c.if-b-low.false, lt-leb _ _ c.if-high-b.true)
+    elim c.then-b-low.branch [
+      | then-b-low-via-then-b-low w ↦ simp (byte-at c.args.sheet.now c.args.at c.if-end-at.false, lt-leb _ _ w.if-b-low.true)
+      | then-b-low-via-else-b-low+then-high-b w ↦
+          simp (byte-at c.args.sheet.now c.args.at c.if-end-at.false, le-leb _ _ w.if-b-low.false, lt-leb _ _ w.if-high-b.true)
+    ]
 
 pub returns : goal.returns
 unfolding byte_answer within

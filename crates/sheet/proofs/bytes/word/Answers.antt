@@ -1,9 +1,9 @@
 -- `sheet::bytes::word` meets its contract. Assumes nothing.
-use mathlib.Core.Path.{refl}
+use native.Mathlib.Omega.{arith}
 use Rattle.sheet.specs.Reading.{word}
 use Rattle.sheet.proofs.bytes.word.Goals as goal
 
 pub returns : goal.returns
 unfolding word
 returns c =
-    refl
+    omega (arith, c.from_le_bytes.ensures)

@@ -5,6 +5,7 @@ use borrow.Author.Rules.{rules}
 use mathlib.Core.Path.{refl, sym, ap, ◌∙◌}
 use Prim.Native.Nat.{◌-◌}
 use native.Mathlib.Omega.{arith}
+use borrow.Author.Tests.{ne_eqb}
 use lib.ListN.{drop}
 use Rattle.sheet.specs.Expression.{a_variable, a_constant, an_unknown, a_unary, a_binary, a_conditional, a_call, node}
 use Rattle.sheet.specs.Answers.{expr_answer}
@@ -40,7 +41,7 @@ pub read_arguments-returns-else-wanted-width : goal.read_arguments-returns-else-
 read_arguments-returns-else-wanted-width t c =
     let e = (expr-read c.read_expr-e.ensures c.in-Read.is).1 in
     let r = arguments-read _ c.read_arguments-rest.ensures c.in-Read-rest.is in
-    arguments-other _ _ c.if-parameters-eq0.false _ e r c.if-wanted-width.false
+    rw (ne_eqb _ _ c.if-wanted-width.false) (arguments-other _ _ c.if-parameters-eq0.false _ e r c.if-wanted-width.false)
 
 pub read_binary-returns-in-Refused : goal.read_binary-returns-in-Refused
 read_binary-returns-in-Refused t c =

@@ -11,7 +11,3 @@ abbrev pub invariant-loop-k : goal.invariant-loop-k
 invariant-loop-k l =
     (length l.definitions ≡ 8)
     × (functions_answer (read_functions l.count l.count [] l.sheet l.at) ≡ defined l.definitions l.k (read_functions l.count (l.count - l.k) (outlines l.sheet l.definitions l.k) l.sheet l.place))
-
-abbrev pub decreases-loop-k : goal.decreases-loop-k
-decreases-loop-k l =
-    l.count - l.k

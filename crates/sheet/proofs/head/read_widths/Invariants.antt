@@ -8,7 +8,3 @@ use Rattle.sheet.proofs.head.read_widths.Given as goal
 abbrev pub invariant-loop-at : goal.invariant-loop-at
 invariant-loop-at l =
     widths_answer (read_widths (l.end - l.first) l.sheet l.first) ≡ widths_answer (read_widths (l.end - l.at) l.sheet l.at)
-
-abbrev pub decreases-loop-at : goal.decreases-loop-at
-decreases-loop-at l =
-    l.end - l.at

@@ -49,4 +49,5 @@ returns-else-narrow t c =
     let e = byte-read c.read_within-first.ensures c.in-Byte.is in
     let v = byte-read c.read_name-second.ensures c.in-Byte-second.is in
     let r = terms-read _ c.read_terms-rest.ensures c.in-Read.is in
-    answer-terms _ (terms-made _ _ _ _ c.if-count-eq0.false e v r.1 c.before.before.edge_of.ensures) (wide-more _ _ _ (sym c.narrow.ensures ∙ c.if-narrow.false))
+    rw c.if-narrow.false
+    (answer-terms _ (terms-made _ _ _ _ c.if-count-eq0.false e v r.1 c.before.before.edge_of.ensures) (wide-more _ _ _ (sym c.narrow.ensures ∙ c.if-narrow.false)))
