@@ -3,7 +3,8 @@
 #![tactic(auto)]
 
 ghost use Rattle.std.specs.Prelude.{◌≡◌};
-ghost use Rattle.allowances.specs.Allowances.{user_of, nothing, spoilt, digit_taken, comma_taken, taken, refused, allowed_by, allowances_of};
+ghost use Rattle.allowances.specs.Allowances.{user_of, nothing, spoilt, digit_taken, comma_taken, taken};
+ghost use Rattle.allowances.specs.Allowances.{refused, allowed_by, allowances_of};
 
 // The greatest allowance: each user's where no word says otherwise.
 pub const MOST: u32 = 4294967295;
@@ -16,7 +17,7 @@ pub struct Allowances {
 }
 
 // What the characters so far are: all right or not, how many commas there were, whether the number behind the last has no digit yet, that
-// number, and those before it.
+// number, and those before it. Stays a record with a flag: `spoilt` of specs/Allowances keeps what was read before.
 #[derive(Clone, Copy)]
 pub struct Reading {
     pub good: bool,
@@ -27,13 +28,15 @@ pub struct Reading {
 }
 
 // A number as a user: those that are no byte's are 255, a user that there isn't (46).
+#[tactic(auto, unfolding(crate::specs::Allowances::user_of))]
 pub fn user_of(n: u32) -> u8
     ensures { result ≡ user_of n }
 {
-    if n < 255 { n as u8 } else { 255 }
+    u8::try_from(n).unwrap_or(255)
 }
 
 // Before the first character.
+#[tactic(auto, unfolding(crate::specs::Allowances::nothing))]
 fn nothing() -> Reading
     ensures { result ≡ nothing }
 {
@@ -47,44 +50,31 @@ fn nothing() -> Reading
 }
 
 // A character that can't stand there.
+#[tactic(auto, unfolding(crate::specs::Allowances::spoilt))]
 fn spoilt(r: Reading) -> Reading
     ensures { result ≡ spoilt r }
 {
-    let each = r.each;
-    Reading {
-        good: false,
-        commas: r.commas,
-        fresh: r.fresh,
-        n: r.n,
-        each,
-    }
-}
-
-fn wide(n: u32) -> u64
-    ensures { result ≡ n }
-{
-    n as u64
+    Reading { good: false, ..r }
 }
 
 // A digit: the number stays below 2^32.
+#[tactic(auto, unfolding(crate::specs::Allowances::digit_taken))]
 fn digit_taken(r: Reading, d: u8) -> Reading
     ensures { result ≡ digit_taken r d }
 {
-    let more = wide(r.n) * 10 + wide(d as u32);
+    let more = r.n as u64 * 10 + d as u64;
     if 4294967296 <= more {
         return spoilt(r);
     }
-    let each = r.each;
     Reading {
-        good: r.good,
-        commas: r.commas,
         fresh: false,
         n: more as u32,
-        each,
+        ..r
     }
 }
 
 // A comma: it ends a number, and is the third at most.
+#[tactic(auto, unfolding(crate::specs::Allowances::comma_taken))]
 fn comma_taken(r: Reading) -> Reading
     ensures { result ≡ comma_taken r }
 {
@@ -98,15 +88,16 @@ fn comma_taken(r: Reading) -> Reading
     let mut each = r.each;
     each[k] = r.n;
     Reading {
-        good: r.good,
         commas: k + 1,
         fresh: true,
         n: 0,
         each,
+        ..r
     }
 }
 
 // One character.
+#[tactic(auto, unfolding(crate::specs::Allowances::taken))]
 fn taken(r: Reading, b: u8) -> Reading
     ensures { result ≡ taken r b }
 {
@@ -121,6 +112,7 @@ fn taken(r: Reading, b: u8) -> Reading
 }
 
 // A word that is none.
+#[tactic(auto, unfolding(crate::specs::Allowances::refused))]
 fn refused() -> Allowances
     ensures { result ≡ refused }
 {
@@ -131,13 +123,11 @@ fn refused() -> Allowances
 }
 
 // What was read: four numbers with three commas between them.
+#[tactic(auto, unfolding(crate::specs::Allowances::allowed_by))]
 fn allowed_by(r: Reading) -> Allowances
     ensures { result ≡ allowed_by r }
 {
-    if !r.good {
-        return refused();
-    }
-    if r.fresh {
+    if !r.good || r.fresh {
         return refused();
     }
     if r.commas != 3 {
@@ -153,10 +143,8 @@ pub fn allowances_of(word: &[u8]) -> Allowances
     ensures { result ≡ allowances_of word.now }
 {
     let mut r = nothing();
-    let mut i: usize = 0;
-    while i < word.len() {
+    for i in 0..word.len() {
         r = taken(r, word[i]);
-        i += 1;
     }
     allowed_by(r)
 }

@@ -1,7 +1,7 @@
 -- The definitions from what the calls answer, row by row. Assumes nothing.
-use mathlib.Core.Path.{◌≡◌, refl, sym, ap, ◌∙◌}
+use mathlib.Core.Path.{◌≡◌}
 use mathlib.Core.Bool.{Bool, true, false}
-use mathlib.Core.List.{List, [], ◌∷◌}
+use mathlib.Core.List.{List}
 use Prim.Native.Nat.{ℕ, zero, suc, ◌+◌, ◌-◌, ◌<◌, ◌≤◌}
 use native.Mathlib.Numerals.{add-one}
 use native.Mathlib.Omega.{arith}
@@ -11,7 +11,7 @@ use lib.Seq.{sets}
 use Rattle.values.specs.Values.{pick}
 use Rattle.stimulus.specs.Counting.{counted, first_from}
 use Rattle.stimulus.specs.Lines.{word_at}
-use Rattle.columns.specs.Columns.{counting, is_comma, variable_of, name_end, choice, Chosen, chosen, chosen_from}
+use Rattle.columns.specs.Columns.{counting, is_comma, variable_of, name_end, choice, chosen, chosen_from}
 
 -- ---- counting: one number stored, and the rest to come
 

@@ -2,11 +2,13 @@
 #![tactic(auto)]
 
 ghost use Rattle.std.specs.Prelude.{◌≡◌};
+ghost use Rattle.stimulus.specs.Counting.{found_below};
 ghost use Rattle.columns.specs.Columns.{in_order, first_of, behind_of, variable_of, name_end, choice, chosen, all_chosen};
 
 use stimulus::counted;
 
-// How many columns there are, and what is wrong: error 0 nothing, 1 no such variable, 2 more than 80; with the place of that name.
+// How many columns there are, and what is wrong: error 0 nothing, 1 no such variable, 2 more than 80; with the place of that name. Stays a
+// record with a number: what is refused keeps the columns before it (`chosen_from` of specs/Columns).
 #[derive(Clone, Copy)]
 pub struct Choice {
     pub count: usize,
@@ -20,10 +22,8 @@ pub struct Choice {
 pub fn put_in_order(places: &mut [u8; 80])
     ensures { places.new ≡ in_order places.old }
 {
-    let mut i: usize = 0;
-    while i < 80 {
+    for i in 0..80 {
         places[i] = i as u8;
-        i += 1;
     }
 }
 
@@ -44,33 +44,28 @@ pub fn behind_of(shown: bool, inputs: u8, registers: u8, wires: u8) -> usize
 
 // ---- by their names
 
-// Which of n variables has a name; n where none has.
-fn variable_of(names: &[u8; 2560], n: u8, word: &[u8]) -> usize
-    ensures { result ≡ variable_of names.now n word.now }
+// Which of n variables has a name.
+fn variable_of(names: &[u8; 2560], n: u8, word: &[u8]) -> Option<u8>
+    ensures { result ≡ found_below n (variable_of names.now n word.now) }
 {
-    let end = n as usize;
-    let mut v: usize = 0;
-    while v < end {
-        if naming::same_name(names, v, word) {
-            return v;
+    for v in 0..n {
+        if naming::same_name(names, v as usize, word) {
+            return Some(v);
         }
-        v += 1;
     }
-    v
+    None
 }
 
 // Where the name ends that starts at a place.
 fn name_end(word: &[u8], from: usize) -> usize
     ensures { result ≡ name_end word.now from }
 {
-    let mut i = from;
-    while i < word.len() {
+    for i in from..word.len() {
         if word[i] == b',' {
             return i;
         }
-        i += 1;
     }
-    i
+    from.max(word.len())
 }
 
 fn told(count: usize, error: u8, column: usize) -> Choice
@@ -90,19 +85,16 @@ pub fn choose(names: &[u8; 2560], n: u8, word: &[u8], places: &mut [u8; 80]) -> 
 {
     let size = word.len();
     let mut from: usize = 0;
-    let mut count: usize = 0;
-    while count < 80 {
+    for count in 0..80 {
         let end = name_end(word, from);
-        let v = variable_of(names, n, &word[from..end]);
-        if n as usize <= v {
+        let Some(v) = variable_of(names, n, &word[from..end]) else {
             return told(count, 1, counted(from));
-        }
-        places[count] = v as u8;
-        count += 1;
+        };
+        places[count] = v;
         if size <= end {
-            return told(count, 0, 0);
+            return told(count + 1, 0, 0);
         }
         from = end + 1;
     }
-    told(count, 2, counted(from))
+    told(80, 2, counted(from))
 }

@@ -5,7 +5,7 @@
 mod saying;
 
 ghost use Rattle.std.specs.Prelude.{◌≡◌, ◌∷◌, [], ◌-◌};
-ghost use Rattle.stimulus.specs.Counting.{first_from};
+ghost use Rattle.stimulus.specs.Counting.{first_from, found_below};
 ghost use Rattle.comparison.specs.Comparison.{values_differ, places_differ, difference, differs, finding};
 ghost use Rattle.comparison.specs.Verdicts.{after, is_agreed, cycle_of, agreed_outcome, outcome_of};
 
@@ -36,7 +36,7 @@ pub enum Difference {
     Place(usize),
 }
 
-// What a cycle shows: all orders agree with the expressions, or one differs.
+// What a cycle shows: all orders agree with the expressions, or one differs. Stays an enum of its own: the theorem ByCycles speaks of it.
 #[derive(Clone, Copy)]
 pub enum Finding {
     Same,
@@ -57,84 +57,61 @@ pub enum Verdict {
     },
 }
 
-// A byte as a number of places.
-fn wide(b: u8) -> usize
-    ensures { result ≡ b }
-{
-    b as usize
-}
-
 // ---- two rows
 
-// The first variable from one number to another in which two rows differ, or the last.
-fn first_variable(a: &[u64], b: &[u64], from: usize, to: usize) -> usize
-    ensures { result ≡ first_from (values_differ a.now b.now) (to - from) from }
+// The first variable from one number to another in which two rows differ.
+fn first_variable(a: &[u64], b: &[u64], from: usize, to: usize) -> Option<usize>
+    ensures { result ≡ found_below to (first_from (values_differ a.now b.now) (to - from) from) }
 {
-    let mut v = from;
-    while v < to {
+    for v in from..to {
         let here = value_in(a, v);
         let there = value_in(b, v);
         if !values::same(here, there) {
-            return v;
+            return Some(v);
         }
-        v += 1;
     }
-    v
+    None
 }
 
-// The first of n threads whose places differ, or n.
-fn first_place(a: &[u64], b: &[u64], n: u8) -> u8
-    ensures { result ≡ first_from (places_differ a.now b.now) n 0 }
+// The first of n threads whose places differ.
+fn first_place(a: &[u64], b: &[u64], n: u8) -> Option<u8>
+    ensures { result ≡ found_below n (first_from (places_differ a.now b.now) n 0) }
 {
-    let mut i: u8 = 0;
-    while i < n {
+    for i in 0..n {
         if place_in(a, i) != place_in(b, i) {
-            return i;
+            return Some(i);
         }
-        i += 1;
     }
-    i
+    None
 }
 
 // Where two rows of a module differ first.
 pub fn first_difference(m: Counts, a: &[u64], b: &[u64]) -> Difference
     ensures { result ≡ difference m a.now b.now }
 {
-    let from = wide(m.inputs);
-    let to = from + (wide(m.registers) + wide(m.wires));
-    let v = first_variable(a, b, from, to);
-    if v < to {
-        let here = value_in(a, v);
-        let there = value_in(b, v);
+    let from = m.inputs as usize;
+    let to = from + (m.registers as usize + m.wires as usize);
+    if let Some(variable) = first_variable(a, b, from, to) {
         return Difference::Variable {
-            variable: v,
-            here,
-            there,
+            variable,
+            here: value_in(a, variable),
+            there: value_in(b, variable),
         };
     }
-    let n = m.threads;
-    let i = first_place(a, b, n);
-    if i < n {
-        return Difference::Place(wide(i));
+    match first_place(a, b, m.threads) {
+        Some(i) => Difference::Place(i as usize),
+        None => Difference::Nowhere,
     }
-    Difference::Nowhere
 }
 
 // ---- a cycle
 
 // Is there a difference?
+#[tactic(auto, unfolding(crate::specs::Comparison::differs))]
 fn differs(d: Difference) -> bool
     ensures { result ≡ differs d }
 {
-    match d {
-        Difference::Nowhere => false,
-        Difference::Variable {
-            variable: _,
-            here: _,
-            there: _,
-        } => true,
-        Difference::Place(_) => true,
-    }
+    !matches!(d, Difference::Nowhere)
 }
 
 // An order that differs.
@@ -184,26 +161,16 @@ pub fn after(v: Verdict, f: Finding) -> Verdict
                 difference,
             },
         },
-        Verdict::Differs {
-            cycle: _,
-            order: _,
-            difference: _,
-        } => v,
+        Verdict::Differs { .. } => v,
     }
 }
 
 // Has no order differed?
+#[tactic(auto, unfolding(crate::specs::Verdicts::is_agreed))]
 pub fn is_agreed(v: Verdict) -> bool
     ensures { result ≡ is_agreed v }
 {
-    match v {
-        Verdict::Agreed(_) => true,
-        Verdict::Differs {
-            cycle: _,
-            order: _,
-            difference: _,
-        } => false,
-    }
+    matches!(v, Verdict::Agreed(_))
 }
 
 // The cycle to come, or the one that differs.
@@ -212,11 +179,7 @@ pub fn cycle_of(v: Verdict) -> usize
 {
     match v {
         Verdict::Agreed(n) => n,
-        Verdict::Differs {
-            cycle,
-            order: _,
-            difference: _,
-        } => cycle,
+        Verdict::Differs { cycle, .. } => cycle,
     }
 }
 
@@ -237,10 +200,6 @@ pub fn outcome_of(v: Verdict) -> Outcome
 {
     match v {
         Verdict::Agreed(n) => agreed_outcome(n),
-        Verdict::Differs {
-            cycle: _,
-            order: _,
-            difference: _,
-        } => Outcome::Different,
+        Verdict::Differs { .. } => Outcome::Different,
     }
 }

@@ -1,5 +1,5 @@
 -- The definitions from what the calls answer, row by row. Assumes nothing.
-use Rattle.std.proofs.Common.{◌≡◌, ℕ, zero, suc, ◌+◌, ◌-◌, ◌%◌, ◌^◌, ◌<◌, ◌≤◌, Bool, true, false, List, length, get_or, sym, refl, ◌∙◌, arith, le-ltb, lt-ltb, eq-eqb, ne_eqb}
+use Rattle.std.proofs.Common.{◌≡◌, ℕ, suc, ◌+◌, ◌-◌, ◌%◌, ◌^◌, ◌<◌, ◌≤◌, Bool, true, false, List, length, get_or, arith, le-ltb, lt-ltb, eq-eqb, ne_eqb}
 use Rattle.stimulus.specs.declared.Line.{Line}
 use Rattle.stimulus.specs.Counting.{counted}
 use Rattle.stimulus.specs.Lines.{word_at}

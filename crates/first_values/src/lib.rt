@@ -2,10 +2,12 @@
 // its definition in specs/.
 #![tactic(auto)]
 
-ghost use Rattle.std.specs.Prelude.{◌≡◌, ◌≤◌, length, slice_index};
+ghost use Rattle.std.specs.Prelude.{◌≡◌, ◌≤◌, length};
+ghost use Rattle.stimulus.specs.Counting.{found_below};
 ghost use Rattle.first_values.specs.FirstValues.{ends, run_end, register_of, value_in, marked, with_value, valued};
 ghost use Rattle.first_values.specs.FirstValues.{word_taken, line_taken, lines_taken};
 
+use sheet::byte_at;
 use state::State;
 use stimulus::{Line, counted, line_end, parse};
 
@@ -31,47 +33,36 @@ const VARIABLES: usize = 80;
 // ---- the parts of a line
 
 // Does a byte end a run of blanks, or of others?
+#[tactic(auto, unfolding(crate::specs::FirstValues::ends))]
 fn ends(blank: bool, line: &[u8], i: usize) -> bool
     ensures { result ≡ ends blank line.now i }
 {
     let b = byte_at(line, i);
-    let known = hextext::is_blank(b);
-    if blank { !known } else { known }
-}
-
-// The byte at a place, 0 past the end.
-fn byte_at(s: &[u8], at: usize) -> u8
-    ensures { result ≡ slice_index s.now at }
-{
-    if at < s.len() { s[at] } else { 0 }
+    hextext::is_blank(b) != blank
 }
 
 // The end of a run that starts at a place.
 fn run_end(blank: bool, line: &[u8], from: usize) -> usize
     ensures { result ≡ run_end blank line.now from }
 {
-    let mut i = from;
-    while i < line.len() {
+    for i in from..line.len() {
         if ends(blank, line, i) {
             return i;
         }
-        i += 1;
     }
-    i
+    from.max(line.len())
 }
 
 // The register that has a name, of the variables from one place to another.
-fn register_of(names: &[u8; 2560], from: usize, to: usize, word: &[u8]) -> usize
-    ensures { result ≡ register_of names.now from to word.now }
+fn register_of(names: &[u8; 2560], from: usize, to: usize, word: &[u8]) -> Option<usize>
+    ensures { result ≡ found_below to (register_of names.now from to word.now) }
 {
-    let mut v = from;
-    while v < to {
+    for v in from..to {
         if naming::same_name(names, v, word) {
-            return v;
+            return Some(v);
         }
-        v += 1;
     }
-    v
+    None
 }
 
 // The value in the rest of a line.
@@ -97,6 +88,7 @@ fn told(error: u8, line: usize, column: usize, state: State) -> Marked
 }
 
 // A state with a variable's value.
+#[tactic(auto, unfolding(crate::specs::FirstValues::with_value))]
 fn with_value(st: State, v: usize, n: u32, marks: u32) -> State
     ensures { result ≡ with_value st v n marks }
 {
@@ -107,21 +99,10 @@ fn with_value(st: State, v: usize, n: u32, marks: u32) -> State
     let mut unknown = st.unknown;
     value[v] = n;
     unknown[v] = marks;
-    let pending = st.pending;
-    let unsure = st.unsure;
-    let held = st.held;
-    let places = st.places;
-    let due = st.due;
-    let counters = st.counters;
     State {
         value,
         unknown,
-        pending,
-        unsure,
-        held,
-        places,
-        due,
-        counters,
+        ..st
     }
 }
 
@@ -130,20 +111,11 @@ fn valued(st: State, v: usize, number: usize, to: usize, p: Line) -> Marked
     ensures { result ≡ valued st v number to p }
 {
     if p.error != 0 {
-        let column = std::num::wrapping_add_usize(to, p.column);
+        let column = to.wrapping_add(p.column);
         return told(p.error, number, column, st);
     }
-    let value = p.value;
-    let unknown = p.unknown;
-    let state = with_value(st, v, value[1], unknown[1]);
+    let state = with_value(st, v, p.value[1], p.unknown[1]);
     told(0, 0, 0, state)
-}
-
-// A byte as a number of places.
-fn place(b: u8) -> usize
-    ensures { result ≡ b }
-{
-    b as usize
 }
 
 // A line whose first word stands from one place to another.
@@ -161,15 +133,15 @@ fn take_word(
     requires to_in_bounds { to ≤ length line.now }
     ensures { result ≡ word_taken m.inputs m.registers widths.now names.now line.now number from to st }
 {
-    let first = place(m.inputs);
-    let behind = first + place(m.registers);
-    let v = register_of(names, first, behind, &line[from..to]);
-    if behind <= v {
-        return told(8, number, counted(from), st);
+    let first = m.inputs as usize;
+    let behind = first + m.registers as usize;
+    match register_of(names, first, behind, &line[from..to]) {
+        Some(v) => {
+            let p = value_in(byte_at(widths, v), &line[to..]);
+            valued(st, v, number, to, p)
+        }
+        None => told(8, number, counted(from), st),
     }
-    let end = line.len();
-    let p = value_in(byte_at(widths, v), &line[to..end]);
-    valued(st, v, number, to, p)
 }
 
 // A line of the file.
@@ -206,8 +178,7 @@ pub fn take_lines(
     let mut state = st;
     let mut from = 0;
     let mut number = 1;
-    let mut left = size;
-    while left > 0 {
+    for _ in 0..size {
         if size <= from {
             return told(0, 0, 0, state);
         }
@@ -219,7 +190,6 @@ pub fn take_lines(
         state = t.state;
         from = counted(end);
         number = counted(number);
-        left -= 1;
     }
     told(0, 0, 0, state)
 }

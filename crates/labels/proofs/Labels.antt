@@ -1,14 +1,14 @@
 -- The definitions from what the calls answer, row by row. Assumes nothing.
-use mathlib.Core.Path.{◌≡◌, refl, sym, ◌∙◌}
-use mathlib.Core.Bool.{Bool, true, false, not, ◌&&◌}
+use mathlib.Core.Path.{◌≡◌, sym}
+use mathlib.Core.Bool.{Bool, true, false}
 use mathlib.Core.List.{List}
 use Prim.Native.Nat.{ℕ, zero, suc, ◌+◌, ◌-◌, ◌<◌, ◌≤◌}
 use native.Mathlib.Omega.{arith}
 use borrow.Author.Tests.{eq-eqb, ne_eqb, lt-ltb, le-ltb}
 use lib.ListN.{length}
-use lib.Dec.{ltb, eqb}
+use lib.Dec.{ltb}
 use Rattle.values.specs.Values.{pick}
-use Rattle.naming.specs.Naming.{name_of, renamed, same_text}
+use Rattle.naming.specs.Naming.{renamed}
 use Rattle.stimulus.specs.declared.Class.TheVariants.{Blank, Word, Name}
 use Rattle.stimulus.specs.declared.NameLine.{NameLine}
 use Rattle.stimulus.specs.Counting.{counted, first_from}
@@ -68,14 +68,6 @@ line-inside bytes from to h =
 -- ---- is_taken
 
 module _ (names : List ℕ) (v : ℕ) (name : List ℕ) where
-  pub other-self : (u : ℕ) → u ≡ v → false ≡ is_other names v name u
-  unfolding is_other
-  other-self u e = rw (eq-eqb u v e)
-
-  pub other-not : (u : ℕ) → (u ≡ v → ⊥) → (t : Bool) → t ≡ same_text (name_of names u) name → t ≡ is_other names v name u
-  unfolding is_other
-  other-not u d t e = rw (ne_eqb u v d) e
-
   pub taken-found : (u : ℕ) → u < 80 → first_from (is_other names v name) 80 0 ≡ u → true ≡ is_taken names v name
   unfolding is_taken
   taken-found u l e = rw e (sym (lt-ltb u 80 l))

@@ -1,13 +1,12 @@
 -- Samples, computed from the definitions: two registers, a table of three rows. Assumes nothing.
 use mathlib.Core.Path.{◌≡◌, refl}
-use mathlib.Core.Bool.{true, false}
 use mathlib.Core.List.{List}
 use Prim.Native.Nat.{ℕ}
 use lib.ListN.{replicate}
 use Rattle.writing.specs.Ascii.{ascii}
 use Rattle.naming.specs.Naming.{name_from, name_of, padded, renamed, same_text}
-use Rattle.stimulus.specs.Counting.{counted, first_from}
-use Rattle.labels.specs.Labels.{is_other, is_taken, mark, right, labelled, named}
+use Rattle.stimulus.specs.Counting.{first_from}
+use Rattle.labels.specs.Labels.{is_other, is_taken, mark, right, named}
 
 abbrev table : List ℕ
 table = replicate 96 0

@@ -28,25 +28,21 @@ fn marked(error: u8, line: usize, column: usize) -> Mark
 }
 
 // Is variable `u` another than `v`, with this name?
+#[tactic(auto, unfolding(crate::specs::Labels::is_other))]
 fn is_other(names: &[u8; 2560], v: usize, name: &[u8], u: usize) -> bool
     ensures { result ≡ is_other names.now v name.now u }
 {
-    if u == v {
-        return false;
-    }
-    naming::same_name(names, u, name)
+    u != v && naming::same_name(names, u, name)
 }
 
 // Is the name another variable's?
 fn is_taken(names: &[u8; 2560], v: usize, name: &[u8]) -> bool
     ensures { result ≡ is_taken names.now v name.now }
 {
-    let mut u: usize = 0;
-    while u < 80 {
+    for u in 0..80 {
         if is_other(names, v, name, u) {
             return true;
         }
-        u += 1;
     }
     false
 }
@@ -81,12 +77,10 @@ fn take_line(
     if p.error != 0 {
         return marked(p.error, number, p.column);
     }
-    let from = p.from;
-    let to = p.to;
     named(
         names,
         p.variable as usize,
-        &line[from..to],
+        &line[p.from..p.to],
         number,
         p.column,
     )
@@ -106,8 +100,7 @@ pub fn take_lines(
     let size = bytes.len();
     let mut from = 0;
     let mut number = 1;
-    let mut left = size;
-    while left > 0 {
+    for _ in 0..size {
         if size <= from {
             return marked(0, 0, 0);
         }
@@ -118,7 +111,6 @@ pub fn take_lines(
         }
         from = counted(end);
         number = counted(number);
-        left -= 1;
     }
     marked(0, 0, 0)
 }

@@ -1,7 +1,9 @@
 -- What a list of words asks for: a command with its options, help, or a mistake with its place.
-use Rattle.std.specs.Prelude.{Bool, not, ◌&&◌, List, [], ◌∷◌, ℕ, ◌+◌, get_or, ltb, eqb}
+use Rattle.std.specs.Prelude.{Bool, Option, Some, None, not, ◌&&◌, List, [], ◌∷◌, ℕ, ◌+◌, get_or, ltb, eqb}
 use Rattle.values.specs.Values.{pick, ◌is◌then◌else◌}
 use Rattle.options.specs.declared.Options.{Options}
+use Rattle.options.specs.declared.Missing.{Missing}
+use Rattle.options.specs.declared.Missing.TheVariants.{Command as MissingCommand, Sheet as MissingSheet, Inputs as MissingInputs}
 use Rattle.options.specs.declared.Way.{Way}
 use Rattle.options.specs.declared.Way.TheVariants.{Plain, Drawn, Expressed, Counted}
 use Rattle.options.specs.declared.Shape.{Shape}
@@ -39,6 +41,13 @@ unfoldable pub lacking : Options → ℕ
 lacking o =
     o.command is 0 then 1 else
     pick (is_given o 30) (pick (is_fed o.command) (pick (is_given o 31) 0 3) 0) 2
+
+-- The number of the word that is missing.
+abbrev pub lack_of : Option Missing → ℕ
+lack_of None = 0
+lack_of (Some MissingCommand) = 1
+lack_of (Some MissingSheet) = 2
+lack_of (Some MissingInputs) = 3
 
 -- A run goes by a seed or by the expressions, and shows numbers in one base.
 unfoldable pub clashing : Options → Bool

@@ -1,28 +1,26 @@
 // What all words ask for, and the status of what came of it.
 ghost use Rattle.std.specs.Prelude.{◌≡◌, get_or};
-ghost use Rattle.options.specs.Requests.{is_given, is_fitting, is_misfit, misfit, lacking, way_of, clashing, based, kind_of, fault_of};
+ghost use Rattle.stimulus.specs.Counting.{found_at};
+ghost use Rattle.options.specs.Requests.{is_given, is_fitting, is_misfit, misfit, lacking, lack_of};
+ghost use Rattle.options.specs.Requests.{way_of, clashing, based, kind_of, fault_of};
 ghost use Rattle.options.specs.Requests.{base_of, last_of, every_of, shape_of, run_of, commanded};
 ghost use Rattle.options.specs.Requests.{paired, fitted, judged, request, sheet_of, names_of};
 ghost use Rattle.options.specs.Status.{joined, status_of};
 
 use crate::tables::{goes_beside, goes_with, is_fed};
 use crate::{
-    Command, CompareOptions, ExtractOptions, Options, Outcome, Request, RunOptions, Shape, Way,
+    Command, CompareOptions, ExtractOptions, Missing, Options, Outcome, Request, RunOptions, Shape,
+    Way,
 };
 
 // The number of a slot's word, 0 where it is not given.
-fn word_at(at: &[usize], slot: usize) -> usize
-    ensures { result ≡ get_or at.now slot 0 }
-{
-    if slot < at.len() { at[slot] } else { 0 }
-}
-
 fn word_of(o: Options, slot: usize) -> usize
     ensures { result ≡ get_or o.at slot 0 }
 {
-    word_at(&o.at, slot)
+    o.at.get(slot).copied().unwrap_or(0)
 }
 
+#[tactic(auto, unfolding(crate::specs::Requests::is_given))]
 fn is_given(o: Options, slot: usize) -> bool
     ensures { result ≡ is_given o slot }
 {
@@ -30,6 +28,7 @@ fn is_given(o: Options, slot: usize) -> bool
 }
 
 // Does a slot go with a command, or with a kind of run?
+#[tactic(auto, unfolding(crate::specs::Requests::is_fitting))]
 fn is_fitting(command: usize, slot: usize) -> bool
     ensures { result ≡ is_fitting command slot }
 {
@@ -40,57 +39,51 @@ fn is_fitting(command: usize, slot: usize) -> bool
 }
 
 // Is a slot given by a word, and does not go with the command?
+#[tactic(auto, unfolding(crate::specs::Requests::is_misfit))]
 fn is_misfit(command: usize, slot: usize, n: usize) -> bool
     ensures { result ≡ is_misfit command slot n }
 {
-    if n == 0 {
-        return false;
-    }
-    !is_fitting(command, slot)
+    n != 0 && !is_fitting(command, slot)
 }
 
-// The word of the first slot that is given and does not go with the command, 0 where all do.
-fn misfit(command: usize, at: [usize; 40]) -> usize
-    ensures { result ≡ misfit command 0 at }
+// The word of the first slot that is given and does not go with the command.
+fn misfit(command: usize, at: [usize; 40]) -> Option<usize>
+    ensures { result ≡ found_at (misfit command 0 at) }
 {
-    let mut k: usize = 0;
-    while k < 40 {
+    for k in 0..40 {
         let n = at[k];
         if is_misfit(command, k, n) {
-            return n;
+            return Some(n);
         }
-        k += 1;
     }
-    0
+    None
 }
 
-// Which word is missing: 1 the command, 2 the sheet, 3 the inputs; 0 none.
-fn lacking(o: Options) -> u8
-    ensures { result ≡ lacking o }
+// Which word is missing.
+#[tactic(auto, unfolding(crate::specs::Requests::lacking))]
+fn lacking(o: Options) -> Option<Missing>
+    ensures { lack_of result ≡ lacking o }
 {
     if o.command == 0 {
-        return 1;
+        return Some(Missing::Command);
     }
     if !is_given(o, 30) {
-        return 2;
+        return Some(Missing::Sheet);
     }
     if !is_fed(o.command) {
-        return 0;
+        return None;
     }
-    if is_given(o, 31) { 0 } else { 3 }
+    if is_given(o, 31) {
+        return None;
+    }
+    Some(Missing::Inputs)
 }
 
 // The number of a slot, 0 where none is given.
-fn number_in(value: &[u32], slot: usize) -> u32
-    ensures { result ≡ get_or value.now slot 0 }
-{
-    if slot < value.len() { value[slot] } else { 0 }
-}
-
 fn number_at(o: Options, slot: usize) -> u32
     ensures { result ≡ get_or o.value slot 0 }
 {
-    number_in(&o.value, slot)
+    o.value.get(slot).copied().unwrap_or(0)
 }
 
 // By which way a run goes.
@@ -110,6 +103,7 @@ fn way_of(o: Options) -> Way
 }
 
 // The base of the numbers in the table.
+#[tactic(auto, unfolding(crate::specs::Requests::base_of))]
 fn base_of(o: Options) -> u8
     ensures { result ≡ base_of o }
 {
@@ -120,6 +114,7 @@ fn base_of(o: Options) -> u8
 }
 
 // The last cycle of those to be shown.
+#[tactic(auto, unfolding(crate::specs::Requests::last_of))]
 fn last_of(o: Options) -> usize
     ensures { result ≡ last_of o }
 {
@@ -130,6 +125,7 @@ fn last_of(o: Options) -> usize
 }
 
 // Every so many cycles.
+#[tactic(auto, unfolding(crate::specs::Requests::every_of))]
 fn every_of(o: Options) -> usize
     ensures { result ≡ every_of o }
 {
@@ -204,26 +200,23 @@ fn commanded(o: Options) -> Command
 }
 
 // Are there both a seed and `--by-expressions`?
+#[tactic(auto, unfolding(crate::specs::Requests::clashing))]
 fn clashing(o: Options) -> bool
     ensures { result ≡ clashing o }
 {
-    if is_given(o, 3) {
-        return is_given(o, 20);
-    }
-    false
+    is_given(o, 3) && is_given(o, 20)
 }
 
 // Are there two bases?
+#[tactic(auto, unfolding(crate::specs::Requests::based))]
 fn based(o: Options) -> bool
     ensures { result ≡ based o }
 {
-    if is_given(o, 27) {
-        return is_given(o, 28);
-    }
-    false
+    is_given(o, 27) && is_given(o, 28)
 }
 
 // The kind of a run, or the command's number.
+#[tactic(auto, unfolding(crate::specs::Requests::kind_of))]
 fn kind_of(o: Options) -> usize
     ensures { result ≡ kind_of o }
 {
@@ -234,6 +227,7 @@ fn kind_of(o: Options) -> usize
 }
 
 // The fault of what does not go with a run of that kind.
+#[tactic(auto, unfolding(crate::specs::Requests::fault_of))]
 fn fault_of(kind: usize) -> u8
     ensures { result ≡ fault_of kind }
 {
@@ -250,25 +244,21 @@ fn paired(o: Options) -> Request
     if based(o) {
         return Request::Wrong(word_of(o, 28), 9);
     }
-    let at = o.at;
     let kind = kind_of(o);
-    let n = misfit(kind, at);
-    if n != 0 {
-        return Request::Wrong(n, fault_of(kind));
+    match misfit(kind, o.at) {
+        Some(n) => Request::Wrong(n, fault_of(kind)),
+        None => Request::Asked(commanded(o)),
     }
-    Request::Asked(commanded(o))
 }
 
 // The command that all words ask for, or the slot or the pair of slots that is wrong.
 fn fitted(o: Options) -> Request
     ensures { result ≡ fitted o }
 {
-    let at = o.at;
-    let n = misfit(o.command, at);
-    if n != 0 {
-        return Request::Wrong(n, 5);
+    match misfit(o.command, o.at) {
+        Some(n) => Request::Wrong(n, 5),
+        None => paired(o),
     }
-    paired(o)
 }
 
 // What all words ask for, where they do not ask for help or the version.
@@ -281,11 +271,10 @@ fn judged(o: Options) -> Request
     if o.wants != 0 {
         return Request::Wrong(o.words, 8);
     }
-    let m = lacking(o);
-    if m != 0 {
-        return Request::Short(m);
+    match lacking(o) {
+        Some(m) => Request::Short(m as u8),
+        None => fitted(o),
     }
-    fitted(o)
 }
 
 // What all words ask for.
@@ -309,32 +298,31 @@ pub fn wants_status(o: Options) -> bool
 }
 
 // The word that names a command's sheet.
+#[tactic(auto, unfolding(crate::specs::Requests::sheet_of))]
 pub fn sheet_of(c: Command) -> usize
     ensures { result ≡ sheet_of c }
 {
     match c {
-        Command::List(sheet) => sheet,
-        Command::Check(sheet) => sheet,
+        Command::List(sheet)
+        | Command::Check(sheet)
+        | Command::Verilog(sheet)
+        | Command::Explain(sheet, _) => sheet,
         Command::Run(o) => o.sheet,
         Command::Extract(o) => o.sheet,
         Command::Compare(o) => o.sheet,
-        Command::Verilog(sheet) => sheet,
-        Command::Explain(sheet, _) => sheet,
     }
 }
 
 // The word that names a command's names file, 0 where there is none.
+#[tactic(auto, unfolding(crate::specs::Requests::names_of))]
 pub fn names_of(c: Command) -> usize
     ensures { result ≡ names_of c }
 {
     match c {
-        Command::List(_) => 0,
-        Command::Check(_) => 0,
         Command::Run(o) => o.names,
         Command::Extract(o) => o.names,
-        Command::Compare(_) => 0,
-        Command::Verilog(_) => 0,
         Command::Explain(_, names) => names,
+        Command::List(_) | Command::Check(_) | Command::Compare(_) | Command::Verilog(_) => 0,
     }
 }
 

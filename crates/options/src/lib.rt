@@ -14,7 +14,8 @@ use stimulus::number_of;
 use tables::{command_of, is_number, is_written, option_of};
 
 // What the words so far have asked for: how many there are, the command's number or 0, the slot whose word is to come or 0, the first
-// word that is out of place or 0, and its fault; the numbers of the slots, and the words that give them.
+// word that is out of place or 0, and its fault; the numbers of the slots, and the words that give them. Its numbers stay: `take` and
+// `judge` are given it, and `options` of specs/Options makes it of numbers.
 #[derive(Clone, Copy)]
 pub struct Options {
     pub words: usize,
@@ -95,7 +96,7 @@ pub enum Command {
 }
 
 // What all words ask for: help, the version, a command, or nothing that can be done: a word is missing (1 the command, 2 the sheet, 3 the
-// inputs), or this word is out of place, by this fault.
+// inputs), or this word is out of place, by this fault. Both stay numbers, as `lacking` and `misplaced` of specs/ have them.
 #[derive(Clone, Copy)]
 pub enum Request {
     Help,
@@ -103,6 +104,14 @@ pub enum Request {
     Short(u8),
     Wrong(usize, u8),
     Asked(Command),
+}
+
+// A word that is missing, by its number in `Request::Short`.
+#[derive(Clone, Copy)]
+enum Missing {
+    Command = 1,
+    Sheet = 2,
+    Inputs = 3,
 }
 
 // How a command ends.
@@ -132,44 +141,32 @@ pub fn begin() -> Options
 }
 
 // One word more.
+#[tactic(auto, unfolding(crate::specs::Options::advanced))]
 fn advanced(o: Options) -> Options
     ensures { result ≡ advanced o }
 {
-    let value = o.value;
-    let at = o.at;
     Options {
         words: stimulus::counted(o.words),
-        command: o.command,
         wants: 0,
-        wrong: o.wrong,
-        fault: o.fault,
-        value,
-        at,
+        ..o
     }
 }
 
 // A slot is given by the last word.
+#[tactic(auto, unfolding(crate::specs::Options::noted))]
 fn noted(o: Options, slot: usize) -> Options
     ensures { result ≡ noted o slot }
 {
     if 40 <= slot {
         return o;
     }
-    let value = o.value;
     let mut at = o.at;
     at[slot] = o.words;
-    Options {
-        words: o.words,
-        command: o.command,
-        wants: o.wants,
-        wrong: o.wrong,
-        fault: o.fault,
-        value,
-        at,
-    }
+    Options { at, ..o }
 }
 
 // A slot has a number.
+#[tactic(auto, unfolding(crate::specs::Options::valued))]
 fn valued(o: Options, slot: usize, n: u32) -> Options
     ensures { result ≡ valued o slot n }
 {
@@ -178,58 +175,36 @@ fn valued(o: Options, slot: usize, n: u32) -> Options
     }
     let mut value = o.value;
     value[slot] = n;
-    let at = o.at;
-    Options {
-        words: o.words,
-        command: o.command,
-        wants: o.wants,
-        wrong: o.wrong,
-        fault: o.fault,
-        value,
-        at,
-    }
+    Options { value, ..o }
 }
 
 // A slot wants the next word.
+#[tactic(auto, unfolding(crate::specs::Options::wanting))]
 fn wanting(o: Options, slot: usize) -> Options
     ensures { result ≡ wanting o slot }
 {
-    let value = o.value;
-    let at = o.at;
-    Options {
-        words: o.words,
-        command: o.command,
-        wants: slot,
-        wrong: o.wrong,
-        fault: o.fault,
-        value,
-        at,
-    }
+    Options { wants: slot, ..o }
 }
 
 // The last word is out of place; the first such word counts.
+#[tactic(auto, unfolding(crate::specs::Options::misplaced))]
 fn misplaced(o: Options, fault: u8) -> Options
     ensures { result ≡ misplaced o fault }
 {
     if o.wrong != 0 {
         return o;
     }
-    let value = o.value;
-    let at = o.at;
     Options {
-        words: o.words,
-        command: o.command,
-        wants: o.wants,
         wrong: o.words,
         fault,
-        value,
-        at,
+        ..o
     }
 }
 
 // ---- words
 
 // The least number that a slot takes.
+#[tactic(auto, unfolding(crate::specs::Options::least_of))]
 fn least_of(slot: usize) -> u64
     ensures { result ≡ least_of slot }
 {
@@ -237,44 +212,32 @@ fn least_of(slot: usize) -> u64
 }
 
 // A slot's number is given by a word: a decimal number below 2^32.
+#[tactic(auto, unfolding(crate::specs::Options::numbered))]
 fn numbered(o: Options, slot: usize, word: &[u8]) -> Options
     ensures { result ≡ numbered o slot word.now }
 {
     let a = number_of(false, word, 0);
     let n = a.n;
-    if word.len() == 0 {
-        return misplaced(o, 3);
-    }
-    if !a.good {
-        return misplaced(o, 3);
-    }
-    if 4294967296 <= n {
-        return misplaced(o, 3);
-    }
-    if n < least_of(slot) {
+    if word.len() == 0 || !a.good || 4294967296 <= n || n < least_of(slot) {
         return misplaced(o, 3);
     }
     valued(noted(o, slot), slot, n as u32)
 }
 
 // Is the word `-`?
+#[tactic(auto, unfolding(crate::specs::Options::is_dash))]
 fn is_dash(word: &[u8]) -> bool
     ensures { result ≡ is_dash word.now }
 {
-    if word.len() != 1 {
-        return false;
-    }
-    word[0] == b'-'
+    word.len() == 1 && word[0] == b'-'
 }
 
 // Is it a file to be written, on standard output?
+#[tactic(auto, unfolding(crate::specs::Options::is_barred))]
 fn is_barred(slot: usize, word: &[u8]) -> bool
     ensures { result ≡ is_barred slot word.now }
 {
-    if is_written(slot) {
-        return is_dash(word);
-    }
-    false
+    is_written(slot) && is_dash(word)
 }
 
 // The word that a slot wants.
@@ -291,13 +254,11 @@ fn filled(o: Options, slot: usize, word: &[u8]) -> Options
 }
 
 // Does the word start with `-` and go on?
+#[tactic(auto, unfolding(crate::specs::Options::is_dashed))]
 fn is_dashed(word: &[u8]) -> bool
     ensures { result ≡ is_dashed word.now }
 {
-    if word.len() < 2 {
-        return false;
-    }
-    word[0] == b'-'
+    2 <= word.len() && word[0] == b'-'
 }
 
 // A command by its number, 0 for none.
@@ -310,17 +271,7 @@ fn named(o: Options, n: usize) -> Options
     if n == 7 {
         return noted(o, 33);
     }
-    let value = o.value;
-    let at = o.at;
-    Options {
-        words: o.words,
-        command: n,
-        wants: o.wants,
-        wrong: o.wrong,
-        fault: o.fault,
-        value,
-        at,
-    }
+    Options { command: n, ..o }
 }
 
 // A word that is no option: the command, the sheet, the inputs.

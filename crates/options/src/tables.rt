@@ -6,33 +6,31 @@ ghost use Rattle.options.specs.Tables.{either, option_of, is_number, is_written,
 ghost use Rattle.options.specs.Tables.{is_course, is_column, goes_beside};
 
 // Is byte n of a word this one?
+#[tactic(auto, unfolding(crate::specs::Tables::agrees))]
 fn agrees(word: &[u8], n: usize, b: u8) -> bool
     ensures { result ≡ agrees word.now n b }
 {
-    if n < word.len() { word[n] == b } else { false }
+    n < word.len() && word[n] == b
 }
 
 // Does the line's word end here, and is it the one?
+#[tactic(auto, unfolding(crate::specs::Tables::is_found))]
 fn is_found(word: &[u8], n: usize, same: bool, b: u8) -> bool
     ensures { result ≡ is_found word.now n same b }
 {
-    if b != b' ' {
-        return false;
-    }
-    if same { n == word.len() } else { false }
+    b == b' ' && same && n == word.len()
 }
 
 // Do the bytes of the line's word so far agree?
+#[tactic(auto, unfolding(crate::specs::Tables::goes_on))]
 fn goes_on(word: &[u8], n: usize, same: bool, b: u8) -> bool
     ensures { result ≡ goes_on word.now n same b }
 {
-    if b == b' ' {
-        return true;
-    }
-    if same { agrees(word, n, b) } else { false }
+    b == b' ' || (same && agrees(word, n, b))
 }
 
 // How many bytes of the line's word are passed.
+#[tactic(auto, unfolding(crate::specs::Tables::lettered))]
 fn lettered(n: usize, b: u8) -> usize
     requires { n < 18446744073709551615 }
     ensures { result ≡ lettered n b }
@@ -41,6 +39,7 @@ fn lettered(n: usize, b: u8) -> usize
 }
 
 // How many words of the line are passed.
+#[tactic(auto, unfolding(crate::specs::Tables::ended))]
 fn ended(k: usize, b: u8) -> usize
     requires { k < 18446744073709551615 }
     ensures { result ≡ ended k b }
@@ -56,8 +55,7 @@ fn among(word: &[u8], base: u8, line: &[u8]) -> usize
     let mut k = base as usize;
     let mut n: usize = 0;
     let mut same = true;
-    let mut i: usize = 0;
-    while i < line.len() {
+    for i in 0..line.len() {
         let b = line[i];
         if is_found(word, n, same, b) {
             return k + 1;
@@ -65,7 +63,6 @@ fn among(word: &[u8], base: u8, line: &[u8]) -> usize
         same = goes_on(word, n, same, b);
         n = lettered(n, b);
         k = ended(k, b);
-        i += 1;
     }
     0
 }
@@ -118,6 +115,7 @@ fn short_option(word: &[u8]) -> usize
 }
 
 // The first of two slots that is one.
+#[tactic(auto, unfolding(crate::specs::Tables::either))]
 fn either(a: usize, b: usize) -> usize
     ensures { result ≡ either a b }
 {
@@ -136,110 +134,77 @@ pub fn option_of(word: &[u8]) -> usize
 }
 
 // Does a slot take a number?
+#[tactic(auto, unfolding(crate::specs::Tables::is_number))]
 pub fn is_number(slot: usize) -> bool
     ensures { result ≡ is_number slot }
 {
-    if slot == 9 {
-        return true;
-    }
-    if 2 < slot { slot < 7 } else { false }
+    matches!(slot, 3..=6 | 9)
 }
 
 // Does a slot name a file that is written?
+#[tactic(auto, unfolding(crate::specs::Tables::is_written))]
 pub fn is_written(slot: usize) -> bool
     ensures { result ≡ is_written slot }
 {
-    if slot == 1 {
-        return true;
-    }
-    slot == 11
+    matches!(slot, 1 | 11)
 }
 
 // Does the command take inputs?
+#[tactic(auto, unfolding(crate::specs::Tables::is_fed))]
 pub fn is_fed(command: usize) -> bool
     ensures { result ≡ is_fed command }
 {
-    if command == 3 {
-        return true;
-    }
-    command == 5
+    matches!(command, 3 | 5)
 }
 
 // Does the command take names?
+#[tactic(auto, unfolding(crate::specs::Tables::is_named))]
 fn is_named(command: usize) -> bool
     ensures { result ≡ is_named command }
 {
-    if command == 3 {
-        return true;
-    }
-    if command == 4 {
-        return true;
-    }
-    command == 8
+    matches!(command, 3 | 4 | 8)
 }
 
 // Does a slot go with a command?
+#[tactic(auto, unfolding(crate::specs::Tables::goes_with))]
 pub fn goes_with(command: usize, slot: usize) -> bool
     ensures { result ≡ goes_with command slot }
 {
-    if slot == 2 {
-        return is_named(command);
+    match slot {
+        2 => is_named(command),
+        23 => command == 4,
+        31 => is_fed(command),
+        0..=29 | 35 => command == 3,
+        _ => true,
     }
-    if slot == 23 {
-        return command == 4;
-    }
-    if slot == 31 {
-        return is_fed(command);
-    }
-    if slot == 35 {
-        return command == 3;
-    }
-    if slot < 30 {
-        return command == 3;
-    }
-    true
 }
 
 // ---- what goes with a run by its kind
 
 // Does a slot say where the choices come from?
+#[tactic(auto, unfolding(crate::specs::Tables::is_course))]
 fn is_course(slot: usize) -> bool
     ensures { result ≡ is_course slot }
 {
-    if slot == 3 {
-        return true;
-    }
-    slot == 20
+    matches!(slot, 3 | 20)
 }
 
 // Does it say which columns there are?
+#[tactic(auto, unfolding(crate::specs::Tables::is_column))]
 fn is_column(slot: usize) -> bool
     ensures { result ≡ is_column slot }
 {
-    if slot == 7 {
-        return true;
-    }
-    if slot == 21 {
-        return true;
-    }
-    slot == 26
+    matches!(slot, 7 | 21 | 26)
 }
 
 // Does a slot go with a run of that kind?
+#[tactic(auto, unfolding(crate::specs::Tables::goes_beside))]
 pub fn goes_beside(kind: usize, slot: usize) -> bool
     ensures { result ≡ goes_beside kind slot }
 {
-    if kind == 10 {
-        if is_course(slot) {
-            return false;
-        }
-        if slot == 1 {
-            return false;
-        }
-        return !is_column(slot);
+    match kind {
+        10 => !(is_course(slot) || slot == 1 || is_column(slot)),
+        11 => slot != 11,
+        _ => true,
     }
-    if kind == 11 {
-        return slot != 11;
-    }
-    true
 }

@@ -16,19 +16,17 @@ pub enum Aim {
 }
 
 // How a file is to be written: is it one that the command reads or shows its table in, is it there already, and has it a position?
+#[tactic(auto, unfolding(crate::specs::Outputs::aim_of))]
 pub fn aim_of(own: bool, found: bool, sought: bool) -> Aim
     ensures { result ≡ aim_of own found sought }
 {
     if own {
-        return Aim::Own;
+        Aim::Own
+    } else if found && !sought {
+        Aim::Straight
+    } else {
+        Aim::Whole
     }
-    if found {
-        if sought {
-            return Aim::Whole;
-        }
-        return Aim::Straight;
-    }
-    Aim::Whole
 }
 
 // The name that a file has until it is whole, by the name of the process that writes it.
@@ -43,34 +41,24 @@ pub fn put_part<'a>(path: &'a [u8], id: &'a [u8], text: &mut [u8; 65536], pos: u
 }
 
 // Is it told how far a run has come? Where it is asked for, or the run is long and errors go to a terminal; never where the table does.
+#[tactic(auto, unfolding(crate::specs::Outputs::is_told))]
 pub fn is_told(asked: bool, cycle: usize, errors: bool, table: bool) -> bool
     ensures { result ≡ is_told asked cycle errors table }
 {
-    if table {
-        return false;
-    }
-    if asked {
-        return true;
-    }
-    if cycle < 10000 {
-        return false;
-    }
-    errors
+    !table && (asked || (10000 <= cycle && errors))
 }
 
 // How many bytes in front of two texts agree.
 pub fn common(a: &[u8], b: &[u8]) -> usize
     ensures { result ≡ common a.now b.now }
 {
-    let mut i: usize = 0;
-    while i < a.len() {
+    for i in 0..a.len() {
         if b.len() <= i {
             return i;
         }
         if a[i] != b[i] {
             return i;
         }
-        i += 1;
     }
-    i
+    a.len()
 }

@@ -1,20 +1,20 @@
 -- How far four runs came, and the verdict cycle by cycle and chunk by chunk. Assumes nothing.
-use mathlib.Core.Path.{◌≡◌, refl, sym, ap, ◌∙◌}
+use mathlib.Core.Path.{◌≡◌, refl}
 use mathlib.Core.Logic.{◌≢◌}
-use mathlib.Core.List.{List, [], ◌∷◌, ◌++◌}
+use mathlib.Core.List.{List, [], ◌∷◌}
 use mathlib.Core.Bool.{Bool, true, false}
 use Prim.Native.Nat.{ℕ, suc, ◌+◌, ◌-◌, ◌/◌, ◌≤◌, ◌<◌}
 use native.Mathlib.Omega.{arith}
 use borrow.Author.Tests.{lt-ltb, le-ltb, eq-eqb, ne_eqb, ltb-true, ltb-false}
 use lib.Dec.{ltb}
 use lib.ListN.{length}
+use Rattle.std.specs.Prelude.{Some, None}
 use Rattle.values.specs.Values.{pick}
 use Rattle.comparison.specs.declared.Finding.{Finding}
 use Rattle.comparison.specs.declared.Verdict.{Verdict}
 use Rattle.comparison.specs.Verdicts.{after, after_all}
-use Rattle.rivals.specs.declared.Progress.{Progress}
-use Rattle.rivals.specs.declared.Halt.TheVariants.{Nobody, Plain, First, Second, Expressed}
-use Rattle.rivals.specs.Judging.{lesser, comparable, cycles_in, halted, findings, ByChunks}
+use Rattle.rivals.specs.declared.Halt.TheVariants.{Plain, First, Second, Expressed}
+use Rattle.rivals.specs.Judging.{Progress, lesser, comparable, cycles_in, halted, findings, ByChunks}
 
 -- ---- lesser
 
@@ -46,27 +46,27 @@ cycles-plain p a b e =
 -- ---- halted, case by case
 
 module _ (cycles : ℕ) (p : Progress) (n : ℕ) (e : n ≡ comparable p) where
-  pub halted-nobody : cycles ≤ n → Nobody ≡ halted cycles p
+  pub halted-nobody : cycles ≤ n → None ≡ halted cycles p
   unfolding halted
   halted-nobody h = rw (← e, le-ltb n cycles h)
 
   module _ (h : n < cycles) where
-    pub halted-plain : p.plain ≡ n → Plain ≡ halted cycles p
+    pub halted-plain : p.plain ≡ n → Some Plain ≡ halted cycles p
     unfolding halted
     halted-plain k = rw (← e, lt-ltb n cycles h, eq-eqb p.plain n k)
 
     module _ (k : p.plain ≢ n) where
-      pub halted-first : p.first ≡ n → First ≡ halted cycles p
+      pub halted-first : p.first ≡ n → Some First ≡ halted cycles p
       unfolding halted
       halted-first l = rw (← e, lt-ltb n cycles h, ne_eqb p.plain n k, eq-eqb p.first n l)
 
       module _ (l : p.first ≢ n) where
-        pub halted-second : p.second ≡ n → Second ≡ halted cycles p
+        pub halted-second : p.second ≡ n → Some Second ≡ halted cycles p
         unfolding halted
         halted-second q =
             rw (← e, lt-ltb n cycles h, ne_eqb p.plain n k, ne_eqb p.first n l, eq-eqb p.second n q)
 
-        pub halted-expressed : p.second ≢ n → Expressed ≡ halted cycles p
+        pub halted-expressed : p.second ≢ n → Some Expressed ≡ halted cycles p
         unfolding halted
         halted-expressed q =
             rw (← e, lt-ltb n cycles h, ne_eqb p.plain n k, ne_eqb p.first n l, ne_eqb p.second n q)

@@ -1,7 +1,7 @@
 -- Samples, computed from the definitions: how far four runs came, two cycles judged, and how a comparison ends. Assumes nothing.
 use mathlib.Core.Path.{◌≡◌, refl}
-use mathlib.Core.List.{List, [], ◌∷◌, ◌++◌}
-use mathlib.Core.Bool.{true, false}
+use mathlib.Core.List.{List, ◌∷◌, ◌++◌}
+use mathlib.Core.Bool.{false}
 use Prim.Native.Nat.{ℕ}
 use lib.ListN.{replicate}
 use Rattle.values.specs.Values.{known, same}
@@ -16,12 +16,11 @@ use Rattle.comparison.specs.Comparison.{values_differ, places_differ, difference
 use Rattle.comparison.specs.Verdicts.{after, after_all, is_agreed, agreed_outcome, outcome_of}
 use Rattle.driving.specs.declared.Ending.{Ending}
 use Rattle.driving.specs.declared.Ending.TheVariants.{Rested, Refused as Stopped, Restless}
-use Rattle.rivals.specs.declared.Progress.{Progress}
-use Rattle.rivals.specs.declared.Endings.{Endings}
 use Rattle.rivals.specs.declared.Telling.TheVariants.{Silent, Uncompared, Told}
-use Rattle.rivals.specs.declared.Halt.TheVariants.{Nobody, First, Second}
-use Rattle.rivals.specs.Judging.{lesser, comparable, halted, found, findings, cycles_in, judged, is_done, is_said, concluded}
-use Rattle.rivals.specs.Meeting.{done_of, progress_of, ending_at, first_ending, goes_on, met, verdict_telling, telling}
+use Rattle.std.specs.Prelude.{Some, None}
+use Rattle.rivals.specs.declared.Halt.TheVariants.{Second}
+use Rattle.rivals.specs.Judging.{Progress, lesser, comparable, halted, found, findings, cycles_in, judged, is_done, is_said, concluded}
+use Rattle.rivals.specs.Meeting.{Endings, done_of, progress_of, ending_at, first_ending, goes_on, met, verdict_telling, telling}
 
 abbrev progress : Progress
 progress = record { plain = 8; first = 5; second = 3; expressed = 3 }
@@ -31,11 +30,11 @@ three : comparable progress ≡ 3
 unfolding comparable lesser
 three = refl
 
-second : halted 10 progress ≡ Second
+second : halted 10 progress ≡ Some Second
 unfolding halted comparable lesser
 second = refl
 
-all : halted 3 progress ≡ Nobody
+all : halted 3 progress ≡ None
 unfolding halted comparable lesser
 all = refl
 

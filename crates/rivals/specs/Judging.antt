@@ -1,6 +1,6 @@
 -- A comparison of four runs by their traces: the plain run, the orders of seeds 1 and 2, and the extracted expressions. They are run and
 -- judged chunk by chunk.
-use Rattle.std.specs.Prelude.{Bool, true, false, List, [], ◌∷◌, ◌++◌, ◌≡◌, ℕ, zero, suc, ◌+◌, ◌*◌, ◌/◌, ltb, length}
+use Rattle.std.specs.Prelude.{Option, Some, None, Bool, true, false, List, [], ◌∷◌, ◌++◌, ◌≡◌, ℕ, zero, suc, ◌+◌, ◌*◌, ◌/◌, ltb, length}
 use Rattle.values.specs.Values.{pick, ◌is◌then◌else◌}
 use Rattle.trace_row.specs.TraceRow.{row_of}
 use Rattle.options.specs.declared.Outcome.{Outcome}
@@ -10,11 +10,15 @@ use Rattle.comparison.specs.declared.Finding.{Finding}
 use Rattle.comparison.specs.declared.Verdict.{Verdict}
 use Rattle.comparison.specs.Comparison.{finding}
 use Rattle.comparison.specs.Verdicts.{after_all, is_agreed, outcome_of}
-use Rattle.rivals.specs.declared.Progress.{Progress}
+use Rattle.rivals.specs.declared.Four.{Four}
 use Rattle.rivals.specs.declared.Halt.{Halt}
-use Rattle.rivals.specs.declared.Halt.TheVariants.{Nobody, Plain, First, Second, Expressed}
+use Rattle.rivals.specs.declared.Halt.TheVariants.{Plain, First, Second, Expressed}
 
 -- ---- comparable: the cycles that all four did
+
+-- How many whole cycles each of the four did.
+abbrev pub Progress : Type 0
+Progress = Four ℕ
 
 unfoldable pub lesser : ℕ → ℕ → ℕ
 lesser a b = pick (ltb a b) a b
@@ -25,12 +29,12 @@ comparable p = lesser (lesser p.plain p.first) (lesser p.second p.expressed)
 -- ---- halted: which of them was the first that stopped before it had done so many cycles; of those that stopped in the same cycle the
 -- one that stands first
 
-unfoldable pub halted : ℕ → Progress → Halt
+unfoldable pub halted : ℕ → Progress → Option Halt
 halted cycles p =
     let n = comparable p in
     pick (ltb n cycles)
-    (p.plain is n then Plain else (p.first is n then First else (p.second is n then Second else Expressed)))
-    Nobody
+    (p.plain is n then Some Plain else (p.first is n then Some First else (p.second is n then Some Second else Some Expressed)))
+    None
 
 -- ---- judged: a verdict with so many cycles more. A trace has two rows of 88 words a cycle; no cycle is judged that one of the four
 -- does not have whole.

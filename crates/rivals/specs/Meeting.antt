@@ -1,6 +1,6 @@
 -- A cycle of a comparison: the runs go from rest to rest, each of them or not, by which the cycle is judged, the first that stopped is
 -- told, and the comparison goes on or not; and what is said at its end.
-use Rattle.std.specs.Prelude.{Bool, false, List, ℕ}
+use Rattle.std.specs.Prelude.{Option, Some, None, Bool, false, List, ℕ}
 use Rattle.values.specs.Values.{pick, ◌is◌then◌else◌}
 use Rattle.options.specs.declared.Outcome.{Outcome}
 use Rattle.comparison.specs.declared.Counts.{Counts}
@@ -9,16 +9,19 @@ use Rattle.comparison.specs.declared.Verdict.TheVariants.{Agreed, Differs}
 use Rattle.comparison.specs.Verdicts.{is_agreed}
 use Rattle.driving.specs.declared.Ending.{Ending}
 use Rattle.driving.specs.declared.Ending.TheVariants.{Rested, Refused, Restless}
-use Rattle.rivals.specs.declared.Progress.{Progress}
+use Rattle.rivals.specs.declared.Four.{Four}
 use Rattle.rivals.specs.declared.Halt.{Halt}
-use Rattle.rivals.specs.declared.Halt.TheVariants.{Nobody, Plain, First, Second, Expressed}
-use Rattle.rivals.specs.declared.Endings.{Endings}
+use Rattle.rivals.specs.declared.Halt.TheVariants.{Plain, First, Second, Expressed}
 use Rattle.rivals.specs.declared.Met.{Met}
 use Rattle.rivals.specs.declared.Telling.{Telling}
 use Rattle.rivals.specs.declared.Telling.TheVariants.{Silent, Uncompared, Told}
-use Rattle.rivals.specs.Judging.{comparable, halted, judged, is_said}
+use Rattle.rivals.specs.Judging.{Progress, comparable, halted, judged, is_said}
 
 -- ---- first_ending: how the first of the four runs ended that stopped in a cycle; at rest where none did
+
+-- How each of the four ended a cycle.
+abbrev pub Endings : Type 0
+Endings = Four Ending
 
 -- How many cycles a run did of one.
 unfoldable pub done_of : Ending → ℕ
@@ -35,12 +38,12 @@ progress_of e =
       expressed = done_of e.expressed;
     }
 
-unfoldable pub ending_at : Endings → Halt → Ending
-ending_at e Nobody = Rested
-ending_at e Plain = e.plain
-ending_at e First = e.first
-ending_at e Second = e.second
-ending_at e Expressed = e.expressed
+unfoldable pub ending_at : Endings → Option Halt → Ending
+ending_at e None = Rested
+ending_at e (Some Plain) = e.plain
+ending_at e (Some First) = e.first
+ending_at e (Some Second) = e.second
+ending_at e (Some Expressed) = e.expressed
 
 unfoldable pub first_ending : Endings → Ending
 first_ending e = ending_at e (halted 1 (progress_of e))

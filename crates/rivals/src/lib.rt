@@ -13,19 +13,21 @@ pub use meeting::{first_ending, meet, telling_of};
 use options::Outcome;
 use trace_row::row_of;
 
-// How many whole cycles each of the four runs of a comparison did: the plain run, the orders of seeds 1 and 2, the expressions.
+// What each of the four runs of a comparison has: the plain run, the orders of seeds 1 and 2, the expressions.
 #[derive(Clone, Copy)]
-pub struct Progress {
-    pub plain: usize,
-    pub first: usize,
-    pub second: usize,
-    pub expressed: usize,
+pub struct Four<T> {
+    pub plain: T,
+    pub first: T,
+    pub second: T,
+    pub expressed: T,
 }
 
-// The one of them that stopped first, if one did.
+// How many whole cycles each of them did.
+pub type Progress = Four<usize>;
+
+// The one of them that stopped first.
 #[derive(Clone, Copy)]
 pub enum Halt {
-    Nobody,
     Plain,
     First,
     Second,
@@ -33,13 +35,7 @@ pub enum Halt {
 }
 
 // How each of them ended a cycle, or the start.
-#[derive(Clone, Copy)]
-pub struct Endings {
-    pub plain: Ending,
-    pub first: Ending,
-    pub second: Ending,
-    pub expressed: Ending,
-}
+pub type Endings = Four<Ending>;
 
 // A cycle: does the comparison go on behind it, how did the first run end that stopped, and the verdict.
 #[derive(Clone, Copy)]
@@ -60,10 +56,11 @@ pub enum Telling {
 // ---- how far the runs came
 
 // The lesser of two numbers.
+#[tactic(auto, unfolding(crate::specs::Judging::lesser))]
 fn lesser(a: usize, b: usize) -> usize
     ensures { result ≡ lesser a b }
 {
-    if a < b { a } else { b }
+    a.min(b)
 }
 
 // How many cycles can be compared: those that all four did.
@@ -74,23 +71,23 @@ pub fn comparable(p: Progress) -> usize
 }
 
 // Which of them was the first that stopped before it had done so many cycles.
-pub fn first_halted(cycles: usize, p: Progress) -> Halt
+pub fn first_halted(cycles: usize, p: Progress) -> Option<Halt>
     ensures { result ≡ halted cycles p }
 {
     let n = comparable(p);
     if cycles <= n {
-        return Halt::Nobody;
+        return None;
     }
     if p.plain == n {
-        return Halt::Plain;
+        return Some(Halt::Plain);
     }
     if p.first == n {
-        return Halt::First;
+        return Some(Halt::First);
     }
     if p.second == n {
-        return Halt::Second;
+        return Some(Halt::Second);
     }
-    Halt::Expressed
+    Some(Halt::Expressed)
 }
 
 // ---- the verdict
@@ -142,11 +139,9 @@ pub fn judge(
 {
     let n = lesser(cycles, cycles_in(plain, first, second, expressed));
     let mut verdict = v;
-    let mut c: usize = 0;
-    while c < n {
+    for c in 0..n {
         let f = found(m, c, plain, first, second, expressed);
         verdict = comparison::after(verdict, f);
-        c += 1;
     }
     verdict
 }
@@ -154,15 +149,11 @@ pub fn judge(
 // ---- how the comparison ends
 
 // Has nothing kept it from its end?
+#[tactic(auto, unfolding(crate::specs::Judging::is_done))]
 fn is_done(o: Outcome) -> bool
     ensures { result ≡ is_done o }
 {
-    match o {
-        Outcome::Done => true,
-        Outcome::Refused => false,
-        Outcome::Different => false,
-        Outcome::Mistaken => false,
-    }
+    matches!(o, Outcome::Done)
 }
 
 // Is the verdict said, where the runs or the inputs ended so?

@@ -10,6 +10,7 @@ use options::Outcome;
 // ---- the run that stopped first
 
 // How many cycles a run did of one.
+#[tactic(auto, unfolding(crate::specs::Meeting::done_of))]
 fn done_of(e: Ending) -> usize
     ensures { result ≡ done_of e }
 {
@@ -21,35 +22,29 @@ fn done_of(e: Ending) -> usize
 }
 
 // How far each of them came in one cycle.
+#[tactic(auto, unfolding(crate::specs::Meeting::progress_of))]
 fn progress_of(e: Endings) -> Progress
     ensures { result ≡ progress_of e }
 {
-    let a = e.plain;
-    let b = e.first;
-    let c = e.second;
-    let d = e.expressed;
-    let plain = done_of(a);
-    let first = done_of(b);
-    let second = done_of(c);
-    let expressed = done_of(d);
     Progress {
-        plain,
-        first,
-        second,
-        expressed,
+        plain: done_of(e.plain),
+        first: done_of(e.first),
+        second: done_of(e.second),
+        expressed: done_of(e.expressed),
     }
 }
 
 // How the one of them ended that stopped first.
-fn ending_at(e: Endings, h: Halt) -> Ending
+#[tactic(auto, unfolding(crate::specs::Meeting::ending_at))]
+fn ending_at(e: Endings, h: Option<Halt>) -> Ending
     ensures { result ≡ ending_at e h }
 {
     match h {
-        Halt::Nobody => Ending::Rested,
-        Halt::Plain => e.plain,
-        Halt::First => e.first,
-        Halt::Second => e.second,
-        Halt::Expressed => e.expressed,
+        None => Ending::Rested,
+        Some(Halt::Plain) => e.plain,
+        Some(Halt::First) => e.first,
+        Some(Halt::Second) => e.second,
+        Some(Halt::Expressed) => e.expressed,
     }
 }
 
@@ -64,13 +59,13 @@ pub fn first_ending(e: Endings) -> Ending
 // ---- the cycle
 
 // Does the comparison go on?
+#[tactic(auto, unfolding(crate::specs::Meeting::goes_on))]
 fn goes_on(e: Ending, v: Verdict) -> bool
     ensures { result ≡ goes_on e v }
 {
     match e {
         Ending::Rested => comparison::is_agreed(v),
-        Ending::Refused(_) => false,
-        Ending::Restless(_) => false,
+        Ending::Refused(_) | Ending::Restless(_) => false,
     }
 }
 
@@ -100,6 +95,7 @@ pub fn meet(
 // ---- its end
 
 // What is said of a verdict.
+#[tactic(auto, unfolding(crate::specs::Meeting::verdict_telling))]
 fn verdict_telling(v: Verdict) -> Telling
     ensures { result ≡ verdict_telling v }
 {

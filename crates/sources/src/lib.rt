@@ -23,45 +23,33 @@ pub struct Words {
 pub fn begin() -> Words
     ensures { result ≡ nothing }
 {
-    let options = options::begin();
     Words {
-        options,
+        options: options::begin(),
         verilog: false,
         sheet: false,
     }
 }
 
 // One word more, which asks nothing of `options`.
+#[tactic(auto, unfolding(crate::specs::Sources::counted))]
 fn counted(o: Options) -> Options
     ensures { result ≡ counted o }
 {
-    let value = o.value;
-    let at = o.at;
     Options {
         words: stimulus::counted(o.words),
-        command: o.command,
-        wants: o.wants,
-        wrong: o.wrong,
-        fault: o.fault,
-        value,
-        at,
+        ..o
     }
 }
 
 // One word more: `sheet`, which takes what `check` takes, a file and nothing else.
+#[tactic(auto, unfolding(crate::specs::Sources::commanded))]
 fn commanded(o: Options) -> Options
     ensures { result ≡ commanded o }
 {
-    let value = o.value;
-    let at = o.at;
     Options {
         words: stimulus::counted(o.words),
         command: 2,
-        wants: o.wants,
-        wrong: o.wrong,
-        fault: o.fault,
-        value,
-        at,
+        ..o
     }
 }
 
@@ -69,22 +57,17 @@ fn commanded(o: Options) -> Options
 fn asks(o: Options, word: &[u8]) -> bool
     ensures { result ≡ asks o word.now }
 {
-    if o.command != 0 {
-        return false;
-    }
-    verilog_tokens::same(word, b"sheet")
+    o.command == 0 && verilog_tokens::same(word, b"sheet")
 }
 
 // A word that `options` takes.
+#[tactic(auto, unfolding(crate::specs::Sources::with_options))]
 fn passed(w: Words, word: &[u8]) -> Words
     ensures { result ≡ with_options w word.now }
 {
-    let before = w.options;
-    let options = options::take(before, word);
     Words {
-        options,
-        verilog: w.verilog,
-        sheet: w.sheet,
+        options: options::take(w.options, word),
+        ..w
     }
 }
 
@@ -94,19 +77,17 @@ fn fresh(w: Words, word: &[u8]) -> Words
 {
     let o = w.options;
     if verilog_tokens::same(word, b"--verilog") {
-        let options = counted(o);
         return Words {
-            options,
+            options: counted(o),
             verilog: true,
-            sheet: w.sheet,
+            ..w
         };
     }
     if asks(o, word) {
-        let options = commanded(o);
         return Words {
-            options,
-            verilog: w.verilog,
+            options: commanded(o),
             sheet: true,
+            ..w
         };
     }
     passed(w, word)
@@ -116,77 +97,41 @@ fn fresh(w: Words, word: &[u8]) -> Words
 pub fn take(w: Words, word: &[u8]) -> Words
     ensures { result ≡ taken w word.now }
 {
-    let o = w.options;
-    if o.wants != 0 {
+    if w.options.wants != 0 {
         return passed(w, word);
     }
     fresh(w, word)
 }
 
 // Is a file of that name Verilog text? Where `--verilog` says so, or its name ends in `.v`.
+#[tactic(auto, unfolding(crate::specs::Sources::is_text))]
 pub fn is_text(verilog: bool, path: &[u8]) -> bool
     ensures { result ≡ is_text verilog path.now }
 {
-    if verilog {
-        return true;
-    }
-    let n = path.len();
-    if n < 2 {
-        return false;
-    }
-    if path[n - 2] != b'.' {
-        return false;
-    }
-    path[n - 1] == b'v'
+    verilog || matches!(path, [.., b'.', b'v'])
 }
 
 // How many bytes a byte order mark takes in front of a file.
+#[tactic(auto, unfolding(crate::specs::Sources::mark_size))]
 pub fn mark_size(bytes: &[u8]) -> usize
     ensures { result ≡ mark_size bytes.now }
 {
-    if bytes.len() < 3 {
-        return 0;
+    if bytes.starts_with(&[0xEF, 0xBB, 0xBF]) {
+        3
+    } else {
+        0
     }
-    if bytes[0] != 239 {
-        return 0;
-    }
-    if bytes[1] != 187 {
-        return 0;
-    }
-    if bytes[2] != 191 {
-        return 0;
-    }
-    3
 }
 
 // Does a file start as Verilog text does, and as no sheet can?
+#[tactic(auto, unfolding(crate::specs::Sources::starts_text))]
 pub fn starts_text(bytes: &[u8]) -> bool
     ensures { result ≡ starts_text bytes.now }
 {
-    if bytes.len() == 0 {
-        return false;
-    }
-    let b = bytes[0];
-    if b == b'm' {
-        return true;
-    }
-    if b == b'/' {
-        return true;
-    }
-    if b == b'`' {
-        return true;
-    }
-    b == b'('
+    matches!(bytes, [b'm' | b'/' | b'`' | b'(', ..])
 }
 
 // ---- names
-
-// A number as a place.
-fn wide(n: u16) -> usize
-    ensures { result ≡ n }
-{
-    n as usize
-}
 
 // A variable gets the name that stands so in a text; what is empty or does not lie in the text names nothing.
 fn name_one(text: &[u8], place: u16, size: u16, v: usize, names: &mut [u8; 2560])
@@ -195,8 +140,8 @@ fn name_one(text: &[u8], place: u16, size: u16, v: usize, names: &mut [u8; 2560]
     if size == 0 {
         return;
     }
-    let from = wide(place);
-    let to = from + wide(size);
+    let from = place as usize;
+    let to = from + size as usize;
     if text.len() < to {
         return;
     }
@@ -208,34 +153,28 @@ pub fn name_all(text: &[u8], places: &[u16; 80], lengths: &[u16; 80], names: &mu
     ensures { names.new
         ≡ named_from text.now places.now lengths.now 80 0 names.old }
 {
-    let mut v: usize = 0;
-    while v < 80 {
+    for v in 0..80 {
         name_one(text, places[v], lengths[v], v, names);
-        v += 1;
     }
 }
 
 // ---- a sheet as hexadecimal text
 
 // One of the sixteen digits.
+#[tactic(auto, unfolding(crate::specs::Contents::digit_of))]
 fn digit(n: u8) -> u8
     requires { n < 16 }
     ensures { result ≡ digit_of n }
 {
-    if n < 10 { 48 + n } else { 87 + n }
+    if n < 10 { b'0' + n } else { b'a' - 10 + n }
 }
 
 // What stands behind byte i of a sheet of n: a line has sixteen bytes.
+#[tactic(auto, unfolding(crate::specs::Contents::behind))]
 fn behind(i: usize, n: usize) -> u8
     ensures { result ≡ behind i n }
 {
-    if n <= i {
-        return b'\n';
-    }
-    if i % 16 == 0 {
-        return b'\n';
-    }
-    b' '
+    if n <= i || i % 16 == 0 { b'\n' } else { b' ' }
 }
 
 // A byte's two digits.
@@ -252,11 +191,9 @@ pub fn put_sheet(sheet: &[u8], out: &mut [u8; 65536], pos: usize) -> usize
         ≡ puts (filled out.old pos) (hex_from (length sheet.now) 0 sheet.now) }
 {
     let mut p = pos;
-    let mut i = 0;
-    while i < sheet.len() {
+    for i in 0..sheet.len() {
         let q = put_pair(sheet[i], out, p);
         p = put_byte(behind(i + 1, sheet.len()), out, q);
-        i += 1;
     }
     p
 }

@@ -1,30 +1,19 @@
 -- The rows of the tables that a line of the names file goes by. Assumes nothing.
-use mathlib.Core.Path.{◌≡◌}
-use mathlib.Core.Bool.{true, false}
+use native.Mathlib.Omega.{arith}
+use Rattle.std.specs.Prelude.{Some, None}
+use mathlib.Core.Path.{◌≡◌, refl, sym, ap, ◌∙◌}
+use mathlib.Core.Bool.{Bool, true, false}
 use mathlib.Core.List.{List}
 use Prim.Native.Nat.{ℕ, ◌+◌, ◌-◌, ◌<◌, ◌≤◌}
-use borrow.Author.Tests.{lt-ltb, le-ltb, le-leb, lt-leb, eq-eqb, ne_eqb}
+use borrow.Author.Tests.{ltb-false, lt-ltb, le-ltb, le-leb, lt-leb, eq-eqb, ne_eqb}
+use lib.Dec.{ltb}
 use lib.ListN.{length, get_or, drop}
 use Rattle.stimulus.specs.declared.Class.TheVariants.{Blank, Word, Name}
 use Rattle.stimulus.specs.declared.Number.{Number}
 use Rattle.stimulus.specs.Words.{run_end, ended}
 use Rattle.stimulus.specs.Numbers.{number_of}
 use Rattle.stimulus.specs.Lines.{word_at}
-use Rattle.stimulus.specs.Names.{below, variable_of, name_line, name_error, name_after, name_of}
-
--- ---- below
-
-module _ (from count n : ℕ) where
-  pub below_in : n < count → from + n ≡ below from count n
-  unfolding below
-  below_in h = rw (lt-ltb n count h)
-
-  pub below_out : count ≤ n → 256 ≡ below from count n
-  unfolding below
-  below_out h = rw (le-ltb n count h)
-
-pub below-same : (x y count n : ℕ) → x ≡ y → below x count n ≡ below y count n
-below-same x y count n e = rw e
+use Rattle.stimulus.specs.Names.{below, variable_of, variable_in, number_in, name_line, name_error, name_after, name_of}
 
 -- ---- variable_of
 
@@ -111,6 +100,23 @@ module _ (line : List ℕ) (p to v from end : ℕ) (r : from ≡ run_end Blank l
   pub after-name : (x : ℕ) → v < 256 → x ≡ name_error line from end → name_line x (from + 1) v from end ≡ name_after line p to v
   unfolding name_after
   after-name x h e = rw (lt-ltb v 256 h, ← r, ← s, e)
+
+-- A number above 255 is no variable, whichever it is.
+variable-some : (v : ℕ) → ltb v 256 ≡ true → variable_in v ≡ Some v
+variable-some v e = rw e refl
+
+variable-empty : (v : ℕ) → ltb v 256 ≡ false → variable_in v ≡ None
+variable-empty v e = rw e refl
+
+pub after-in : (line : List ℕ) (p to v : ℕ) → name_after line p to (number_in (variable_in v)) ≡ name_after line p to v
+after-in line p to v = by (ltb v 256) refl
+  where
+    by : (t : Bool) → ltb v 256 ≡ t → name_after line p to (number_in (variable_in v)) ≡ name_after line p to v
+    by true e = ap (λ o. name_after line p to (number_in o)) (variable-some v e)
+    by false e =
+        ap (λ o. name_after line p to (number_in o)) (variable-empty v e)
+        ∙ sym (after_none line p to 256 _ _ refl refl (omega arith))
+        ∙ after_none line p to v _ _ refl refl (ltb-false v 256 e)
 
 module _ (line : List ℕ) (inputs registers wires p : ℕ) (r : p ≡ run_end Blank line 0) where
   pub line-blank : ended line p ≡ true → name_line 1 (p + 1) 0 p p ≡ name_of line inputs registers wires

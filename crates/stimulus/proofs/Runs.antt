@@ -1,38 +1,17 @@
 -- Laws of runs of characters: how a loop goes along one, and that it ends within the line. Assumes nothing.
 use mathlib.Core.Path.{◌≡◌, refl}
-use mathlib.Core.Bool.{Bool, true, false, not}
+use mathlib.Core.Bool.{Bool, true, false}
 use mathlib.Core.List.{List, [], ◌∷◌}
 use Prim.Native.Nat.{ℕ, suc, ◌+◌, ◌<◌, ◌≤◌}
 use native.Mathlib.Nat.{add-zero}
 use native.Mathlib.Numerals.{add-one}
 use native.Mathlib.Omega.{arith}
-use borrow.Author.Tests.{ltb-true, eq-eqb, ne_eqb}
+use borrow.Author.Tests.{ltb-true}
 use lib.Dec.{ltb}
 use lib.ListN.{length, get_or, drop, length-drop, drop_of_length-le}
 use lib.Seq.{drop-cons}
-use Rattle.hextext.specs.Characters.{is_blank}
 use Rattle.stimulus.specs.declared.Class.{Class}
-use Rattle.stimulus.specs.declared.Class.TheVariants.{Blank, Word, Name}
-use Rattle.stimulus.specs.Words.{separates, is_named, in_class, span, run_end, ended}
-
--- ---- in_class, by row
-
-module _ (c : Class) (b : ℕ) where
-  pub class-blank : c ≡ Blank → is_blank b ≡ in_class c b
-  unfolding in_class
-  class-blank e = rw e
-
-  pub class-comment : c ≡ Word → b ≡ 35 → false ≡ in_class c b
-  unfolding in_class
-  class-comment e f = rw (e, eq-eqb b 35 f)
-
-  pub class-word : c ≡ Word → (b ≡ 35 → ⊥) → not (separates b) ≡ in_class c b
-  unfolding in_class
-  class-word e f = rw (e, ne_eqb b 35 f)
-
-  pub class-name : c ≡ Name → is_named b ≡ in_class c b
-  unfolding in_class
-  class-name e = rw e
+use Rattle.stimulus.specs.Words.{in_class, span, run_end, ended}
 
 -- ---- run_end
 

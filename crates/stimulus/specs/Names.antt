@@ -1,9 +1,10 @@
 -- A line of the names file: a letter and a number name a variable (`i` inputs, `r` registers, `w` wires, each from 0, numbered in that
 -- order); behind blanks its name, 1 to 31 letters, digits or `_`, the first no digit; then only blanks or a comment.
-use Rattle.std.specs.Prelude.{false, ◌&&◌, List, ℕ, ◌+◌, ◌-◌, length, get_or, drop, ltb, leb}
+use Rattle.std.specs.Prelude.{false, ◌&&◌, Option, Some, None, List, ℕ, ◌+◌, ◌-◌, length, get_or, drop, ltb, leb}
 use Rattle.values.specs.Values.{pick, ◌is◌then◌else◌}
 use Rattle.stimulus.specs.declared.Class.TheVariants.{Blank, Word, Name}
 use Rattle.stimulus.specs.declared.NameLine.{NameLine}
+use Rattle.stimulus.specs.Counting.{found_below}
 use Rattle.stimulus.specs.Words.{run_end, ended}
 use Rattle.stimulus.specs.Numbers.{number_of}
 use Rattle.stimulus.specs.Lines.{word_at}
@@ -22,6 +23,14 @@ variable_of word inputs registers wires =
     get_or word 0 0 is 119 then below (inputs + registers) wires a.n else
     256)
     256
+
+-- A variable's number as a variable, and back: 256 where there is none.
+abbrev pub variable_in : ℕ → Option ℕ
+variable_in v = found_below 256 v
+
+abbrev pub number_in : Option ℕ → ℕ
+number_in None = 256
+number_in (Some v) = v
 
 -- ---- name_of: error 1 a blank line or a comment, 2 no such variable, 3 a name that is not allowed
 

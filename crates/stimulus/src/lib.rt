@@ -8,17 +8,17 @@ mod pieces;
 mod words;
 
 ghost use Rattle.std.specs.Prelude.{◌≡◌, true, length, ◌+◌, ◌<◌, ◌≤◌};
-ghost use Rattle.stimulus.specs.Numbers.{is_sized};
+ghost use Rattle.stimulus.specs.Numbers.{is_sized, quote_at};
 ghost use Rattle.stimulus.specs.Lines.{entry, took, admitted, fitted, cut, sized, quoted, quoted_of, entry_of};
 ghost use Rattle.stimulus.specs.Lines.{cell_at, taken, slots, surplus, first_place, values_of, line_of};
 ghost use Rattle.stimulus.specs.Names.{name_of};
 ghost use Rattle.stimulus.specs.Counting.{counted};
 
 pub use numbers::number_of;
-use numbers::{bits_of, is_bits, is_hex, is_sized, is_x, quote_at};
+use numbers::{bits_of, is_bits, is_hex, is_x, sized_at};
 pub use pieces::{find_line, line_end};
 use values::Value;
-use words::{at_end, byte_at, place, run_end};
+use words::{at_end, byte_at, run_end};
 
 // Kinds of characters: blanks; what a word is made of, all but blanks, commas and `#`; letters, digits and `_`.
 #[derive(Clone, Copy)]
@@ -41,7 +41,8 @@ pub enum Waiting {
 // What a line of inputs holds. error: 0 a value for each input, 1 no cycle (blank, or a comment), 2 a value that is no number,
 // 3 one too wide for its input, 4 too few values, 5 too many, 6 an empty cell; column, from 1: of the value concerned, for 4 of the
 // line's end, for 6 of the comma.
-// Input k's value stands in slot k, number and marks of unknown bits, the clock's slot 0 is 0; count: the slots that are filled, the clock's with them.
+// Input k's value stands in slot k, number and marks of unknown bits, the clock's slot 0 is 0; count: the slots that are filled, the
+// clock's with them. Stays a record with a number: what is refused keeps the values before it (`line_of` of specs/Lines says which).
 #[derive(Clone, Copy)]
 pub struct Line {
     pub error: u8,
@@ -52,7 +53,8 @@ pub struct Line {
 }
 
 // What a line of the names file holds. error: 0 a variable and its name, line[from..to]; 1 none (blank, or a comment); 2 no such
-// variable; 3 a name that is not allowed. column, from 1: of the word or the name concerned.
+// variable; 3 a name that is not allowed. column, from 1: of the word or the name concerned. Stays a record with a number: what is refused
+// keeps where the name stands (`name_of` of specs/Names).
 #[derive(Clone, Copy)]
 pub struct NameLine {
     pub error: u8,
@@ -62,14 +64,15 @@ pub struct NameLine {
     pub to: usize,
 }
 
-// Digits that were read: was each a digit, and their number.
+// Digits that were read: was each a digit, and their number. Stays a record: `number_of` of specs/Numbers gives a number of bad digits too.
 #[derive(Clone, Copy)]
 pub struct Number {
     pub good: bool,
     pub n: u64,
 }
 
-// Binary digits that were read: was each 0, 1 or x; 32 bits of their number, and the marks of the x among them.
+// Binary digits that were read: was each 0, 1 or x; 32 bits of their number, and the marks of the x among them. Stays a record, as
+// `bits_of` of specs/Numbers has it.
 #[derive(Clone, Copy)]
 pub struct Bits {
     pub good: bool,
@@ -77,7 +80,8 @@ pub struct Bits {
     pub marks: u32,
 }
 
-// A word read as a value: the error, 0, 2 or 3; the marks of its unknown bits; the number, 0 under each mark.
+// A word read as a value: the error, 0, 2 or 3; the marks of its unknown bits; the number, 0 under each mark. Stays a record, as
+// `entry_of` of specs/Lines has it.
 #[derive(Clone, Copy)]
 pub struct Entry {
     pub error: u8,
@@ -85,7 +89,8 @@ pub struct Entry {
     pub number: u32,
 }
 
-// A value taken from a line: its error, 0, 2, 3, 4 or 6; its column; the place behind it; the value.
+// A value taken from a line: its error, 0, 2, 3, 4 or 6; its column; the place behind it; the value. Stays a record, as `taken` of
+// specs/Lines has it.
 #[derive(Clone, Copy)]
 pub struct Taken {
     pub error: u8,
@@ -181,12 +186,12 @@ fn quoted(width: u8, size: Number, count: usize, a: Bits) -> Entry
     sized(width, n as u8, count, a)
 }
 
-// A word with a quote as a value of a width.
-fn quoted_of(width: u8, word: &[u8]) -> Entry
-    requires { is_sized word.now ≡ true }
+// A word with a quote at that place as a value of a width.
+fn quoted_of(width: u8, word: &[u8], q: usize) -> Entry
+    requires sized { is_sized word.now ≡ true }
+    requires quote { q ≡ quote_at word.now }
     ensures { result ≡ quoted_of width word.now }
 {
-    let q = quote_at(word);
     let front = &word[0..q];
     let size = number_of(false, front, 0);
     let a = bits_of(word, q + 2);
@@ -212,11 +217,13 @@ fn entry_of(width: u8, word: &[u8]) -> Entry
         let a = bits_of(word, 1);
         return sized(width, width, word.len() - 1, a);
     }
-    if is_sized(word) {
-        return quoted_of(width, word);
+    match sized_at(word) {
+        Some(q) => quoted_of(width, word, q),
+        None => {
+            let a = number_of(false, word, 0);
+            fitted(width, a)
+        }
     }
-    let a = number_of(false, word, 0);
-    fitted(width, a)
 }
 
 // Where the value of input k stands, from the end of the one before.
@@ -228,7 +235,7 @@ fn cell_at(line: &[u8], k: u8, at: usize) -> usize
     if k < 2 {
         return p;
     }
-    if byte_at(line, p) != 44 {
+    if byte_at(line, p) != b',' {
         return p;
     }
     run_end(line, p + 1, Class::Blank)
@@ -256,7 +263,7 @@ fn take_value(line: &[u8], p: usize, width: u8) -> Taken
     if at_end(line, p) {
         return no_value(4, p);
     }
-    if byte_at(line, p) == 44 {
+    if byte_at(line, p) == b',' {
         return no_value(6, p);
     }
     let to = run_end(line, p, Class::Word);
@@ -274,13 +281,14 @@ fn take_value(line: &[u8], p: usize, width: u8) -> Taken
 // ---- lines
 
 // The slots of a row that so many inputs take, at most 16.
+#[tactic(auto, unfolding(crate::specs::Lines::slots))]
 fn slots(inputs: u8) -> u8
     ensures { result ≡ slots inputs }
 {
-    if inputs < 16 { inputs } else { 16 }
+    inputs.min(16)
 }
 
-// 0 where the line ends at that place, else 5.
+// 0 where the line ends at that place, else 5. Stays a number: the error of a Line, which `parse` hands on.
 fn surplus(line: &[u8], p: usize) -> u8
     ensures { result ≡ surplus line.now p }
 {
@@ -296,9 +304,8 @@ fn read_values(line: &[u8], widths: &[u8], inputs: u8, from: usize) -> Line
     let mut value = [0u32; 16];
     let mut unknown = [0u32; 16];
     let mut at = from;
-    let mut k: u8 = 1;
-    while k < n {
-        let slot = place(k);
+    for k in 1..n {
+        let slot = k as usize;
         let p = cell_at(line, k, at);
         let t = take_value(line, p, byte_at(widths, slot));
         if t.error != 0 {
@@ -313,14 +320,13 @@ fn read_values(line: &[u8], widths: &[u8], inputs: u8, from: usize) -> Line
         value[slot] = t.number;
         unknown[slot] = t.unknown;
         at = t.to;
-        k += 1;
     }
     let p = run_end(line, at, Class::Blank);
     let error = surplus(line, p);
     Line {
         error,
         column: p + 1,
-        count: k,
+        count: n.max(1),
         value,
         unknown,
     }
@@ -334,7 +340,7 @@ fn first_place(line: &[u8], inputs: u8, p: usize) -> usize
     if 2 <= inputs {
         return p;
     }
-    if byte_at(line, p) != 45 {
+    if byte_at(line, p) != b'-' {
         return p;
     }
     let next = p + 1;

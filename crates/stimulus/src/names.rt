@@ -1,49 +1,52 @@
 // What a line of the names file is made of: a variable and its name.
 ghost use Rattle.std.specs.Prelude.{◌≡◌, ◌≤◌, length};
-ghost use Rattle.stimulus.specs.Names.{below, variable_of, name_error, name_after};
+ghost use Rattle.stimulus.specs.Names.{below, variable_of, variable_in, number_in, name_error, name_after};
 
 use crate::numbers::number_of;
-use crate::words::{at_end, byte_at, place, run_end};
+use crate::words::{at_end, byte_at, run_end};
 use crate::{Class, NameLine};
 
-// Variable `n` of `count` that are numbered from `from` on, or 256.
-fn below(from: usize, count: u8, n: u64) -> usize
+// Variable `n` of `count` that are numbered from `from` on; there is none above 255.
+#[tactic(auto, unfolding(crate::specs::Names::below))]
+fn below(from: usize, count: u8, n: u64) -> Option<u8>
     requires { from ≤ 510 }
-    ensures { result ≡ below from count n }
+    ensures { result ≡ variable_in (below from count n) }
 {
     if n < count as u64 {
-        from + n as usize
+        let v = from + n as usize;
+        if v < 256 { Some(v as u8) } else { None }
     } else {
-        256
+        None
     }
 }
 
-// The variable that a word names, or a number above 255.
-pub fn variable_of(word: &[u8], inputs: u8, registers: u8, wires: u8) -> usize
-    ensures { result ≡ variable_of word.now inputs registers wires }
+// The variable that a word names.
+pub fn variable_of(word: &[u8], inputs: u8, registers: u8, wires: u8) -> Option<u8>
+    ensures { result ≡ variable_in (variable_of word.now inputs registers wires) }
 {
     if word.len() < 2 {
-        return 256;
+        return None;
     }
     let a = number_of(false, word, 1);
     if !a.good {
-        return 256;
+        return None;
     }
     let n = a.n;
     let letter = byte_at(word, 0);
-    if letter == 105 {
+    if letter == b'i' {
         return below(0, inputs, n);
     }
-    if letter == 114 {
-        return below(place(inputs), registers, n);
+    if letter == b'r' {
+        return below(inputs as usize, registers, n);
     }
-    if letter == 119 {
-        return below(place(inputs) + place(registers), wires, n);
+    if letter == b'w' {
+        return below(inputs as usize + registers as usize, wires, n);
     }
-    256
+    None
 }
 
 // 0 where the bytes from `from` to `to` are a name with nothing behind it, else 3.
+// Stays a number: the error of a NameLine, which `parse_name` hands on.
 fn name_error(line: &[u8], from: usize, to: usize) -> u8
     ensures { result ≡ name_error line.now from to }
 {
@@ -61,26 +64,26 @@ fn name_error(line: &[u8], from: usize, to: usize) -> u8
 }
 
 // The name behind the variable that a word from `p` to `to` names.
-pub fn name_after(line: &[u8], p: usize, to: usize, v: usize) -> NameLine
+pub fn name_after(line: &[u8], p: usize, to: usize, v: Option<u8>) -> NameLine
     requires { (p ≤ length line.now) × (to ≤ length line.now) }
-    ensures { result ≡ name_after line.now p to v }
+    ensures { result ≡ name_after line.now p to (number_in v) }
 {
     let from = run_end(line, to, Class::Blank);
     let end = run_end(line, from, Class::Name);
-    if 255 < v {
-        return NameLine {
+    match v {
+        None => NameLine {
             error: 2,
             column: p + 1,
             variable: 0,
             from,
             to: end,
-        };
-    }
-    NameLine {
-        error: name_error(line, from, end),
-        column: from + 1,
-        variable: v as u8,
-        from,
-        to: end,
+        },
+        Some(variable) => NameLine {
+            error: name_error(line, from, end),
+            column: from + 1,
+            variable,
+            from,
+            to: end,
+        },
     }
 }

@@ -1,16 +1,12 @@
 // Words as numbers.
-ghost use Rattle.std.specs.Prelude.{◌≡◌, ◌<◌, drop};
+ghost use Rattle.std.specs.Prelude.{◌≡◌, ◌<◌, drop, Some, None};
+ghost use Rattle.values.specs.Values.{pick};
+ghost use Rattle.stimulus.specs.Counting.{found_at};
 ghost use Rattle.stimulus.specs.Numbers.{is_letter_x, is_x, is_hex, grown, number_of};
 ghost use Rattle.stimulus.specs.Numbers.{is_letter_b, is_bits, quote_at, is_sized, doubled, spelt, ahead, bits_of};
 
 use crate::words::byte_at;
 use crate::{Bits, Number};
-
-fn wide(b: u8) -> u64
-    ensures { result ≡ b }
-{
-    b as u64
-}
 
 // One digit more. A number past 32 bits grows no further.
 fn grown(hex: bool, a: Number, b: u8) -> Number
@@ -24,8 +20,8 @@ fn grown(hex: bool, a: Number, b: u8) -> Number
         }
         if n < 4294967296 {
             return Number {
-                good: a.good,
-                n: n * 16 + wide(d),
+                n: n * 16 + d as u64,
+                ..a
             };
         }
         return a;
@@ -35,8 +31,8 @@ fn grown(hex: bool, a: Number, b: u8) -> Number
     }
     if n < 4294967296 {
         return Number {
-            good: a.good,
-            n: n * 10 + wide(d),
+            n: n * 10 + d as u64,
+            ..a
         };
     }
     a
@@ -47,94 +43,77 @@ pub fn number_of(hex: bool, word: &[u8], from: usize) -> Number
     ensures { result ≡ number_of hex (drop from word.now) }
 {
     let mut a = Number { good: true, n: 0 };
-    let mut i = from;
-    while i < word.len() {
+    for i in from..word.len() {
         a = grown(hex, a, word[i]);
-        i += 1;
     }
     a
 }
 
+#[tactic(auto, unfolding(crate::specs::Numbers::is_letter_x))]
 fn is_letter_x(b: u8) -> bool
     ensures { result ≡ is_letter_x b }
 {
-    if b == 120 {
-        return true;
-    }
-    b == 88
+    matches!(b, b'x' | b'X')
 }
 
 // Is the word `x`?
+#[tactic(auto, unfolding(crate::specs::Numbers::is_x))]
 pub fn is_x(word: &[u8]) -> bool
     ensures { result ≡ is_x word.now }
 {
-    if word.len() == 1 {
-        return is_letter_x(byte_at(word, 0));
-    }
-    false
+    word.len() == 1 && is_letter_x(byte_at(word, 0))
 }
 
 // Does the word start with `0x`, and go on?
+#[tactic(auto, unfolding(crate::specs::Numbers::is_hex))]
 pub fn is_hex(word: &[u8]) -> bool
     ensures { result ≡ is_hex word.now }
 {
-    if word.len() <= 2 {
-        return false;
-    }
-    if byte_at(word, 0) != 48 {
-        return false;
-    }
-    is_letter_x(byte_at(word, 1))
+    2 < word.len() && byte_at(word, 0) == b'0' && is_letter_x(byte_at(word, 1))
 }
 
+#[tactic(auto, unfolding(crate::specs::Numbers::is_letter_b))]
 fn is_letter_b(b: u8) -> bool
     ensures { result ≡ is_letter_b b }
 {
-    if b == 98 {
-        return true;
-    }
-    b == 66
+    matches!(b, b'b' | b'B')
 }
 
 // Does the word start with `b`, and go on?
+#[tactic(auto, unfolding(crate::specs::Numbers::is_bits))]
 pub fn is_bits(word: &[u8]) -> bool
     ensures { result ≡ is_bits word.now }
 {
-    if word.len() <= 1 {
-        return false;
-    }
-    is_letter_b(byte_at(word, 0))
+    1 < word.len() && is_letter_b(byte_at(word, 0))
 }
 
-// The place of a quote behind one or two characters, or 0.
-pub fn quote_at(word: &[u8]) -> usize
-    ensures value { result ≡ quote_at word.now }
-    ensures upper_bound { result < 3 }
+// The place of a quote behind one or two characters.
+#[tactic(auto, unfolding(crate::specs::Numbers::quote_at))]
+fn quote_at(word: &[u8]) -> Option<usize>
+    ensures { result ≡ found_at (quote_at word.now) }
 {
-    if byte_at(word, 1) == 39 {
-        return 1;
+    if byte_at(word, 1) == b'\'' {
+        Some(1)
+    } else if byte_at(word, 2) == b'\'' {
+        Some(2)
+    } else {
+        None
     }
-    if byte_at(word, 2) == 39 {
-        return 2;
-    }
-    0
 }
 
-// Does the word start with a width and `'b`, and go on?
-pub fn is_sized(word: &[u8]) -> bool
-    ensures { result ≡ is_sized word.now }
+// The place of the quote of a word that starts with a width and `'b`, and goes on.
+#[tactic(auto, unfolding(crate::specs::Numbers::is_sized, crate::specs::Numbers::quote_at))]
+pub fn sized_at(word: &[u8]) -> Option<usize>
+    ensures { result ≡ pick (is_sized word.now) (Some (quote_at word.now)) None }
 {
-    let q = quote_at(word);
-    if q == 0 {
-        return false;
+    match quote_at(word) {
+        Some(q) if q + 2 < word.len() && is_letter_b(byte_at(word, q + 1)) => Some(q),
+        _ => None,
     }
-    if word.len() <= q + 2 {
-        return false;
-    }
-    is_letter_b(byte_at(word, q + 1))
 }
 
 // 32 bits shifted left by one.
+#[tactic(auto, unfolding(crate::specs::Numbers::doubled))]
 fn doubled(n: u32) -> u32
     ensures value { result ≡ doubled n }
     ensures upper_bound { result < 4294967295 }
@@ -143,44 +122,42 @@ fn doubled(n: u32) -> u32
 }
 
 // One binary digit more.
+#[tactic(auto, unfolding(crate::specs::Numbers::spelt, crate::specs::Numbers::is_letter_x))]
 fn spelt(a: Bits, b: u8) -> Bits
     ensures { result ≡ spelt a b }
 {
     let n = doubled(a.number);
     let marks = doubled(a.marks);
-    if b == 48 {
-        return Bits {
-            good: a.good,
+    match b {
+        b'0' => Bits {
             number: n,
             marks,
-        };
-    }
-    if b == 49 {
-        return Bits {
-            good: a.good,
+            ..a
+        },
+        b'1' => Bits {
             number: n + 1,
             marks,
-        };
-    }
-    if is_letter_x(b) {
-        return Bits {
-            good: a.good,
+            ..a
+        },
+        b'x' | b'X' => Bits {
             number: n,
             marks: marks + 1,
-        };
-    }
-    Bits {
-        good: false,
-        number: 0,
-        marks: 0,
+            ..a
+        },
+        _ => Bits {
+            good: false,
+            number: 0,
+            marks: 0,
+        },
     }
 }
 
 // The marks in front of the digits: all where the first is x.
+#[tactic(auto, unfolding(crate::specs::Numbers::ahead))]
 fn ahead(b: u8) -> u32
     ensures { result ≡ ahead b }
 {
-    if is_letter_x(b) { 4294967295 } else { 0 }
+    if is_letter_x(b) { u32::MAX } else { 0 }
 }
 
 // The binary digits of a word from a place on.
@@ -192,10 +169,8 @@ pub fn bits_of(word: &[u8], from: usize) -> Bits
         number: 0,
         marks: ahead(byte_at(word, from)),
     };
-    let mut i = from;
-    while i < word.len() {
+    for i in from..word.len() {
         a = spelt(a, word[i]);
-        i += 1;
     }
     a
 }

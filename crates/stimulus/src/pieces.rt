@@ -9,14 +9,12 @@ use crate::words::byte_at;
 pub fn line_end(bytes: &[u8], from: usize, to: usize) -> usize
     ensures { result ≡ line_end bytes.now from to }
 {
-    let mut i = from;
-    while i < to {
+    for i in from..to {
         if byte_at(bytes, i) == 10 {
             return i;
         }
-        i += 1;
     }
-    i
+    from.max(to)
 }
 
 // What waits without a line end, while the file has more: it is read on, or too long where it fills the buffer.

@@ -5,52 +5,29 @@ ghost use Rattle.stimulus.specs.Words.{is_named, separates, in_class, run_end, e
 use crate::Class;
 
 // Is it a letter, a digit or `_`?
+#[tactic(auto, unfolding(crate::specs::Words::is_named))]
 fn is_named(b: u8) -> bool
     ensures { result ≡ is_named b }
 {
-    if b < 48 {
-        return false;
-    }
-    if b < 58 {
-        return true;
-    }
-    if b < 65 {
-        return false;
-    }
-    if b < 91 {
-        return true;
-    }
-    if b == 95 {
-        return true;
-    }
-    if b < 97 {
-        return false;
-    }
-    b < 123
+    matches!(b, b'0'..=b'9' | b'A'..=b'Z' | b'_' | b'a'..=b'z')
 }
 
 // Is it a blank or a comma?
+#[tactic(auto, unfolding(crate::specs::Words::separates))]
 fn separates(b: u8) -> bool
     ensures { result ≡ separates b }
 {
-    if b == 44 {
-        return true;
-    }
-    hextext::is_blank(b)
+    b == b',' || hextext::is_blank(b)
 }
 
 // Is the character of that kind?
+#[tactic(auto, unfolding(crate::specs::Words::in_class))]
 fn in_class(class: Class, b: u8) -> bool
     ensures { result ≡ in_class class b }
 {
     match class {
         Class::Blank => hextext::is_blank(b),
-        Class::Word => {
-            if b == 35 {
-                return false;
-            }
-            !separates(b)
-        }
+        Class::Word => b != b'#' && !separates(b),
         Class::Name => is_named(b),
     }
 }
@@ -59,36 +36,25 @@ fn in_class(class: Class, b: u8) -> bool
 pub fn run_end(line: &[u8], at: usize, class: Class) -> usize
     ensures { result ≡ run_end class line.now at }
 {
-    let mut i = at;
-    while i < line.len() {
+    for i in at..line.len() {
         if !in_class(class, line[i]) {
             return i;
         }
-        i += 1;
     }
-    i
+    at.max(line.len())
 }
 
 // Is there nothing more at that place but a comment?
+#[tactic(auto, unfolding(crate::specs::Words::ended))]
 pub fn at_end(line: &[u8], p: usize) -> bool
     ensures { result ≡ ended line.now p }
 {
-    if p < line.len() {
-        return line[p] == 35;
-    }
-    true
-}
-
-// A byte as a number of places.
-pub fn place(b: u8) -> usize
-    ensures { result ≡ b }
-{
-    b as usize
+    p >= line.len() || line[p] == b'#'
 }
 
 // The byte at a place, 0 past the end.
 pub fn byte_at(s: &[u8], at: usize) -> u8
     ensures { result ≡ get_or s.now at 0 }
 {
-    if at < s.len() { s[at] } else { 0 }
+    s.get(at).copied().unwrap_or(0)
 }

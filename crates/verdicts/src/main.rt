@@ -28,15 +28,10 @@ fn cycle(v: Verdict, plain: [u64; 88], first: [u64; 88], second: [u64; 88]) -> V
 }
 
 // Writes the first bytes of a text; where nobody takes them, nothing is left to do.
-fn write_first(rt: &HostRuntime, text: &[u8], n: usize) {
-    if n <= text.len() {
-        let _ = rt.write_all(&text[..n]);
-    }
-}
-
-// Writes a text.
 fn flush(rt: &HostRuntime, text: &[u8; 65536], pos: usize) {
-    write_first(rt, text, pos);
+    if let Some(part) = text.get(..pos) {
+        let _ = rt.write_all(part);
+    }
 }
 
 // Writes a verdict in words, and its status.

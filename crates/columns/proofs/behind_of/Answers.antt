@@ -1,6 +1,5 @@
 -- `columns::behind_of` meets its contract. Assumes nothing.
 use Rattle.columns.specs.Columns.{behind_of}
-use borrow.Author.Rules.{rules}
 use Rattle.columns.proofs.behind_of.Goals as goal
 
 pub returns-then-shown : goal.returns-then-shown

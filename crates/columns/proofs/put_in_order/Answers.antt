@@ -1,9 +1,6 @@
 -- `columns::put_in_order` meets its contract. The loop's invariant: the numbers still to be stored give the whole. Assumes nothing.
-use borrow.Author.Rules.{rules}
-use Prim.Native.Nat.{◌-◌}
-use mathlib.Core.Path.{◌≡◌, refl, sym, ◌∙◌}
-use lib.Seq.{sets}
-use Rattle.columns.specs.Columns.{counting, in_order}
+use mathlib.Core.Path.{refl, sym, ◌∙◌}
+use Rattle.columns.specs.Columns.{in_order}
 use Rattle.columns.proofs.Columns.{counting-next, counting-done}
 use Rattle.columns.proofs.put_in_order.Goals as goal
 

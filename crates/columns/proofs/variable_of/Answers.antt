@@ -1,10 +1,7 @@
 -- `columns::variable_of` meets its contract. The loop's invariant: the search from `v` on finds what the whole finds. Assumes nothing.
-use borrow.Author.Rules.{rules}
 use native.Mathlib.Nat.{sub-zero}
-use mathlib.Core.Path.{◌≡◌, sym, ◌∙◌}
-use Prim.Native.Nat.{◌-◌}
-use Rattle.stimulus.specs.Counting.{first_from}
-use Rattle.stimulus.proofs.Searching.{first-hit, first-miss, first-none}
+use mathlib.Core.Path.{sym, ◌∙◌}
+use Rattle.stimulus.proofs.Searching.{found-hit, found-miss, first-hit, first-miss, first-none}
 use Rattle.columns.specs.Columns.{is_named, variable_of}
 use Rattle.columns.proofs.variable_of.Goals as goal
 
@@ -16,8 +13,8 @@ loop-v-init c =
 pub returns-then-same_name : goal.returns-then-same_name
 unfolding is_named
 returns-then-same_name c =
-    sym (first-hit _ _ _ c.loop-v-test.true (sym c.same_name.ensures ∙ c.if-same_name.true))
-    ∙ c.loop-v.invariant
+    found-hit _ _ _ (sym (first-hit _ _ _ c.loop-v-test.true (sym c.same_name.ensures ∙ c.if-same_name.true)) ∙ c.loop-v.invariant)
+    c.loop-v-test.true
 
 pub loop-v-preserved : goal.loop-v-preserved
 unfolding is_named
@@ -27,4 +24,4 @@ loop-v-preserved c =
 
 pub returns : goal.returns
 returns c =
-    sym (first-none _ _ _ c.loop-v-test.false) ∙ c.loop-v.invariant
+    found-miss _ _ _ (sym (first-none _ _ _ c.loop-v-test.false) ∙ c.loop-v.invariant) c.loop-v-test.false

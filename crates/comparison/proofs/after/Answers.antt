@@ -1,6 +1,4 @@
 -- `comparison::after` meets its contract, case by case. Assumes nothing.
-use borrow.Author.Rules.{rules}
-use mathlib.Core.Path.{ap}
 use Rattle.comparison.specs.Verdicts.{after}
 use Rattle.comparison.proofs.after.Goals as goal
 

@@ -1,5 +1,4 @@
 -- `comparison::compare` meets its contract. Assumes nothing.
-use borrow.Author.Rules.{rules}
 use mathlib.Core.Path.{sym, ◌∙◌}
 use Rattle.comparison.proofs.Differences.{finding-1, finding-2, finding-3, finding-4}
 use Rattle.comparison.proofs.compare.Goals as goal

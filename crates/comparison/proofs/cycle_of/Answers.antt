@@ -1,5 +1,4 @@
 -- `comparison::cycle_of` meets its contract, case by case. Assumes nothing.
-use borrow.Author.Rules.{rules}
 use Rattle.comparison.specs.Verdicts.{cycle_of}
 use Rattle.comparison.proofs.cycle_of.Goals as goal
 

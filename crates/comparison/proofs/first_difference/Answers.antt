@@ -1,40 +1,41 @@
--- `comparison::first_difference` meets its contract. Assumes nothing.
-use borrow.Author.Rules.{rules}
-use mathlib.Core.Path.{ap, ◌∙◌}
+-- `comparison::first_difference` meets its contract, case by case. Assumes nothing.
+use mathlib.Core.Path.{◌≡◌, refl, sym, ◌∙◌}
 use native.Mathlib.Omega.{arith}
-use Rattle.comparison.specs.declared.Difference.TheVariants.{Place}
-use Rattle.comparison.specs.Comparison.{values_differ, places_differ}
+use Prim.Native.Nat.{◌+◌, ◌-◌}
+use Rattle.stimulus.specs.Counting.{first_from}
+use Rattle.stimulus.proofs.Searching.{found-some, found-none}
+use Rattle.comparison.specs.Comparison.{values_differ}
 use Rattle.comparison.proofs.Differences.{found_from, variable-same, difference-variable, difference-place, difference-none}
 use Rattle.comparison.proofs.first_difference.Goals as goal
 
-pub returns-then-v-to : goal.returns-then-v-to
-returns-then-v-to c =
+pub returns-in-Some : goal.returns-in-Some
+returns-in-Some c =
     let a = c.args in
-    let i = c.wide-from.ensures in
-    let r = c.wide.ensures in
-    let w = c.wide-2.ensures in
-    variable-same c.value_in-here.ensures c.value_in-there.ensures
-    ∙ difference-variable a.m a.a.now a.b.now _
-    (c.first_variable-v.ensures ∙ found_from (values_differ a.a.now a.b.now) i (omega (arith, i, r, w)))
-    (omega (arith, i, r, w, c.if-v-to.true))
+    let m = a.m in
+    let f = values_differ a.a.now a.b.now in
+    let n = m.registers + m.wires in
+    let e : first_from f (m.inputs + n - m.inputs) m.inputs ≡ first_from f n m.inputs = found_from f refl (omega arith) in
+    let s = found-some _ _ _ (sym c.in-Some.is ∙ c.first_variable.ensures) in
+    variable-same c.value_in.ensures c.value_in-in-Some.ensures
+    ∙ difference-variable m a.a.now a.b.now _ (s.0 ∙ e) (omega (arith, s.0, s.1))
 
-pub returns-then-i-n : goal.returns-then-i-n
-returns-then-i-n c =
+pub returns-in-Some-first_place : goal.returns-in-Some-first_place
+returns-in-Some-first_place c =
     let a = c.args in
-    let i = c.wide-from.ensures in
-    let r = c.wide.ensures in
-    let w = c.wide-2.ensures in
-    ap Place c.wide-then-i-n.ensures
-    ∙ difference-place a.m a.a.now a.b.now _
-    (c.first_variable-v.ensures ∙ found_from (values_differ a.a.now a.b.now) i (omega (arith, i, r, w)))
-    (omega (arith, i, r, w, c.if-v-to.false)) _ c.first_place-i.ensures c.if-i-n.true
+    let m = a.m in
+    let f = values_differ a.a.now a.b.now in
+    let n = m.registers + m.wires in
+    let e : first_from f (m.inputs + n - m.inputs) m.inputs ≡ first_from f n m.inputs = found_from f refl (omega arith) in
+    let i = found-some _ _ _ (sym c.in-Some-first_place.is ∙ c.first_place.ensures) in
+    difference-place m a.a.now a.b.now _ e (found-none _ _ (sym c.in_default.is ∙ c.first_variable.ensures)) _ i.0
+    (omega (arith, i.0, i.1))
 
-pub returns : goal.returns
-returns c =
+pub returns-in-None : goal.returns-in-None
+returns-in-None c =
     let a = c.args in
-    let i = c.wide-from.ensures in
-    let r = c.wide.ensures in
-    let w = c.wide-2.ensures in
-    difference-none a.m a.a.now a.b.now _
-    (c.first_variable-v.ensures ∙ found_from (values_differ a.a.now a.b.now) i (omega (arith, i, r, w)))
-    (omega (arith, i, r, w, c.if-v-to.false)) _ c.first_place-i.ensures c.if-i-n.false
+    let m = a.m in
+    let f = values_differ a.a.now a.b.now in
+    let n = m.registers + m.wires in
+    let e : first_from f (m.inputs + n - m.inputs) m.inputs ≡ first_from f n m.inputs = found_from f refl (omega arith) in
+    difference-none m a.a.now a.b.now _ e (found-none _ _ (sym c.in_default.is ∙ c.first_variable.ensures)) _ refl
+    (found-none _ _ (sym c.in-None.is ∙ c.first_place.ensures))

@@ -1,10 +1,9 @@
 -- `comparison::first_place` meets its contract. The loop's invariant: the search from `i` on finds what the whole finds. Assumes nothing.
-use borrow.Author.Rules.{rules}
 use Prim.Native.Nat.{ℕ, ◌-◌}
 use mathlib.Core.Path.{◌≡◌, sym, ap, ◌∙◌}
 use native.Mathlib.Omega.{arith}
 use Rattle.stimulus.specs.Counting.{first_from}
-use Rattle.stimulus.proofs.Searching.{first-hit, first-miss, first-none}
+use Rattle.stimulus.proofs.Searching.{found-hit, found-miss, first-hit, first-miss, first-none}
 use Rattle.comparison.specs.Comparison.{places_differ}
 use Rattle.comparison.proofs.Differences.{place-apart, place_same}
 use Rattle.comparison.proofs.first_place.Goals as goal
@@ -20,8 +19,10 @@ unfolding places_differ
 returns-then-place_in c =
     let l = c.loop-i in
     let a = c.args in
-    sym (first-hit (places_differ a.a.now a.b.now) a.n l.i c.loop-i-test.true
-    (place-apart c.place_in.ensures c.place_in-in-loop-i.ensures c.if-place_in.true)) ∙ l.invariant
+    found-hit _ _ _
+    (sym (first-hit (places_differ a.a.now a.b.now) a.n l.i c.loop-i-test.true
+    (place-apart c.place_in.ensures c.place_in-in-loop-i.ensures c.if-place_in.true)) ∙ l.invariant)
+    c.loop-i-test.true
 
 pub loop-i-preserved : goal.loop-i-preserved
 unfolding places_differ
@@ -35,4 +36,4 @@ pub returns : goal.returns
 returns c =
     let l = c.loop-i in
     let a = c.args in
-    sym (first-none (places_differ a.a.now a.b.now) a.n l.i c.loop-i-test.false) ∙ l.invariant
+    found-miss _ _ _ (sym (first-none (places_differ a.a.now a.b.now) a.n l.i c.loop-i-test.false) ∙ l.invariant) c.loop-i-test.false

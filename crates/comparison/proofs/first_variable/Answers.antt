@@ -1,11 +1,8 @@
 -- `comparison::first_variable` meets its contract. The loop's invariant: the search from `v` on finds what the whole finds.
 -- Assumes nothing.
-use borrow.Author.Rules.{rules}
-use Prim.Native.Nat.{◌-◌}
 use mathlib.Core.Bool.{not}
-use mathlib.Core.Path.{◌≡◌, refl, sym, ap, ◌∙◌}
-use Rattle.stimulus.specs.Counting.{first_from}
-use Rattle.stimulus.proofs.Searching.{first-hit, first-miss, first-none}
+use mathlib.Core.Path.{refl, sym, ap, ◌∙◌}
+use Rattle.stimulus.proofs.Searching.{found-hit, found-miss, first-hit, first-miss, first-none}
 use Rattle.comparison.specs.Comparison.{values_differ}
 use Rattle.comparison.proofs.Differences.{value_found}
 use Rattle.comparison.proofs.first_variable.Goals as goal
@@ -19,8 +16,10 @@ unfolding values_differ
 returns-then-not-same c =
     let l = c.loop-v in
     let a = c.args in
-    sym (first-hit (values_differ a.a.now a.b.now) a.to l.v c.loop-v-test.true
-    (value_found c.value_in-here.ensures c.value_in-there.ensures c.same.ensures (ap not c.if-not-same.true))) ∙ l.invariant
+    found-hit _ _ _
+    (sym (first-hit (values_differ a.a.now a.b.now) a.to l.v c.loop-v-test.true
+    (value_found c.value_in-here.ensures c.value_in-there.ensures c.same.ensures (ap not c.if-not-same.true))) ∙ l.invariant)
+    c.loop-v-test.true
 
 pub loop-v-preserved : goal.loop-v-preserved
 unfolding values_differ
@@ -34,4 +33,4 @@ pub returns : goal.returns
 returns c =
     let l = c.loop-v in
     let a = c.args in
-    sym (first-none (values_differ a.a.now a.b.now) a.to l.v c.loop-v-test.false) ∙ l.invariant
+    found-miss _ _ _ (sym (first-none (values_differ a.a.now a.b.now) a.to l.v c.loop-v-test.false) ∙ l.invariant) c.loop-v-test.false

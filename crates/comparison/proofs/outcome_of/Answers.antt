@@ -1,5 +1,4 @@
 -- `comparison::outcome_of` meets its contract. Assumes nothing.
-use borrow.Author.Rules.{rules}
 use Rattle.comparison.specs.Verdicts.{outcome_of}
 use Rattle.comparison.proofs.outcome_of.Goals as goal
 

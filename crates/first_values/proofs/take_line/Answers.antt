@@ -1,5 +1,5 @@
 -- `first_values::take_line` meets its contract. Assumes nothing.
-use Rattle.std.proofs.Common.{◌≤◌, true, false, length, ◌∙◌, arith, rules}
+use Rattle.std.proofs.Common.{◌≤◌, true, false, length, ◌∙◌, arith}
 use Rattle.first_values.proofs.FirstValues.{run_inside, line-blank, line_word}
 use Rattle.first_values.proofs.take_line.Goals as goal
 

@@ -1,5 +1,4 @@
 -- `first_values::value_in` meets its contract. Assumes nothing.
-use Rattle.std.proofs.Common.{rules}
 use Rattle.first_values.specs.FirstValues.{value_in}
 use Rattle.first_values.proofs.value_in.Goals as goal
 

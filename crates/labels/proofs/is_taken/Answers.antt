@@ -1,10 +1,6 @@
 -- `labels::is_taken` meets its contract. The loop's invariant: the search from `u` on finds what the whole finds. Assumes nothing.
-use borrow.Author.Rules.{rules}
-use mathlib.Core.Path.{◌≡◌, refl, sym, ◌∙◌}
-use Prim.Native.Nat.{◌-◌}
-use Rattle.stimulus.specs.Counting.{first_from}
+use mathlib.Core.Path.{refl, sym, ◌∙◌}
 use Rattle.stimulus.proofs.Searching.{first-hit, first-miss, first-none}
-use Rattle.labels.specs.Labels.{is_other}
 use Rattle.labels.proofs.Labels.{taken-found, taken_not}
 use Rattle.labels.proofs.is_taken.Goals as goal
 

@@ -1,5 +1,4 @@
 -- `labels::named` meets its contract. Assumes nothing.
-use borrow.Author.Rules.{rules}
 use Rattle.labels.proofs.Labels.{named-taken, named-right}
 use Rattle.labels.proofs.named.Goals as goal
 

@@ -1,5 +1,4 @@
 -- `labels::take_line` meets its contract. Assumes nothing.
-use borrow.Author.Rules.{rules}
 use mathlib.Core.Path.{◌∙◌}
 use native.Mathlib.Omega.{arith}
 use Rattle.labels.proofs.Labels.{name-inside, line-blank, line-wrong, line-named}

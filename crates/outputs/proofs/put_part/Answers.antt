@@ -1,5 +1,4 @@
 -- `outputs::put_part` meets its contract. Assumes nothing.
-use borrow.Author.Rules.{rules}
 use Rattle.writing.specs.Ascii.{ascii}
 use Rattle.writing.proofs.Buffer.{both}
 use Rattle.outputs.specs.Outputs.{part_name}

@@ -1,5 +1,4 @@
 -- `rivals::comparable` meets its contract. Assumes nothing.
-use borrow.Author.Rules.{rules}
 use Rattle.rivals.specs.Judging.{comparable}
 use Rattle.rivals.proofs.comparable.Goals as goal
 

@@ -1,5 +1,4 @@
 -- `rivals::conclude` meets its contract. Assumes nothing.
-use borrow.Author.Rules.{rules}
 use Rattle.rivals.specs.Judging.{concluded}
 use Rattle.rivals.proofs.conclude.Goals as goal
 

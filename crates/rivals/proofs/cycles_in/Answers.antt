@@ -1,5 +1,4 @@
 -- `rivals::cycles_in` meets its contract. Assumes nothing.
-use borrow.Author.Rules.{rules}
 use Rattle.rivals.specs.Judging.{cycles_in}
 use Rattle.rivals.proofs.cycles_in.Goals as goal
 

@@ -1,5 +1,4 @@
 -- `rivals::first_halted` meets its contract. Assumes nothing.
-use borrow.Author.Rules.{rules}
 use Rattle.rivals.proofs.Judging.{halted-nobody, halted-plain, halted-first, halted-second, halted-expressed}
 use Rattle.rivals.proofs.first_halted.Goals as goal
 

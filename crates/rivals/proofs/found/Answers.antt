@@ -1,5 +1,4 @@
 -- `rivals::found` meets its contract. Assumes nothing.
-use borrow.Author.Rules.{rules}
 use Rattle.rivals.specs.Judging.{found}
 use Rattle.rivals.proofs.found.Goals as goal
 

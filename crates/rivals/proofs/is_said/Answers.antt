@@ -1,5 +1,4 @@
 -- `rivals::is_said` meets its contract. Assumes nothing.
-use borrow.Author.Rules.{rules}
 use Rattle.rivals.specs.Judging.{is_said}
 use Rattle.rivals.proofs.is_said.Goals as goal
 

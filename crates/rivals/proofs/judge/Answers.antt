@@ -1,6 +1,5 @@
 -- `rivals::judge` meets its contract. The loop's invariant: what is still to be judged gives the whole. Assumes nothing.
-use borrow.Author.Rules.{rules}
-use Prim.Native.Nat.{◌-◌, ◌≤◌}
+use Prim.Native.Nat.{◌-◌}
 use mathlib.Core.Path.{◌≡◌, sym, ap, ◌∙◌}
 use native.Mathlib.Omega.{arith}
 use Rattle.comparison.specs.Verdicts.{after_all}

@@ -1,9 +1,8 @@
 -- `sources::begin` meets its contract. Assumes nothing.
-use borrow.Author.Rules.{rules}
 use Rattle.sources.specs.Sources.{nothing}
 use Rattle.sources.proofs.begin.Goals as goal
 
 pub returns : goal.returns
 unfolding nothing
 returns c =
-    rw c.begin-options.ensures
+    rw c.begin.ensures

@@ -1,5 +1,4 @@
 -- `sources::fresh` meets its contract. Assumes nothing.
-use borrow.Author.Rules.{rules}
 use mathlib.Core.Path.{sym, ◌∙◌}
 use Rattle.writing.specs.Ascii.{ascii}
 use Rattle.sources.specs.Sources.{fresh}
@@ -8,7 +7,7 @@ use Rattle.sources.proofs.fresh.Goals as goal
 pub returns-then-same : goal.returns-then-same
 unfolding fresh ascii
 returns-then-same c =
-    rw (sym c.same.ensures ∙ c.if-same.true, c.counted-options.ensures)
+    rw (sym c.same.ensures ∙ c.if-same.true, c.counted.ensures)
 
 pub returns-then-asks : goal.returns-then-asks
 unfolding fresh ascii
@@ -17,7 +16,7 @@ returns-then-asks c =
       sym c.same.ensures ∙ c.if-same.false,
       sym c.asks.ensures
           ∙ c.if-asks.true,
-      c.commanded-options.ensures,
+      c.commanded.ensures,
     )
 
 pub returns : goal.returns

@@ -1,8 +1,5 @@
 -- `sources::name_all` meets its contract. The loop's invariant: the variables that are left give all names. Assumes nothing.
-use borrow.Author.Rules.{rules}
-use mathlib.Core.Path.{◌≡◌, refl, sym, ◌∙◌}
-use Prim.Native.Nat.{◌-◌}
-use Rattle.sources.specs.Contents.{named_from}
+use mathlib.Core.Path.{refl, ◌∙◌}
 use Rattle.sources.proofs.Contents.{names-turn, names-over}
 use Rattle.sources.proofs.name_all.Goals as goal
 

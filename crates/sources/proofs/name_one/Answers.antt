@@ -1,10 +1,5 @@
 -- `sources::name_one` meets its contract. Assumes nothing.
-use borrow.Author.Rules.{rules}
-use mathlib.Core.Path.{◌≡◌, sym, ap, ◌∙◌}
-use Prim.Native.Nat.{◌+◌, ◌-◌}
-use native.Mathlib.Omega.{arith}
-use borrow.Author.Tests.{eq-eqb, ne_eqb, lt-ltb, le-ltb}
-use Rattle.sources.specs.Contents.{named_one}
+use mathlib.Core.Path.{refl}
 use Rattle.sources.proofs.Contents.{named-empty, named-out, named_in}
 use Rattle.sources.proofs.name_one.Goals as goal
 
@@ -14,11 +9,11 @@ returns-then-size-eq0 c =
 
 pub returns-then-text-to : goal.returns-then-text-to
 returns-then-text-to c =
-    named-out _ _ _ _ _ c.if-size-eq0.false c.wide-from.ensures c.wide.ensures
+    named-out _ _ _ _ _ c.if-size-eq0.false refl refl
     c.if-text-to.true
 
 pub returns : goal.returns
 returns c =
     named_in _ _ _ _ _ c.if-size-eq0.false
-    c.wide-from.ensures c.wide.ensures
+    refl refl
     c.if-text-to.false c.set_name.ensures

@@ -1,5 +1,4 @@
 -- `sources::put_pair` meets its contract. Assumes nothing.
-use borrow.Author.Rules.{rules}
 use Rattle.writing.proofs.Buffer.{both}
 use Rattle.sources.specs.Contents.{pair_of}
 use Rattle.sources.proofs.put_pair.Goals as goal

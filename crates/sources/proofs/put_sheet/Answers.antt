@@ -1,10 +1,7 @@
 -- `sources::put_sheet` meets its contract. The loop's invariant: the bytes that are left give the whole. Assumes nothing.
-use borrow.Author.Rules.{rules}
-use mathlib.Core.Path.{◌≡◌, refl, sym, ◌∙◌}
-use Prim.Native.Nat.{◌-◌}
-use lib.ListN.{length, drop}
-use Rattle.writing.specs.Buffer.{filled, puts}
-use Rattle.sources.specs.Contents.{hex_from}
+use mathlib.Core.Path.{refl, ◌∙◌}
+use lib.ListN.{length}
+use Rattle.writing.specs.Buffer.{filled}
 use Rattle.sources.proofs.Contents.{hex-turn, hex-over}
 use Rattle.sources.proofs.put_sheet.Goals as goal
 

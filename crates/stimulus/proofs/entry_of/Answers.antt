@@ -3,7 +3,7 @@ use native.Mathlib.Omega.{arith}
 use mathlib.Core.Path.{sym, ap, ◌∙◌}
 use Rattle.values.specs.Planes.{marks_of}
 use Rattle.stimulus.specs.Lines.{entry, fitted, sized}
-use Rattle.stimulus.proofs.Digits.{bits-long}
+use Rattle.stimulus.proofs.Digits.{bits-long, sized-some, sized-none}
 use Rattle.stimulus.proofs.Lines.{entry-x, entry-hex, entry-bits, entry-sized, entry-decimal}
 use Rattle.stimulus.proofs.entry_of.Goals as goal
 
@@ -32,17 +32,19 @@ returns-then-is_bits c =
 
 pub quoted_of-requires : goal.quoted_of-requires
 quoted_of-requires c =
-    sym c.is_sized.ensures ∙ c.if-is_sized.true
+    let s = sized-some _ _ (sym c.in-Some.is ∙ c.sized_at.ensures) in
+    record { sized = s.0; quote = s.1 }
 
-pub returns-then-is_sized : goal.returns-then-is_sized
-returns-then-is_sized c =
+pub returns-in-Some : goal.returns-in-Some
+returns-in-Some c =
+    let s = sized-some _ _ (sym c.in-Some.is ∙ c.sized_at.ensures) in
     c.quoted_of.ensures
     ∙ entry-sized _ _ (sym c.is_x.ensures ∙ c.if-is_x.false) (sym c.is_hex.ensures ∙ c.if-is_hex.false)
-    (sym c.is_bits.ensures ∙ c.if-is_bits.false) (sym c.is_sized.ensures ∙ c.if-is_sized.true)
+    (sym c.is_bits.ensures ∙ c.if-is_bits.false) s.0
 
-pub returns : goal.returns
-returns c =
-    c.fitted-2.ensures
-    ∙ ap (fitted _) c.number_of-a-2.ensures
+pub returns-in-None : goal.returns-in-None
+returns-in-None c =
+    c.fitted-in-None.ensures
+    ∙ ap (fitted _) c.number_of-a-in-None.ensures
     ∙ entry-decimal _ _ (sym c.is_x.ensures ∙ c.if-is_x.false) (sym c.is_hex.ensures ∙ c.if-is_hex.false)
-    (sym c.is_bits.ensures ∙ c.if-is_bits.false) (sym c.is_sized.ensures ∙ c.if-is_sized.false)
+    (sym c.is_bits.ensures ∙ c.if-is_bits.false) (sized-none _ (sym c.in-None.is ∙ c.sized_at.ensures))

@@ -2,9 +2,9 @@
 use native.Mathlib.Omega.{arith}
 use mathlib.Core.Path.{sym, ap, ◌∙◌}
 use Rattle.stimulus.specs.declared.Class.TheVariants.{Blank, Word}
-use Rattle.stimulus.specs.Names.{name_after}
+use Rattle.stimulus.specs.Names.{name_after, number_in}
 use Rattle.stimulus.proofs.Runs.{run-after, run_inside}
-use Rattle.stimulus.proofs.Naming.{line-blank, line-named}
+use Rattle.stimulus.proofs.Naming.{after-in, line-blank, line-named}
 use Rattle.stimulus.proofs.parse_name.Goals as goal
 
 pub overflow_add-result : goal.overflow_add-result
@@ -52,6 +52,7 @@ pub returns : goal.returns
 returns c =
     let a = c.args in
     c.name_after.ensures
-    ∙ ap (name_after a.line.now c.run_end-p.result c.run_end-to.result) c.variable_of-v.ensures
+    ∙ ap (λ v. name_after a.line.now c.run_end-p.result c.run_end-to.result (number_in v)) c.variable_of-v.ensures
+    ∙ after-in _ _ _ _
     ∙ line-named a.line.now a.inputs a.registers a.wires _ c.run_end-p.ensures _ c.run_end-to.ensures
     (sym c.at_end.ensures ∙ c.if-at_end.false)

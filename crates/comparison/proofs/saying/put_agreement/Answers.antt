@@ -1,5 +1,4 @@
 -- `comparison::put_agreement` meets its contract. Assumes nothing.
-use borrow.Author.Rules.{rules}
 use borrow.Author.Tests.{eq-eqb, ne_eqb}
 use Rattle.writing.specs.Ascii.{ascii}
 use Rattle.writing.proofs.Buffer.{both}

@@ -1,5 +1,4 @@
 -- `comparison::saying::put_difference` meets its contract, case by case. Assumes nothing.
-use borrow.Author.Rules.{rules}
 use mathlib.Core.Path.{sym}
 use Rattle.writing.proofs.Buffer.{puts-nil}
 use Rattle.comparison.specs.Saying.{difference_line}

@@ -1,5 +1,4 @@
 -- `comparison::saying::put_verdict` meets its contract, case by case. Assumes nothing.
-use borrow.Author.Rules.{rules}
 use Rattle.writing.specs.Ascii.{ascii}
 use Rattle.writing.proofs.Buffer.{both}
 use Rattle.comparison.specs.Saying.{verdict_line}

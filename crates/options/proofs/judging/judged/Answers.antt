@@ -1,6 +1,14 @@
 -- `options::judging::judged` meets its contract, row by row. Assumes nothing.
 use borrow.Author.Tests.{eq-eqb, ne_eqb}
-use Rattle.options.specs.Requests.{judged}
+use mathlib.Core.Path.{◌≡◌, refl, sym, ap, ◌∙◌}
+use native.Mathlib.Omega.{arith}
+use Prim.Native.Nat.{◌+◌}
+use denote.Enum.Declared.{tag_of}
+use Rattle.std.specs.Prelude.{Some}
+use Rattle.options.specs.contracts.Missing.{the_type}
+use Rattle.options.specs.declared.Missing.{Missing}
+use Rattle.options.specs.declared.Missing.TheVariants.{Command, Sheet, Inputs}
+use Rattle.options.specs.Requests.{lacking, lack_of, judged}
 use Rattle.options.proofs.judging.judged.Goals as goal
 
 pub returns-then-o-ne0 : goal.returns-then-o-ne0
@@ -13,23 +21,30 @@ unfolding judged
 returns-then-o-ne0-2 c =
     rw (eq-eqb _ _ c.if-o-ne0.false, ne_eqb _ _ c.if-o-ne0-2.true)
 
-pub returns-then-m-ne0 : goal.returns-then-m-ne0
+-- The number of a word that is missing.
+lack-is : (m : Missing) → tag_of the_type m + 1 ≡ lack_of (Some m)
+lack-is Command = refl
+lack-is Sheet = refl
+lack-is Inputs = refl
+
+pub returns-in-Some : goal.returns-in-Some
 unfolding judged
-returns-then-m-ne0 c =
+returns-in-Some c =
+    let m = c.in-Some.m in
+    let z : lacking c.args.o ≡ tag_of the_type m + 1 = sym c.lacking.ensures ∙ ap lack_of c.in-Some.is ∙ sym (lack-is m) in
     rw (
       eq-eqb _ _ c.if-o-ne0.false,
       eq-eqb _ _ c.if-o-ne0-2.false,
-      ← c.lacking-m.ensures,
-      ne_eqb _ _ c.if-m-ne0.true,
+      z,
+      ne_eqb (tag_of the_type m + 1) 0 (λ e. omega arith),
     )
 
-pub returns : goal.returns
+pub returns-in-None : goal.returns-in-None
 unfolding judged
-returns c =
+returns-in-None c =
     rw (
       eq-eqb _ _ c.if-o-ne0.false,
       eq-eqb _ _ c.if-o-ne0-2.false,
-      ← c.lacking-m.ensures,
-      eq-eqb _ _ c.if-m-ne0.false,
+      eq-eqb _ _ (sym c.lacking.ensures ∙ ap lack_of c.in-None.is),
     )
     c.fitted.ensures

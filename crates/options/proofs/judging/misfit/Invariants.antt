@@ -1,5 +1,4 @@
 -- `options::judging::misfit` meets its contract. The loop's invariant: the slots from `k` on have the misfit of all. Assumes nothing.
-use Prim.Native.Nat.{◌-◌}
 use mathlib.Core.Path.{◌≡◌}
 use lib.ListN.{drop}
 use Rattle.options.specs.Requests.{misfit}
@@ -8,7 +7,3 @@ use Rattle.options.proofs.judging.misfit.Given as goal
 abbrev pub invariant-loop-k : goal.invariant-loop-k
 invariant-loop-k l =
     misfit l.command l.k (drop l.k l.at) ≡ misfit l.command 0 l.at
-
-abbrev pub decreases-loop-k : goal.decreases-loop-k
-decreases-loop-k l =
-    40 - l.k

@@ -1,7 +1,8 @@
 -- `options::judging::paired` meets its contract. Assumes nothing.
-use mathlib.Core.Path.{sym, ap, ◌∙◌}
+use mathlib.Core.Path.{refl, sym, ap, ◌∙◌}
 use Prim.Native.Nat.{ℕ}
 use Rattle.options.specs.declared.Request.TheVariants.{Wrong}
+use Rattle.stimulus.proofs.Searching.{at-some, at-none}
 use Rattle.options.proofs.Rows.{paired-beside, paired-asked}
 use Rattle.options.specs.Requests.{paired}
 use Rattle.options.proofs.judging.paired.Goals as goal
@@ -20,14 +21,14 @@ returns-then-based c =
     )
     (ap (λ (n : ℕ). Wrong n 9) c.word_of-then-based.ensures)
 
-pub returns-then-n-ne0 : goal.returns-then-n-ne0
-returns-then-n-ne0 c =
+pub returns-in-Some : goal.returns-in-Some
+returns-in-Some c =
+    let s = at-some _ _ (sym c.in-Some.is ∙ c.misfit.ensures) in
     paired-beside _ (sym c.clashing.ensures ∙ c.if-clashing.false)
-    (sym c.based.ensures ∙ c.if-based.false) c.kind_of-kind.ensures c.misfit-n.ensures
-    c.if-n-ne0.true c.fault_of.ensures
+    (sym c.based.ensures ∙ c.if-based.false) c.kind_of-kind.ensures s.0 s.1 c.fault_of.ensures
 
-pub returns : goal.returns
-returns c =
+pub returns-in-None : goal.returns-in-None
+returns-in-None c =
     paired-asked _ (sym c.clashing.ensures ∙ c.if-clashing.false)
-    (sym c.based.ensures ∙ c.if-based.false) c.kind_of-kind.ensures c.misfit-n.ensures
-    c.if-n-ne0.false c.commanded.ensures
+    (sym c.based.ensures ∙ c.if-based.false) c.kind_of-kind.ensures refl
+    (at-none _ (sym c.in-None.is ∙ c.misfit.ensures)) c.commanded.ensures

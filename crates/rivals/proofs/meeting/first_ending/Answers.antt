@@ -1,5 +1,4 @@
 -- `rivals::meeting::first_ending` meets its contract. Assumes nothing.
-use borrow.Author.Rules.{rules}
 use Rattle.rivals.specs.Meeting.{first_ending}
 use Rattle.rivals.proofs.meeting.first_ending.Goals as goal
 

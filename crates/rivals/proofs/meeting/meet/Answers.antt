@@ -1,5 +1,4 @@
 -- `rivals::meeting::meet` meets its contract. Assumes nothing.
-use borrow.Author.Rules.{rules}
 use Rattle.rivals.specs.Meeting.{met}
 use Rattle.rivals.proofs.meeting.meet.Goals as goal
 

@@ -1,5 +1,4 @@
 -- `rivals::meeting::telling_of` meets its contract. Assumes nothing.
-use borrow.Author.Rules.{rules}
 use Rattle.rivals.specs.Meeting.{telling}
 use Rattle.rivals.proofs.meeting.telling_of.Goals as goal
 

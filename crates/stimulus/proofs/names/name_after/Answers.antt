@@ -5,20 +5,21 @@ use Rattle.stimulus.proofs.Runs.{run_inside}
 use Rattle.stimulus.proofs.Naming.{after_none, after-name}
 use Rattle.stimulus.proofs.names.name_after.Goals as goal
 
-pub returns-then-v-gt255 : goal.returns-then-v-gt255
-returns-then-v-gt255 c =
+pub returns-in-None : goal.returns-in-None
+returns-in-None c =
     let a = c.args in
-    after_none a.line.now a.p a.to a.v _ _ c.run_end-from.ensures c.run_end-end.ensures (omega arith)
+    rw c.in-None.is (after_none a.line.now a.p a.to 256 _ _ c.run_end-from.ensures c.run_end-end.ensures (omega arith))
 
-pub overflow_add-result-2 : goal.overflow_add-result-2
-overflow_add-result-2 c =
+pub overflow_add-result-in-Some : goal.overflow_add-result-in-Some
+overflow_add-result-in-Some c =
     let g = c.well_formed in
     let h = c.run_end-from.ensures in
     let i = run_inside Blank c.args.line.now c.args.to c.requires.1 in
     record { fits = omega arith }
 
-pub returns : goal.returns
-returns c =
+pub returns-in-Some : goal.returns-in-Some
+returns-in-Some c =
     let a = c.args in
-    after-name a.line.now a.p a.to a.v _ _ c.run_end-from.ensures c.run_end-end.ensures _ (omega arith)
-    c.name_error.ensures
+    rw c.in-Some.is
+    (after-name a.line.now a.p a.to _ _ _ c.run_end-from.ensures c.run_end-end.ensures _ (omega arith)
+    c.name_error.ensures)

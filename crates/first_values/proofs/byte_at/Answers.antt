@@ -1,8 +1,0 @@
--- `first_values::byte_at` meets its contract. Assumes nothing.
-use Rattle.std.proofs.Common.{sym, rules}
-use lib.ListN.{get_or-eq_default}
-use Rattle.first_values.proofs.byte_at.Goals as goal
-
-pub returns-else-at-s : goal.returns-else-at-s
-returns-else-at-s c =
-    sym (get_or-eq_default c.args.s.now 0 c.if-at-s.false)
