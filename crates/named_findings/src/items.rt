@@ -1,25 +1,10 @@
 // Which item of a Verilog text breaks a rule of extraction.
 ghost use Rattle.std.specs.Prelude.{◌≡◌};
-ghost use Rattle.tables.specs.Readers.{at_most};
 ghost use Rattle.named_findings.specs.Items.{waits_with, waits_at, item_of};
 
 use crate::variable;
 use verilog_origins::Item;
 use witness::Witness;
-
-// A count of threads; there are eight at most.
-fn few(n: usize) -> u8
-    ensures { result ≡ at_most 8 n }
-{
-    if n < 8 { n as u8 } else { 8 }
-}
-
-// A count, or the limit where it is more.
-fn at_most(limit: usize, n: usize) -> usize
-    ensures { result ≡ at_most limit n }
-{
-    if n < limit { n } else { limit }
-}
 
 // How many waits there are in the threads before one, and before a place in it, by the sheet's code.
 fn waits_with(
@@ -31,8 +16,8 @@ fn waits_with(
 ) -> usize
     ensures { result ≡ waits_with sheet.now thread place code.now sizes.now }
 {
-    let n = at_most(rules::size_of(sizes, thread), place);
-    let before = rules::waits_of(sheet, code, sizes, few(thread));
+    let n = rules::size_of(sizes, thread).min(place);
+    let before = rules::waits_of(sheet, code, sizes, thread.min(8) as u8);
     before + rules::waits_in(sheet, code, thread, n)
 }
 

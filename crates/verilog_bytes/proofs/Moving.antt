@@ -142,9 +142,6 @@ module _ (from pos k : ℕ) where
   abbrev pub Room : Bool
   Room = ltb from pos && leb (pos + k) 65536
 
-  pub room-none : pos ≤ from → false ≡ Room
-  room-none h = rw (le-ltb from pos h)
-
   pub room-test : from < pos → k ≤ 65536 → leb pos (65536 - k) ≡ Room
   room-test h w = rw (lt-ltb from pos h) (by (leb pos (65536 - k)) refl)
     where

@@ -97,20 +97,6 @@ backward-step l i j h w =
 
 -- ---- reversed
 
-pub reversed_step : (l : List ℕ) (i j : ℕ) → i + 1 < j → reversed (j - 1 - (i + 1)) (i + 1) (swapped i (j - 1) l) ≡ reversed (j - i) i l
-unfolding reversed
-reversed_step l i j h =
-    let m = j - 1 - (i + 1) in
-    let n : suc (suc m) ≡ j - i = omega arith in
-    let e : j - 1 ≡ i + m + 1 = omega arith in
-    ap (λ k. reversed m (i + 1) (swapped i k l)) e ∙ ap (λ k. reversed k i l) n
-
-pub reversed-few : (l : List ℕ) (i n : ℕ) → n ≤ 1 → reversed n i l ≡ l
-unfolding reversed
-reversed-few l i zero h = refl
-reversed-few l i (suc zero) h = refl
-reversed-few l i (suc (suc n)) h = absurd (omega arith)
-
 reversed-backward : (n i : ℕ) (l : List ℕ) → i + n ≤ length l → reversed n i l ≡ backward i (i + n) l
 unfolding reversed swapped
 reversed-backward zero i l h = sym (backward-none i (i + 0) l (omega arith) (omega arith) h)
@@ -154,22 +140,49 @@ turned-at p a b q from mid end lp la lb h =
     ∙ ap (λ t. reversed (end - from) from (reversed (end - mid) mid t)) first ∙ ap (λ t. reversed (end - from) from t) second
     ∙ third ∙ ap (λ t. p ++ (t ++ q)) back ∙ ap (λ t. p ++ t) (append_assoc b a q)
 
-pub turns : Turns
-unfolding Turns
-turns l from mid end n h k e =
-    let law = turned-at (take from l) (slice from mid l) (slice mid end l) (drop end l) from mid end (length-take-le from l (omega arith))
-    (omega (arith, length-slice from mid l (omega arith))) (omega (arith, length-slice mid end l (omega arith))) e in
-    ap (λ t. turned from mid end t) (sym four) ∙ law
+-- A list in four parts.
+four : (l : List ℕ) (from mid end : ℕ) → length l ≡ 65536 → from ≤ mid → mid ≤ end → end ≤ 65536
+    → take from l ++ (slice from mid l ++ (slice mid end l ++ drop end l)) ≡ l
+four l from mid end n h k e =
+    ap (λ t. take from l ++ (slice from mid l ++ t)) behind-mid
+    ∙ take-slice from mid l h (omega arith)
   where
     behind-mid : slice mid end l ++ drop end l ≡ drop mid l
     behind-mid =
         sym (drop-append-le mid (take end l) (drop end l) (omega (arith, length-take-le end l (omega arith))))
         ∙ ap (λ t. drop mid t) (take-append-drop end l)
 
-    four : take from l ++ (slice from mid l ++ (slice mid end l ++ drop end l)) ≡ l
-    four =
-        ap (λ t. take from l ++ (slice from mid l ++ t)) behind-mid
-        ∙ take-slice from mid l h (omega arith)
+pub turns : Turns
+unfolding Turns
+turns l from mid end n h k e =
+    let law = turned-at (take from l) (slice from mid l) (slice mid end l) (drop end l) from mid end (length-take-le from l (omega arith))
+    (omega (arith, length-slice from mid l (omega arith))) (omega (arith, length-slice mid end l (omega arith))) e in
+    ap (λ t. turned from mid end t) (sym (four l from mid end n h k e)) ∙ law
+
+-- ---- the range from..end, its part up to mid put behind the other
+
+abbrev rotated : ℕ → ℕ → ℕ → List ℕ → List ℕ
+rotated from mid end l =
+    let m = take (end - from) (drop from l) in
+    take from l ++ ((drop (mid - from) m ++ take (mid - from) m) ++ drop (end - from) (drop from l))
+
+rotated-at : (p a b q : List ℕ) (from mid end : ℕ) → length p ≡ from → from + length a ≡ mid → mid + length b ≡ end
+    → rotated from mid end (p ++ (a ++ (b ++ q))) ≡ p ++ (b ++ (a ++ q))
+rotated-at p a b q from mid end lp la lb =
+    let n : length (a ++ b) ≡ end - from = length-append a b ∙ omega arith in
+    let k : length a ≡ mid - from = omega arith in
+    let d : drop from (p ++ (a ++ (b ++ q))) ≡ (a ++ b) ++ q = drop_at p (a ++ (b ++ q)) from lp ∙ sym (append_assoc a b q) in
+    rw (take_at p (a ++ (b ++ q)) from lp, d, take_at (a ++ b) q (end - from) n, drop_at (a ++ b) q (end - from) n, drop_at a b (mid - from) k, take_at a b (mid - from) k)
+    (ap (λ t. p ++ t) (append_assoc b a q))
+
+pub turned-rotated : (l : List ℕ) (from mid end : ℕ) → length l ≡ 65536 → from ≤ mid → mid ≤ end → end ≤ 65536
+    → rotated from mid end l ≡ turned from mid end l
+unfolding Turns
+turned-rotated l from mid end n h k e =
+    ap (λ t. rotated from mid end t) (sym (four l from mid end n h k e))
+    ∙ rotated-at (take from l) (slice from mid l) (slice mid end l) (drop end l) from mid end (length-take-le from l (omega arith))
+    (omega (arith, length-slice from mid l (omega arith))) (omega (arith, length-slice mid end l (omega arith)))
+    ∙ sym (turns l from mid end n h k e)
 
 -- Places out of order or past the end.
 pub turned-back : (l : List ℕ) (from mid end : ℕ) → mid < from → turned from mid end l ≡ l

@@ -4,25 +4,9 @@
 
 ghost use Rattle.std.specs.Prelude.{◌≡◌, ◌&&◌, ◌∷◌, [], ◌+◌, ◌-◌, ◌≤◌, ltb, leb};
 ghost use Rattle.writing.specs.Buffer.{filled, puts};
-ghost use Rattle.verilog_bytes.specs.Turning.{reversed, turned, moved, fronted};
+ghost use Rattle.verilog_bytes.specs.Turning.{turned, moved, fronted};
 
 use writing::put_byte;
-
-// The bytes from a place up to another, the last first.
-fn reverse(out: &mut [u8; 65536], from: usize, end: usize)
-    requires { (from ≤ end) × (end ≤ 65536) }
-    ensures { out.new ≡ reversed (end - from) from out.old }
-{
-    let mut i = from;
-    let mut j = end;
-    while i + 1 < j {
-        j -= 1;
-        let b = out[i];
-        out[i] = out[j];
-        out[j] = b;
-        i += 1;
-    }
-}
 
 // What stands at from..mid comes behind what stands at mid..end. Places out of order or past the end change nothing.
 pub fn turn(out: &mut [u8; 65536], from: usize, mid: usize, end: usize)
@@ -37,9 +21,7 @@ pub fn turn(out: &mut [u8; 65536], from: usize, mid: usize, end: usize)
     if 65536 < end {
         return;
     }
-    reverse(out, from, mid);
-    reverse(out, mid, end);
-    reverse(out, from, end);
+    out[from..end].rotate_left(mid - from);
 }
 
 // Two bytes.
@@ -55,6 +37,7 @@ fn shift(out: &mut [u8; 65536], k: usize, from: usize, end: usize)
     requires { (from ≤ end) × (end + k ≤ 65536) }
     ensures { out.new ≡ moved k (end - from) from out.old }
 {
+    // stays a while: the last byte moves first, and the library has no move within one slice
     let mut j = end;
     while from < j {
         j -= 1;
@@ -67,10 +50,7 @@ fn has_room(from: usize, pos: usize, k: usize) -> bool
     requires { k ≤ 65536 }
     ensures { result ≡ (ltb from pos && leb (pos + k) 65536) }
 {
-    if pos <= from {
-        return false;
-    }
-    pos <= 65536 - k
+    from < pos && pos <= 65536 - k
 }
 
 // A byte in front of all that stands from a place on.

@@ -5,7 +5,6 @@ use mathlib.Core.List.{List}
 use Prim.Native.Nat.{ℕ, ◌+◌, ◌-◌, ◌≤◌, ◌<◌}
 use native.Mathlib.Omega.{arith}
 use borrow.Author.Tests.{lt-ltb, le-ltb, le-leb, lt-leb, eq-eqb, ne_eqb}
-use lib.Dec.{eqb}
 use lib.ListN.{get_or}
 use Rattle.writing.specs.Buffer.{Text, puts}
 use Rattle.writing.proofs.Buffer.{both}
@@ -24,19 +23,6 @@ use Rattle.verilog_errors.specs.Faults.{breaks, is_named, first_named, namesake,
 use Rattle.verilog_errors.specs.Faults.{opening, closing, line_of_first, broken_words, count_of, fault_by, fault_words}
 
 -- ---- names with a role
-
-module _ (ids roles : List ℕ) (low high x i : ℕ) where
-  pub named-below : get_or roles i 0 < low → false ≡ is_named ids roles low high x i
-  unfolding is_named
-  named-below h = rw (lt-ltb _ _ h)
-
-  pub named-above : low ≤ get_or roles i 0 → high < get_or roles i 0 → false ≡ is_named ids roles low high x i
-  unfolding is_named
-  named-above h l = rw (le-ltb _ _ h, lt-ltb _ _ l)
-
-  pub named-tested : low ≤ get_or roles i 0 → get_or roles i 0 ≤ high → eqb (get_or ids i 0) x ≡ is_named ids roles low high x i
-  unfolding is_named
-  named-tested h l = rw (le-ltb _ _ h, le-ltb _ _ l)
 
 pub named-all : (ids roles : List ℕ) (n low high x : ℕ)
     → first_or n (chosen (is_named ids roles low high x) (n - 0) 0) ≡ first_named ids roles n low high x

@@ -10,13 +10,11 @@ use verilog_scan::scan;
 use writing::put_word;
 
 // The number of tokens as the reader takes it.
+#[tactic(auto, unfolding(crate::specs::Choices::short))]
 pub(crate) fn short(n: usize) -> u16
     ensures { result ≡ short n }
 {
-    if n < 65536 {
-        return n as u16;
-    }
-    65535
+    n.min(65535) as u16
 }
 
 // The number of a token of that kind that stands for others: 1 of one that opens with another digit than 0, else 0.
@@ -76,20 +74,13 @@ fn kind_of(n: u8) -> u8
     0
 }
 
-// A number as a place.
-fn wide(n: u8) -> usize
-    ensures { result ≡ n }
-{
-    n as usize
-}
-
 // A row of the list of spellings.
 fn put_spelled(n: u8, out: &mut [u8; 65536], pos: usize) -> usize
     ensures { filled out.new result ≡ puts (filled out.old pos) (spelled n) }
 {
     reasons::put_line(
         b"a name\na number\n`0`\na value such as 'd5\nan unknown value such as 'bx\n`module`\n`endmodule`\n`input`\n`reg`\n`wire`\n`assign`\n`always`\n`begin`\n`end`\n`if`\n`else`\n`case`\n`endcase`\n`default`\n`while`\n`forever`\n`posedge`\n`negedge`\n`or`\n`(`\n`)`\n`[`\n`]`\n`:`\n`;`\n`,`\n`@`\n`=`\n`==`\n`<=`\n`<`\n`?`\n`~`\n`!`\n`&`\n`|`\n`^`\n`+`\n`-`\nthe end of the text",
-        wide(n),
+        n as usize,
         out,
         pos,
     )
@@ -120,10 +111,7 @@ fn put_row(could: bool, first: bool, n: u8, out: &mut [u8; 65536], pos: usize) -
 fn still(could: bool, first: bool) -> bool
     ensures { result ≡ pick could false first }
 {
-    if could {
-        return false;
-    }
-    first
+    !could && first
 }
 
 // All of them.
@@ -140,12 +128,10 @@ fn put_list(
 {
     let mut p = pos;
     let mut first = true;
-    let mut n: u8 = 0;
-    while n < 45 {
+    for n in 0u8..45 {
         let could = could_stand(kinds, numbers, count, at, kind_of(n));
         p = put_row(could, first, n, out, p);
         first = still(could, first);
-        n += 1;
     }
     p
 }

@@ -18,22 +18,8 @@ use writing::put_decimal;
 fn capped(count: u16) -> usize
     ensures { (result ≡ capped count) × (result ≤ 16385) }
 {
-    let n = wide(count);
+    let n = count as usize;
     if n < 16385 { n } else { 16385 }
-}
-
-// A place as a number.
-fn wide(p: u16) -> usize
-    ensures { result ≡ p }
-{
-    p as usize
-}
-
-// A number as a place.
-fn row(n: u8) -> usize
-    ensures { result ≡ n }
-{
-    n as usize
 }
 
 // A rule, and the place of a name.
@@ -46,6 +32,7 @@ fn breaks(rule: u8, first: usize) -> Broken
 // ---- names with a role
 
 // Is the token such a name with a role of these?
+#[tactic(auto, unfolding(crate::specs::Faults::is_named))]
 fn is_named(
     numbers: &[u32; 16385],
     roles: &[u8; 16385],
@@ -57,13 +44,7 @@ fn is_named(
     requires { i < 16385 }
     ensures { result ≡ is_named numbers.now roles.now low high id i }
 {
-    if roles[i] < low {
-        return false;
-    }
-    if high < roles[i] {
-        return false;
-    }
-    numbers[i] == id
+    low <= roles[i] && roles[i] <= high && numbers[i] == id
 }
 
 // The first of n tokens that is; n where none is.
@@ -78,12 +59,10 @@ fn first_named(
     requires { n ≤ 16385 }
     ensures { (result ≡ first_named numbers.now roles.now n low high id) × (result ≤ n) }
 {
-    let mut i = 0;
-    while i < n {
+    for i in 0..n {
         if is_named(numbers, roles, low, high, id, i) {
             return i;
         }
-        i += 1;
     }
     n
 }
@@ -93,12 +72,10 @@ fn token_at(places: &[u16; 16385], n: usize, place: usize) -> usize
     requires { n ≤ 16385 }
     ensures { (result ≡ next_of places.now n place 0) × (result ≤ n) }
 {
-    let mut i = 0;
-    while i < n {
-        if wide(places[i]) == place {
+    for i in 0..n {
+        if places[i] as usize == place {
             return i;
         }
-        i += 1;
     }
     n
 }
@@ -122,7 +99,7 @@ fn of_target(
     }
     let f = first_named(numbers, roles, n, 4, 4, numbers[t]);
     if f < t {
-        return breaks(5, wide(places[f]));
+        return breaks(5, places[f] as usize);
     }
     breaks(0, 0)
 }
@@ -140,7 +117,7 @@ fn of_declared(
     ensures { result ≡ of_declared numbers.now places.now roles.now n t f }
 {
     if f < t {
-        return breaks(2, wide(places[f]));
+        return breaks(2, places[f] as usize);
     }
     if roles[t] != 3 {
         return breaks(0, 0);
@@ -197,7 +174,7 @@ fn broken_at(
 fn put_opening(rule: u8, out: &mut [u8; 65536], pos: usize) -> usize
     ensures { filled out.new result ≡ puts (filled out.old pos) (opening rule) }
 {
-    reasons::put_line(b"\n\n\nwire \nassign to \nwire ", row(rule), out, pos)
+    reasons::put_line(b"\n\n\nwire \nassign to \nwire ", rule as usize, out, pos)
 }
 
 // What stands behind it.
@@ -206,7 +183,7 @@ fn put_closing(rule: u8, out: &mut [u8; 65536], pos: usize) -> usize
 {
     reasons::put_line(
         b"\n is not declared\n is declared twice, first at line \n has no assign\n, which is no wire\n has two assigns, first at line ",
-        row(rule),
+        rule as usize,
         out,
         pos,
     )

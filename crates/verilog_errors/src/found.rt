@@ -28,19 +28,12 @@ pub(crate) fn put_quoted(text: &[u8], place: usize, out: &mut [u8; 65536], pos: 
     put_word(b"`", out, b)
 }
 
-// A number as a place.
-fn wide(b: u8) -> usize
-    ensures { result ≡ b }
-{
-    b as usize
-}
-
 // A byte by its value.
 fn put_valued(b: u8, out: &mut [u8; 65536], pos: usize) -> usize
     ensures { filled out.new result ≡ puts (filled out.old pos) (valued b) }
 {
     let a = put_word(b"a byte of value ", out, pos);
-    put_decimal(wide(b), out, a)
+    put_decimal(b as usize, out, a)
 }
 
 // What stands at a place: a token, a byte that begins none, or the text's end.

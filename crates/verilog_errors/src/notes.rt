@@ -10,10 +10,7 @@ use reasons::{next_line, put_rest};
 fn is_blank(table: &[u8], at: usize) -> bool
     ensures { result ≡ eqb (get_or table.now at 0) 32 }
 {
-    if at < table.len() {
-        return table[at] == b' ';
-    }
-    false
+    at < table.len() && table[at] == b' '
 }
 
 // Does a table go on, from a place, with the first so many characters of a word and a blank?
@@ -21,9 +18,8 @@ fn opens(table: &[u8], from: usize, word: &[u8], n: usize) -> bool
     ensures { result ≡ opens (take n word.now) (drop from table.now) }
 {
     let mut left = n;
-    let mut i = 0;
     let mut j = from;
-    while i < word.len() {
+    for i in 0..word.len() {
         if left == 0 {
             return is_blank(table, j);
         }
@@ -34,7 +30,6 @@ fn opens(table: &[u8], from: usize, word: &[u8], n: usize) -> bool
             return false;
         }
         left -= 1;
-        i += 1;
         j += 1;
     }
     is_blank(table, j)
@@ -46,13 +41,11 @@ fn put_sentence(table: &[u8], word: &[u8], n: usize, out: &mut [u8; 65536], pos:
         ≡ puts (filled out.old pos) (sentence_by 64 (take n word.now) table.now) }
 {
     let mut from = 0;
-    let mut left: usize = 64;
-    while left > 0 {
+    for _ in 0usize..64 {
         if opens(table, from, word, n) {
             return put_rest(table, from, out, pos);
         }
         from = next_line(table, from);
-        left -= 1;
     }
     pos
 }
@@ -74,20 +67,13 @@ pub fn put_note(text: &[u8], place: usize, out: &mut [u8; 65536], pos: usize) ->
     )
 }
 
-// A number as a place.
-fn wide(n: u8) -> usize
-    ensures { result ≡ n }
-{
-    n as usize
-}
-
 // What is allowed of a text where its sheet is refused with that number.
 pub fn put_permission(number: u8, out: &mut [u8; 65536], pos: usize) -> usize
     ensures { filled out.new result ≡ puts (filled out.old pos) (permission number) }
 {
     reasons::put_line(
         b"\na module whose sheet has at most 8,192 bytes\n\n1 to 16 inputs, 1 to 32 registers, at most 32 wires and 1 to 8 always\n[n:0] with n at most 31; the first input is the clock, without a range\n\nconstants of width 1 to 32, and 1 to 8 names in a wait\nexpressions at most 16 deep, statements at most 64: each statement of a block stands one deeper than the one before it\nequal widths of both operands, of both arms, of a name and what is assigned to it; posedge and negedge of one-bit names\nin always the names declared by reg are assigned to\n\nat most 256 instructions in an always",
-        wide(number),
+        number as usize,
         out,
         pos,
     )

@@ -18,8 +18,8 @@ fn stepped(s: Spot, b: u8) -> Spot
         };
     }
     Spot {
-        line: s.line,
         column: counted(s.column),
+        ..s
     }
 }
 
@@ -29,33 +29,22 @@ pub fn spot_of(text: &[u8], place: usize) -> Spot
 {
     let mut s = Spot { line: 1, column: 1 };
     let mut left = place;
-    let mut i = 0;
-    while i < text.len() {
+    for i in 0..text.len() {
         if left == 0 {
             return s;
         }
         s = stepped(s, text[i]);
         left -= 1;
-        i += 1;
     }
     s
 }
 
-// How many places there are from one up to another.
-fn between(from: usize, to: usize) -> usize
-    ensures { result ≡ to - from }
-{
-    if from < to { to - from } else { 0 }
-}
-
 // Is it a character that can be shown?
+#[tactic(auto, unfolding(crate::specs::Spots::is_plain))]
 pub(crate) fn is_plain(b: u8) -> bool
     ensures { result ≡ is_plain b }
 {
-    if b < 32 {
-        return false;
-    }
-    b < 127
+    32 <= b && b < 127
 }
 
 // A character as it is shown, or what stands under it: a tab under a tab, else a blank.
@@ -88,14 +77,12 @@ pub(crate) fn put_part(
 {
     let mut p = pos;
     let mut left = n;
-    let mut i = from;
-    while i < text.len() {
+    for i in from..text.len() {
         if left == 0 {
             return p;
         }
         p = put_byte(sign_of(blank, text[i]), out, p);
         left -= 1;
-        i += 1;
     }
     p
 }
@@ -105,11 +92,11 @@ pub fn put_line(text: &[u8], place: usize, out: &mut [u8; 65536], pos: usize) ->
     ensures { filled out.new result ≡ puts (filled out.old pos) (line_words text.now place) }
 {
     let s = spot_of(text, place);
-    let before = between(1, s.column);
-    let start = between(before, place);
+    let before = s.column.saturating_sub(1);
+    let start = place.saturating_sub(before);
     let end = line_end(text, place, text.len());
     let a = put_word(b"    ", out, pos);
-    let b = put_part(text, start, between(start, end), false, out, a);
+    let b = put_part(text, start, end.saturating_sub(start), false, out, a);
     let c = put_word(b"\n    ", out, b);
     let d = put_part(text, start, before, true, out, c);
     put_word(b"^\n", out, d)

@@ -25,8 +25,9 @@ fn cut(width: u8, v: u32) -> u32
 fn put_word(v: u32, out: &mut [u8; 65536], pos: usize) -> usize
     ensures { filled out.new result ≡ puts (filled out.old pos) (encode_word v) }
 {
-    let p = put_pair((v % 256) as u8, (v / 256 % 256) as u8, out, pos);
-    put_pair((v / 65536 % 256) as u8, (v / 16777216 % 256) as u8, out, p)
+    let [a, b, c, d] = v.to_le_bytes();
+    let p = put_pair(a, b, out, pos);
+    put_pair(c, d, out, p)
 }
 
 // A known constant.

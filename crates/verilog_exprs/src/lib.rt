@@ -14,6 +14,7 @@ pub use constants::{put_constant, width_of};
 use operators::{operator_of, precedence_of};
 pub use rows::{expect, kind_at, number_at};
 use verilog_bytes::{put_pair, put_pair_front};
+use verilog_tokens::Kind;
 
 // Whether a part was read, the next token's place (of a refusal: where it was met), and the next position in the buffer.
 #[derive(Clone, Copy)]
@@ -37,7 +38,7 @@ fn value(
     ensures { wrote result out.new ≡ value_at kinds.now numbers.now width i pos out.old }
 {
     let k = kind_at(kinds, i);
-    if k == 67 {
+    if k == Kind::Known as u8 {
         let v = number_at(numbers, i);
         let p = put_constant(width, v, out, pos);
         return Put {
@@ -46,7 +47,7 @@ fn value(
             pos: p,
         };
     }
-    if k == 68 {
+    if k == Kind::Unknown as u8 {
         let p = put_pair(0x04, width, out, pos);
         return Put {
             ok: true,
@@ -73,7 +74,7 @@ fn atom(
 {
     let k = kind_at(kinds, i);
     let n = number_at(numbers, i);
-    if k == 64 {
+    if k == Kind::Name as u8 {
         let p = put_pair(0x02, (n % 256) as u8, out, pos);
         return Put {
             ok: true,
@@ -81,7 +82,7 @@ fn atom(
             pos: p,
         };
     }
-    if k == 65 {
+    if k == Kind::Number as u8 {
         return value(kinds, numbers, out, width_of(n), i + 1, pos);
     }
     Put {
@@ -106,9 +107,9 @@ fn primary(
         i pos out.old }
 {
     let k = kind_at(kinds, i);
-    if k == 20 {
+    if k == Kind::OpenParen as u8 {
         let e = expression(kinds, numbers, out, i + 1, 1, pos, fuel);
-        return expect(kinds, e, 21);
+        return expect(kinds, e, Kind::CloseParen as u8);
     }
     atom(kinds, numbers, out, i, pos)
 }
@@ -128,11 +129,11 @@ fn operand(
         i pos out.old }
 {
     let k = kind_at(kinds, i);
-    if k == 33 {
+    if k == Kind::Tilde as u8 {
         let p = put_pair(0x11, 1, out, pos);
         return primary(kinds, numbers, out, i + 1, p, fuel);
     }
-    if k == 34 {
+    if k == Kind::Exclamation as u8 {
         let p = put_pair(0x11, 2, out, pos);
         return primary(kinds, numbers, out, i + 1, p, fuel);
     }
@@ -161,11 +162,7 @@ fn climb(
         return at;
     }
     if turns == 0 {
-        return Put {
-            ok: false,
-            next: i,
-            pos: at.pos,
-        };
+        return Put { ok: false, ..at };
     }
     let k = kind_at(kinds, i);
     let o = precedence_of(k);
@@ -202,18 +199,16 @@ fn arms(
         return at;
     }
     let k = kind_at(kinds, i);
-    if k != 32 {
+    if k != Kind::Question as u8 {
         return at;
     }
     let p = put_pair_front(0x71, 10, out, from, at.pos);
     let a = expression(kinds, numbers, out, i + 1, 1, p, fuel);
-    let c = expect(kinds, a, 24);
+    let c = expect(kinds, a, Kind::Colon as u8);
     if !c.ok {
         return c;
     }
-    let j = c.next;
-    let q = c.pos;
-    expression(kinds, numbers, out, j, 1, q, fuel)
+    expression(kinds, numbers, out, c.next, 1, c.pos, fuel)
 }
 
 // The expression of a level or closer that begins at a token, written at a position.

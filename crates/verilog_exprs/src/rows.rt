@@ -19,35 +19,13 @@ pub fn number_at(numbers: &[u32; 16385], i: usize) -> u32
 }
 
 // A token of a kind, behind what was read; a refusal stays one.
+#[tactic(auto, unfolding(crate::specs::Rows::expected, crate::specs::Rows::is_at))]
 pub fn expect(kinds: &[u8; 16385], at: Put, kind: u8) -> Put
     ensures { result ≡ expected kinds.now kind at }
 {
     let i = at.next;
-    let pos = at.pos;
-    if !at.ok {
-        return Put {
-            ok: false,
-            next: i,
-            pos,
-        };
+    if at.ok && i < 16385 && kinds[i] == kind {
+        return Put { next: i + 1, ..at };
     }
-    if 16385 <= i {
-        return Put {
-            ok: false,
-            next: i,
-            pos,
-        };
-    }
-    if kinds[i] == kind {
-        return Put {
-            ok: true,
-            next: i + 1,
-            pos,
-        };
-    }
-    Put {
-        ok: false,
-        next: i,
-        pos,
-    }
+    Put { ok: false, ..at }
 }

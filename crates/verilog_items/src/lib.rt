@@ -18,18 +18,7 @@ use verilog_stmts::{after, is_next, left, refused, statement, value};
 fn rewind(at: Put) -> Put
     ensures { result ≡ rewound at }
 {
-    Put {
-        ok: at.ok,
-        next: at.next,
-        pos: 0,
-    }
-}
-
-// The number of tokens as a place.
-fn wide(n: u16) -> usize
-    ensures { result ≡ n }
-{
-    n as usize
+    Put { pos: 0, ..at }
 }
 
 // A target, `=` and its expression.
@@ -62,8 +51,7 @@ fn assigns(
         ≡ assigns kinds.now numbers.now count (notes (wrote at out.old) roles.old ws) }
 {
     let mut p = after(at);
-    let mut turns = left(count, p.next);
-    while turns > 0 {
+    for _ in 0..left(count, p.next) {
         if !is_next(kinds, 64, p) {
             return refused(p);
         }
@@ -72,7 +60,6 @@ fn assigns(
             return expect(kinds, p, 25);
         }
         p = after(p);
-        turns -= 1;
     }
     refused(p)
 }
@@ -92,7 +79,7 @@ fn thread(
     mark(roles, at.next, 5);
     let s = rewind(after(at));
     let n = left(count, s.next);
-    statement(kinds, numbers, count, out, s, wide(n))
+    statement(kinds, numbers, count, out, s, n as usize)
 }
 
 // An item, by its first word.
@@ -135,8 +122,7 @@ fn item_list(
         (notes (wrote at out.old) roles.old widths.old) }
 {
     let mut p = at;
-    let mut turns = left(count, at.next);
-    while turns > 0 {
+    for _ in 0..left(count, at.next) {
         if !p.ok {
             return p;
         }
@@ -144,7 +130,6 @@ fn item_list(
             return after(p);
         }
         p = item(kinds, numbers, count, out, roles, widths, p);
-        turns -= 1;
     }
     refused(p)
 }

@@ -26,13 +26,11 @@ fn ident(kinds: &[u8; 16385], at: Put) -> Put
 }
 
 // Whether a number is next.
+#[tactic(auto, unfolding(crate::specs::Items::is_number))]
 fn is_number(kinds: &[u8; 16385], at: Put) -> bool
     ensures { result ≡ is_number kinds.now at }
 {
-    if is_next(kinds, 65, at) {
-        return true;
-    }
-    is_next(kinds, 66, at)
+    is_next(kinds, 65, at) || is_next(kinds, 66, at)
 }
 
 // A number.
@@ -98,8 +96,7 @@ fn name_list(
         ≡ name_list kinds.now count role width (marks at roles.old widths.old) }
 {
     let mut p = at;
-    let mut turns = left(count, at.next);
-    while turns > 0 {
+    for _ in 0..left(count, at.next) {
         if !is_next(kinds, 64, p) {
             return refused(p);
         }
@@ -110,7 +107,6 @@ fn name_list(
             return p;
         }
         p = after(p);
-        turns -= 1;
     }
     refused(p)
 }

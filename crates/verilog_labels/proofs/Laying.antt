@@ -45,10 +45,6 @@ pub few-below : (n : ℕ) → n < 65536 → n ≡ few n
 unfolding few
 few-below n h = rw (lt-ltb n 65536 h)
 
-pub few-above : (n : ℕ) → 65536 ≤ n → 65535 ≡ few n
-unfolding few
-few-above n h = rw (le-ltb n 65536 h)
-
 -- ---- lists of entries
 
 pub laid-append : (table : List ℕ) (k : ℕ) (xs ys : List ℕ) → laid table k (xs ++ ys) ≡ laid (laid table k xs) (k + length xs) ys

@@ -10,19 +10,17 @@ ghost use Rattle.verilog_names.specs.Faults.{fault_of};
 ghost use Rattle.verilog_labels.specs.Labels.{told, labels};
 ghost use Rattle.verilog_labels.specs.Steps.{few, fault_in, derived_in, scanned_in};
 
-use rows::{rows, wide};
+use rows::rows;
 use verilog_items::read;
 use verilog_names::{first_fault, number};
 use verilog_scan::scan;
 
 // The number of tokens, which is at most 16,384.
+#[tactic(auto, unfolding(crate::specs::Steps::few))]
 fn few(n: usize) -> u16
     ensures { result ≡ few n }
 {
-    if n < 65536 {
-        return n as u16;
-    }
-    65535
+    n.min(65535) as u16
 }
 
 // Names that aren't at fault, and where they are declared.
@@ -41,7 +39,7 @@ fn faultless(
         numbers.now begun.now count places.old lengths.old roles.now
         (fault_of kinds.now numbers.now begun.now roles.now (capped count)) }
 {
-    let n = wide(count);
+    let n = count as usize;
     let fault = first_fault(kinds, numbers, begun, roles, n);
     if fault.found {
         return 43;
@@ -66,7 +64,7 @@ fn derived(
 {
     let none = [0u8; 16385];
     let mut table = [0u32; 16385];
-    number(kinds, numbers, &none, wide(count), &mut table);
+    number(kinds, numbers, &none, count as usize, &mut table);
     let mut out = [0u8; 65536];
     let mut roles = [0u8; 16385];
     let mut widths = [0u8; 16385];

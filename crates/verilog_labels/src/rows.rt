@@ -7,13 +7,6 @@ ghost use Rattle.verilog_labels.specs.Steps.{zeros, put, laid, places_at, length
 
 use verilog_tokens::{Class, run_end};
 
-// A number as a place.
-pub(crate) fn wide(n: u16) -> usize
-    ensures { result ≡ n }
-{
-    n as usize
-}
-
 // A table has 16,385 entries.
 fn capped(count: usize) -> usize
     ensures { result ≡ capped count }
@@ -63,14 +56,12 @@ fn name_all(
         (lengths_at text.now begun.now (chosen (has_role roles.now role) count 0)) }
 {
     let mut k = from;
-    let mut i = 0;
-    while i < count {
+    for i in 0..count {
         if roles[i] == role {
             put(places, k, begun[i]);
-            put(lengths, k, length_at(text, wide(begun[i])));
+            put(lengths, k, length_at(text, begun[i] as usize));
             k += 1;
         }
-        i += 1;
     }
     k
 }

@@ -2,11 +2,11 @@
 use mathlib.Core.Path.{◌≡◌, refl, sym, ◌∙◌, ap}
 use mathlib.Core.Bool.{Bool, true, false}
 use mathlib.Core.List.{List, [], ◌∷◌, ◌++◌, append_assoc, append-nil}
-use Prim.Native.Nat.{ℕ, zero, suc, ◌+◌, ◌-◌, ◌<◌, ◌≤◌}
+use Prim.Native.Nat.{ℕ, zero, suc, ◌+◌, ◌-◌, ◌<◌, ◌≤◌, min}
 use native.Mathlib.Nat.{sub-zero}
 use native.Mathlib.Numerals.{add-one}
 use native.Mathlib.Omega.{arith}
-use borrow.Author.Tests.{ltb-true, lt-ltb, le-ltb, eq-eqb, ne_eqb, le-leb, lt-leb}
+use borrow.Author.Tests.{ltb-true, ltb-false, lt-ltb, le-ltb, eq-eqb, ne_eqb, le-leb, lt-leb}
 use lib.Dec.{ltb, eqb}
 use lib.ListN.{length, get_or, length-append}
 use Rattle.values.specs.Values.{pick}
@@ -33,6 +33,14 @@ module _ (n : ℕ) where
       by : (t : Bool) → ltb n 16385 ≡ t → pick (ltb n 16385) n 16385 ≤ 16385
       by true e = rw e (omega (arith, ltb-true n 16385 e))
       by false e = rw e (omega arith)
+
+pub min-capped : (n : ℕ) → min n 16385 ≡ capped n
+unfolding capped
+min-capped n = by (ltb n 16385) refl
+  where
+    by : (t : Bool) → ltb n 16385 ≡ t → min n 16385 ≡ pick t n 16385
+    by true e = omega (arith, ltb-true n 16385 e)
+    by false e = omega (arith, ltb-false n 16385 e)
 
 pub capped-kept : (count n : ℕ) → n ≡ capped count → n ≤ 16385
 capped-kept count n e = rw e (capped-few count)

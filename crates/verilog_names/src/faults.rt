@@ -5,18 +5,18 @@ ghost use Rattle.verilog_source.specs.Names.{lower};
 ghost use Rattle.verilog_names.specs.Chosen.{capped, here, chosen, is_in};
 ghost use Rattle.verilog_names.specs.Faults.{is_among, marked, marks, lacks, missing, repeated, nearest, fault_of};
 
-use crate::numbers::{enter_id, slot};
-use crate::tokens::{capped, is_in};
+use crate::numbers::enter_id;
+use crate::tokens::is_in;
 use crate::{Class, Fault};
 
-// The lower of two places.
+// The lower of two places. It stays a function: with `.min()` in place the proofs of its callers didn't close.
 fn lower(a: usize, b: usize) -> usize
     ensures { result ≡ lower a b }
 {
     if b < a { b } else { a }
 }
 
-// A place as a number.
+// A place as a number. It stays a function: proofs of its callers need the bound, and with a cast in place they didn't close.
 fn spot(p: u16) -> usize
     ensures { (result ≡ p) × (result < 65536) }
 {
@@ -35,10 +35,7 @@ fn is_such(
     requires { i < 16385 }
     ensures { result ≡ is_among numbers.now (here (is_in kinds.now roles.now class) i) id }
 {
-    if is_in(kinds, roles, class, i) {
-        return numbers[i] == id;
-    }
-    false
+    is_in(kinds, roles, class, i) && numbers[i] == id
 }
 
 // Is one of the first so many tokens of that class such a name?
@@ -53,12 +50,10 @@ fn is_among(
     requires { count ≤ 16385 }
     ensures { result ≡ is_among numbers.now (chosen (is_in kinds.now roles.now class) count 0) id }
 {
-    let mut i = 0;
-    while i < count {
+    for i in 0..count {
         if is_such(kinds, numbers, roles, class, id, i) {
             return true;
         }
-        i += 1;
     }
     false
 }
@@ -97,10 +92,8 @@ fn see(
     ensures { seen.new ≡
         marked numbers.now (chosen (is_in kinds.now roles.now class) count 0) seen.old }
 {
-    let mut i = 0;
-    while i < count {
+    for i in 0..count {
         see_at(kinds, numbers, roles, class, i, seen);
-        i += 1;
     }
 }
 
@@ -118,7 +111,7 @@ fn is_seen(
     requires seen_value { seen.now ≡ marks numbers.now (chosen (is_in kinds.now roles.now class) count 0) }
     ensures { result ≡ is_among numbers.now (chosen (is_in kinds.now roles.now class) count 0) id }
 {
-    let k = slot(id);
+    let k = id as usize;
     if k < 16385 {
         return seen[k] == 1;
     }
@@ -144,10 +137,7 @@ fn is_missing(
     ensures { result ≡ lacks numbers.now (is_in kinds.now roles.now a)
         (chosen (is_in kinds.now roles.now b) count 0) i }
 {
-    if !is_in(kinds, roles, a, i) {
-        return false;
-    }
-    !is_seen(kinds, numbers, roles, count, b, seen, numbers[i])
+    is_in(kinds, roles, a, i) && !is_seen(kinds, numbers, roles, count, b, seen, numbers[i])
 }
 
 // The place of a token that is missing; 65,536 of another.
@@ -179,11 +169,9 @@ fn missing(
     let mut seen = [0u8; 16385];
     see(kinds, numbers, roles, count, b, &mut seen);
     let mut best = 65536;
-    let mut i = 0;
-    while i < count {
+    for i in 0..count {
         let gone = is_missing(kinds, numbers, roles, count, a, b, &seen, i);
         best = lower(best, missing_at(places, gone, i));
-        i += 1;
     }
     best
 }
@@ -231,12 +219,10 @@ fn repeated(
 {
     let mut seen = [0u8; 16385];
     let mut best = 65536;
-    let mut i = 0;
-    while i < count {
+    for i in 0..count {
         let again = repeated_at(kinds, numbers, places, roles, a, &seen, i);
         best = lower(best, again);
         see_at(kinds, numbers, roles, a, i, &mut seen);
-        i += 1;
     }
     best
 }
@@ -254,7 +240,7 @@ pub fn first_fault(
 ) -> Fault
     ensures { result ≡ fault_of kinds.now numbers.now places.now roles.now (capped count) }
 {
-    let n = capped(count);
+    let n = count.min(16385);
     let a = missing(
         kinds,
         numbers,

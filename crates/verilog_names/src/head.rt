@@ -5,7 +5,7 @@ ghost use Rattle.verilog_grammar.specs.Meaning.{up_to};
 ghost use Rattle.verilog_names.specs.Chosen.{capped, here, chosen, has_role, count_of};
 ghost use Rattle.verilog_names.specs.Head.{widths_of, head_of};
 
-use crate::tokens::{capped, count_of, has_role, up_to};
+use crate::tokens::{count_of, has_role, up_to};
 use writing::put_byte;
 
 // How many tokens have a role, past so many 255.
@@ -58,10 +58,8 @@ fn put_widths(
         puts (filled text.old pos) (widths_of widths.now (chosen (has_role roles.now role) count 0)) }
 {
     let mut p = pos;
-    let mut i = 0;
-    while i < count {
+    for i in 0..count {
         p = put_width(roles, widths, role, i, text, p);
-        i += 1;
     }
     p
 }
@@ -77,7 +75,7 @@ pub fn put_head(
     ensures { filled text.new result ≡
         puts (filled text.old pos) (head_of roles.now widths.now (capped count)) }
 {
-    let n = capped(count);
+    let n = count.min(16385);
     let a = put_count(roles, n, 1, 16, text, pos);
     let b = put_count(roles, n, 2, 32, text, a);
     let c = put_count(roles, n, 3, 32, text, b);

@@ -3,7 +3,7 @@ ghost use Rattle.std.specs.Prelude.{◌≡◌, ◌+◌, ◌≤◌, ◌<◌, leng
 ghost use Rattle.verilog_names.specs.Chosen.{capped, here, chosen, has_role, count_of};
 ghost use Rattle.verilog_names.specs.Numbers.{ordered, place_of, entry, entered, by_id, number_at, numbered};
 
-use crate::tokens::{capped, count_of, has_role, up_to};
+use crate::tokens::{count_of, has_role, up_to};
 
 // How many names of a role stand before the first that is such; how many there are where none is.
 fn place_of(numbers: &[u32; 16385], roles: &[u8; 16385], count: usize, role: u8, id: u32) -> usize
@@ -11,15 +11,13 @@ fn place_of(numbers: &[u32; 16385], roles: &[u8; 16385], count: usize, role: u8,
     ensures { result ≡ place_of numbers.now (chosen (has_role roles.now role) count 0) id }
 {
     let mut k = 0;
-    let mut i = 0;
-    while i < count {
+    for i in 0..count {
         if has_role(roles, role, i) {
             if numbers[i] == id {
                 return k;
             }
             k += 1;
         }
-        i += 1;
     }
     k
 }
@@ -50,27 +48,13 @@ fn variable_of(
     inputs + registers + c
 }
 
-// A number as it stands in a table.
-fn entry(n: u8) -> u32
-    ensures { result ≡ n }
-{
-    n as u32
-}
-
 // ---- a table by id
-
-// An id as a place in the table.
-pub(crate) fn slot(id: u32) -> usize
-    ensures { result ≡ id }
-{
-    id as usize
-}
 
 // Enters a number at an id that the table has.
 pub(crate) fn enter_id(table: &mut [u8; 16385], id: u32, number: u8)
     ensures { table.new ≡ entry table.old id number }
 {
-    let k = slot(id);
+    let k = id as usize;
     if k < 16385 {
         table[k] = number;
     }
@@ -114,6 +98,7 @@ fn enter_role(
 {
     let mut k = above;
     let mut i = count;
+    // stays a while: the index goes down, and turning a range round (rev) is no plainer
     while i > 0 {
         i -= 1;
         k = enter_at(numbers, roles, role, i, k, table);
@@ -160,12 +145,12 @@ fn number_at(
     if kinds[i] != 64 {
         return id;
     }
-    let k = slot(id);
+    let k = id as usize;
     if k < 16385 {
-        return entry(table[k]);
+        return table[k] as u32;
     }
     let v = variable_of(numbers, roles, count, inputs, registers, id);
-    entry(up_to(255, v))
+    up_to(255, v) as u32
 }
 
 // The numbers of the tokens, in which a name has its variable's number, into a lent table; behind the last token it stays as it is.
@@ -179,15 +164,13 @@ pub fn number(
     ensures { out.new ≡
         numbered kinds.now numbers.now roles.now (capped count) out.old }
 {
-    let n = capped(count);
+    let n = count.min(16385);
     let inputs = count_of(roles, n, 1);
     let registers = count_of(roles, n, 2);
     let all = inputs + registers + count_of(roles, n, 3);
     let mut table = [up_to(255, all); 16385];
     enter(numbers, roles, n, all, &mut table);
-    let mut i = 0;
-    while i < n {
+    for i in 0..n {
         out[i] = number_at(kinds, numbers, roles, n, inputs, registers, &table, i);
-        i += 1;
     }
 }

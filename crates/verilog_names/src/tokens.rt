@@ -1,16 +1,9 @@
 // Tokens by their tables.
 ghost use Rattle.std.specs.Prelude.{◌≡◌, ◌≤◌, ◌<◌};
 ghost use Rattle.verilog_grammar.specs.Meaning.{up_to};
-ghost use Rattle.verilog_names.specs.Chosen.{capped, count_of, has_role, is_used, is_declared, is_in};
+ghost use Rattle.verilog_names.specs.Chosen.{count_of, has_role, is_used, is_declared, is_in};
 
 use crate::Class;
-
-// A table has 16,385 entries.
-pub(crate) fn capped(count: usize) -> usize
-    ensures { result ≡ capped count }
-{
-    if count < 16385 { count } else { 16385 }
-}
 
 // Is the token of that role?
 pub(crate) fn has_role(roles: &[u8; 16385], role: u8, i: usize) -> bool
@@ -21,25 +14,21 @@ pub(crate) fn has_role(roles: &[u8; 16385], role: u8, i: usize) -> bool
 }
 
 // Is it a name, and not the module's own, which is token 1?
+#[tactic(auto, unfolding(crate::specs::Chosen::is_used))]
 fn is_used(kinds: &[u8; 16385], i: usize) -> bool
     requires { i < 16385 }
     ensures { result ≡ is_used kinds.now i }
 {
-    if kinds[i] != 64 {
-        return false;
-    }
-    1 < i
+    kinds[i] == 64 && 1 < i
 }
 
 // Is it declared by one of the three words?
+#[tactic(auto, unfolding(crate::specs::Chosen::is_declared))]
 fn is_declared(roles: &[u8; 16385], i: usize) -> bool
     requires { i < 16385 }
     ensures { result ≡ is_declared roles.now i }
 {
-    if roles[i] == 0 {
-        return false;
-    }
-    roles[i] < 4
+    roles[i] != 0 && roles[i] < 4
 }
 
 // Is the token of that kind?
@@ -61,12 +50,10 @@ pub(crate) fn count_of(roles: &[u8; 16385], count: usize, role: u8) -> usize
     ensures { result ≡ count_of roles.now count role }
 {
     let mut n = 0;
-    let mut i = 0;
-    while i < count {
+    for i in 0..count {
         if has_role(roles, role, i) {
             n += 1;
         }
-        i += 1;
     }
     n
 }

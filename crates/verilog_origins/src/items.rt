@@ -3,7 +3,7 @@ ghost use Rattle.std.specs.Prelude.{◌≡◌};
 ghost use Rattle.verilog_names.specs.Chosen.{capped};
 ghost use Rattle.verilog_origins.specs.Items.{nth_of, target_for, variable_place, item_in, place_of};
 
-use crate::steps::{capped, wide};
+use crate::steps::capped;
 use crate::{Item, declared, number_at, place_at, short};
 use verilog_items::read;
 use verilog_names::target_of;
@@ -15,15 +15,13 @@ fn nth_of(row: &[u8; 16385], count: u16, entry: u8, k: usize) -> usize
 {
     let n = capped(count);
     let mut left = k;
-    let mut i = 0;
-    while i < n {
+    for i in 0..n {
         if row[i] == entry {
             if left == 0 {
                 return i;
             }
             left -= 1;
         }
-        i += 1;
     }
     n
 }
@@ -33,7 +31,7 @@ fn target_for(numbers: &[u32; 16385], roles: &[u8; 16385], count: u16, k: usize)
     ensures { result ≡ target_for numbers.now roles.now (capped count) k }
 {
     let id = number_at(numbers, nth_of(roles, count, 3, k));
-    target_of(numbers, roles, wide(count), id)
+    target_of(numbers, roles, count as usize, id)
 }
 
 // Where a variable is declared; a sheet has at most 80.

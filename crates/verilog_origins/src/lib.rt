@@ -13,7 +13,7 @@ ghost use Rattle.verilog_origins.specs.Origins.{declared, token_in, place_in, na
 
 pub use items::place_of;
 pub use points::point;
-use steps::{capped, find_thread, find_wire, wide};
+use steps::{capped, find_thread, find_wire};
 use verilog_items::read;
 use verilog_labels::names;
 use verilog_names::{number, put_head, target_of};
@@ -40,33 +40,32 @@ pub enum Item {
 }
 
 // The number of tokens as the reader takes it.
+#[tactic(auto, unfolding(crate::specs::Origins::short))]
 fn short(n: usize) -> u16
     ensures { result ≡ short n }
 {
-    if n < 65536 {
-        return n as u16;
-    }
-    65535
+    n.min(65535) as u16
 }
 
 // A place, past the table's end 0.
 fn place_at(places: &[u16; 16385], i: usize) -> usize
     ensures { result ≡ row_at places.now i }
 {
-    if i < 16385 {
-        return wide(places[i]);
-    }
-    0
+    if i < 16385 { places[i] as usize } else { 0 }
 }
 
 // A name's number, past the table's end 0.
 fn number_at(numbers: &[u32; 16385], i: usize) -> u32
     ensures { result ≡ row_at numbers.now i }
 {
-    if i < 16385 {
-        return numbers[i];
-    }
-    0
+    if i < 16385 { numbers[i] } else { 0 }
+}
+
+// A number as a place.
+fn wide(n: u16) -> usize
+    ensures { result ≡ n }
+{
+    n as usize
 }
 
 // Where the variable is declared whose width is byte n of the sheet; the text's beginning for one of the four counts.
@@ -103,7 +102,7 @@ fn token_of(
     let token = h.token;
     if token < capped(count) {
         let id = number_at(numbers, token);
-        return target_of(numbers, roles, wide(count), id);
+        return target_of(numbers, roles, count as usize, id);
     }
     let g = find_thread(kinds, table, roles, count, out, h.pos, place);
     g.token
@@ -127,7 +126,7 @@ fn item_place(
     let mut widths = [0u8; 16385];
     read(kinds, table, count, &mut parts, &mut roles, &mut widths);
     let mut out = [0u8; 65536];
-    let head = put_head(&roles, &widths, wide(count), &mut out, 0);
+    let head = put_head(&roles, &widths, count as usize, &mut out, 0);
     if place < head {
         return declared(text, place);
     }
@@ -141,12 +140,12 @@ fn number_names(kinds: &[u8; 16385], numbers: &[u32; 16385], count: u16, table: 
 {
     let none = [0u8; 16385];
     let mut first = [0u32; 16385];
-    number(kinds, numbers, &none, wide(count), &mut first);
+    number(kinds, numbers, &none, count as usize, &mut first);
     let mut parts = [0u8; 65536];
     let mut roles = [0u8; 16385];
     let mut widths = [0u8; 16385];
     read(kinds, &first, count, &mut parts, &mut roles, &mut widths);
-    number(kinds, numbers, &roles, wide(count), table);
+    number(kinds, numbers, &roles, count as usize, table);
 }
 
 // The place in a text of the item that a byte of its sheet was written from.

@@ -3,7 +3,7 @@
 ghost use Rattle.std.specs.Prelude.{◌≡◌, ◌<◌, ◌≤◌};
 ghost use Rattle.verilog_origins.specs.Points.{part_of, mark_at, marks, bytes_with, name_byte, leaf_of, point_in, point_of};
 
-use crate::steps::{find_thread, find_wire, wide};
+use crate::steps::{find_thread, find_wire};
 use crate::{number_names, origin, place_at, short};
 use verilog_items::read;
 use verilog_names::put_head;
@@ -25,14 +25,6 @@ fn part_of(part: u8, token: u32) -> u32
     token / 128
 }
 
-// A token as a number.
-fn narrow(i: usize) -> u32
-    requires { i < 16385 }
-    ensures { result ≡ i }
-{
-    i as u32
-}
-
 // What a token's number becomes: that of a name (kind 64) a part of its token, any other what it is.
 fn mark_at(kinds: &[u8; 16385], table: &[u32; 16385], part: u8, i: usize) -> u32
     requires { i < 16385 }
@@ -41,17 +33,15 @@ fn mark_at(kinds: &[u8; 16385], table: &[u32; 16385], part: u8, i: usize) -> u32
     if kinds[i] != 64 {
         return table[i];
     }
-    part_of(part, narrow(i))
+    part_of(part, i as u32)
 }
 
 // All of them.
 fn mark(kinds: &[u8; 16385], table: &[u32; 16385], part: u8, out: &mut [u32; 16385])
     ensures { out.new ≡ marks kinds.now table.now part out.old }
 {
-    let mut i = 0;
-    while i < 16385 {
+    for i in 0..16385 {
         out[i] = mark_at(kinds, table, part, i);
-        i += 1;
     }
 }
 
@@ -71,7 +61,7 @@ fn write_with(
 {
     let mut marked = [0u32; 16385];
     mark(kinds, table, part, &mut marked);
-    let head = put_head(roles, widths, wide(count), out, 0);
+    let head = put_head(roles, widths, count as usize, out, 0);
     let h = find_wire(kinds, numbers, &marked, roles, count, out, head, 65536);
     find_thread(kinds, &marked, roles, count, out, h.pos, 65536);
 }
@@ -80,12 +70,10 @@ fn write_with(
 fn name_byte(zeros: &[u8; 65536], ones: &[u8; 65536], from: usize) -> usize
     ensures { (result ≡ name_byte zeros.now ones.now from) × (result ≤ 65536) }
 {
-    let mut i = from;
-    while i < 65536 {
+    for i in from..65536 {
         if zeros[i] != ones[i] {
             return i;
         }
-        i += 1;
     }
     65536
 }

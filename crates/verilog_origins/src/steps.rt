@@ -11,13 +11,6 @@ use verilog_exprs::Put;
 use verilog_names::target_of;
 use verilog_stmts::{after, left, statement, value};
 
-// A number as a place.
-pub(crate) fn wide(n: u16) -> usize
-    ensures { result ≡ n }
-{
-    n as usize
-}
-
 // A place to read from, and a position to write at.
 fn from(next: usize, pos: usize) -> Put
     ensures { result ≡ answer true next pos }
@@ -33,7 +26,7 @@ fn from(next: usize, pos: usize) -> Put
 pub(crate) fn capped(count: u16) -> usize
     ensures { result ≡ capped count }
 {
-    let n = wide(count);
+    let n = count as usize;
     if n < 16385 { n } else { 16385 }
 }
 
@@ -71,7 +64,7 @@ fn wire(
     if roles[i] != 3 {
         return pos;
     }
-    let t = target_of(numbers, roles, wide(count), numbers[i]);
+    let t = target_of(numbers, roles, count as usize, numbers[i]);
     value_behind(kinds, table, count, out, t, pos)
 }
 
@@ -91,15 +84,13 @@ pub(crate) fn find_wire(
 {
     let n = capped(count);
     let mut p = pos;
-    let mut i = 0;
-    while i < n {
+    for i in 0..n {
         p = wire(kinds, numbers, table, roles, count, out, i, p);
         if place < p {
             return Hit { token: i, pos: p };
         }
-        i += 1;
     }
-    Hit { token: i, pos: p }
+    Hit { token: n, pos: p }
 }
 
 // The statement behind the word `always`.
@@ -116,7 +107,7 @@ fn statement_behind(
 {
     let at = after(from(i, pos));
     let n = left(count, at.next);
-    let s = statement(kinds, table, count, out, at, wide(n));
+    let s = statement(kinds, table, count, out, at, n as usize);
     s.pos
 }
 
@@ -155,13 +146,11 @@ pub(crate) fn find_thread(
 {
     let n = capped(count);
     let mut p = pos;
-    let mut i = 0;
-    while i < n {
+    for i in 0..n {
         p = thread(kinds, table, roles, count, out, i, p);
         if place < p {
             return Hit { token: i, pos: p };
         }
-        i += 1;
     }
-    Hit { token: i, pos: p }
+    Hit { token: n, pos: p }
 }

@@ -37,10 +37,6 @@ module _ (n : ℕ) where
   unfolding short
   short-below h = rw (lt-ltb n 65536 h)
 
-  pub short-above : 65536 ≤ n → 65535 ≡ short n
-  unfolding short
-  short-above h = rw (le-ltb n 65536 h)
-
 -- ---- one token
 
 module _ (ks table : List ℕ) (count i pos : ℕ) (bs cs : List ℕ) where

@@ -26,13 +26,6 @@ pub(crate) fn refusal(number: u8, place: usize) -> TextRead
 
 // ---- writing
 
-// A count as a level.
-pub(crate) fn wide(n: u16) -> usize
-    ensures { result ≡ n }
-{
-    n as usize
-}
-
 // A place to read from, and a position to write at.
 fn from(next: usize, pos: usize) -> Put
     ensures { result ≡ answer true next pos }
@@ -48,7 +41,7 @@ fn from(next: usize, pos: usize) -> Put
 fn capped(count: u16) -> usize
     ensures { result ≡ capped count }
 {
-    let n = wide(count);
+    let n = count as usize;
     if n < 16385 { n } else { 16385 }
 }
 
@@ -86,7 +79,7 @@ fn wire(
     if roles[i] != 3 {
         return pos;
     }
-    let t = target_of(numbers, roles, wide(count), numbers[i]);
+    let t = target_of(numbers, roles, count as usize, numbers[i]);
     value_behind(kinds, table, count, out, t, pos)
 }
 
@@ -105,10 +98,8 @@ fn wires(
 {
     let n = capped(count);
     let mut p = pos;
-    let mut i = 0;
-    while i < n {
+    for i in 0..n {
         p = wire(kinds, numbers, table, roles, count, out, i, p);
-        i += 1;
     }
     p
 }
@@ -127,7 +118,7 @@ fn statement_behind(
 {
     let at = after(from(i, pos));
     let n = left(count, at.next);
-    let s = statement(kinds, table, count, out, at, wide(n));
+    let s = statement(kinds, table, count, out, at, n as usize);
     s.pos
 }
 
@@ -165,10 +156,8 @@ fn threads(
 {
     let n = capped(count);
     let mut p = pos;
-    let mut i = 0;
-    while i < n {
+    for i in 0..n {
         p = thread(kinds, table, roles, count, out, i, p);
-        i += 1;
     }
     p
 }
@@ -186,7 +175,7 @@ pub(crate) fn write(
     ensures { filled out.new result ≡ sheet_in kinds.now numbers.now table.now
         roles.now widths.now count out.old }
 {
-    let head = put_head(roles, widths, wide(count), out, 0);
+    let head = put_head(roles, widths, count as usize, out, 0);
     let body = wires(kinds, numbers, table, roles, count, out, head);
     threads(kinds, table, roles, count, out, body)
 }
@@ -204,10 +193,8 @@ pub(crate) fn roomed(n: usize) -> usize
 pub(crate) fn hold(bytes: &[u8; 65536], held: &mut [u8; 65536])
     ensures { held.new ≡ sets held.old 0 (padded bytes.now 65536 0) }
 {
-    let mut i = 0;
-    while i < 65536 {
+    for i in 0..65536 {
         held[i] = bytes[i];
-        i += 1;
     }
 }
 
@@ -215,20 +202,15 @@ pub(crate) fn hold(bytes: &[u8; 65536], held: &mut [u8; 65536])
 fn byte_at(sheet: &[u8], i: usize) -> u8
     ensures { result ≡ get_or sheet.now i 0 }
 {
-    if i < sheet.len() {
-        return sheet[i];
-    }
-    0
+    if i < sheet.len() { sheet[i] } else { 0 }
 }
 
 // A sheet into the lent bytes, zeros behind.
 fn copy(sheet: &[u8], lent: &mut [u8])
     ensures { lent.new ≡ copied sheet.now lent.old }
 {
-    let mut i = 0;
-    while i < lent.len() {
+    for i in 0..lent.len() {
         lent[i] = byte_at(sheet, i);
-        i += 1;
     }
 }
 

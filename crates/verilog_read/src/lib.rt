@@ -9,7 +9,7 @@ ghost use Rattle.verilog_source.specs.Compiled.{compiled};
 ghost use Rattle.verilog_exprs.specs.Rows.{row_at};
 ghost use Rattle.verilog_read.specs.Read.{gave, sheeted_in, named_in, derived_in, scanned_in, short};
 
-use bytes::{hold, judge, refusal, roomed, wide, write};
+use bytes::{hold, judge, refusal, roomed, write};
 use verilog_items::read;
 use verilog_names::{first_fault, number};
 use verilog_scan::scan;
@@ -19,20 +19,15 @@ use verilog_source::TextRead;
 fn place_at(places: &[u16; 16385], i: usize) -> usize
     ensures { result ≡ row_at places.now i }
 {
-    if i < 16385 {
-        return wide(places[i]);
-    }
-    0
+    if i < 16385 { places[i] as usize } else { 0 }
 }
 
 // The number of tokens, which is at most 16,384.
+#[tactic(auto, unfolding(crate::specs::Read::short))]
 fn short(n: usize) -> u16
     ensures { result ≡ short n }
 {
-    if n < 65536 {
-        return n as u16;
-    }
-    65535
+    n.min(65535) as u16
 }
 
 // The module read over these numbers, its sheet written and judged.
@@ -70,7 +65,7 @@ fn named(
     ensures { gave result lent.new ≡ named_in kinds.now numbers.now places.now count
         roles.now lent.old }
 {
-    let n = wide(count);
+    let n = count as usize;
     let fault = first_fault(kinds, numbers, places, roles, n);
     if fault.found {
         return refusal(43, fault.place);
@@ -93,7 +88,7 @@ fn derived(
 {
     let none = [0u8; 16385];
     let mut table = [0u32; 16385];
-    number(kinds, numbers, &none, wide(count), &mut table);
+    number(kinds, numbers, &none, count as usize, &mut table);
     let mut out = [0u8; 65536];
     let mut roles = [0u8; 16385];
     let mut widths = [0u8; 16385];

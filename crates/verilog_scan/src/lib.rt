@@ -28,10 +28,7 @@ fn more(names: usize, kind: u8) -> usize
     requires { names < 16385 }
     ensures { result ≡ pick (eqb kind 64) (names + 1) names }
 {
-    if kind == 64 {
-        return names + 1;
-    }
-    names
+    if kind == 64 { names + 1 } else { names }
 }
 
 // The tables of a text that they have room for, and the number of its tokens.
@@ -49,6 +46,7 @@ fn fill(
     let mut names = 0;
     let mut n = 0;
     let mut at = gap_end(text, 0);
+    // stays a while: a step is as long as the token and the gap behind it
     while at < text.len() {
         let t = token_at(text, at);
         kinds[n] = t.kind;

@@ -8,14 +8,12 @@ ghost use Rattle.verilog_scan.specs.Scan.{spelled_at, differs, names_at};
 use verilog_tokens::{Class, run_end, same};
 
 // Does a word begin with another byte than stands at a place?
+#[tactic(auto, unfolding(crate::specs::Scan::differs))]
 fn differs(text: &[u8], at: usize, word: &[u8]) -> bool
     requires { at < length text.now }
     ensures { result ≡ differs text.now at word.now }
 {
-    if word.len() == 0 {
-        return false;
-    }
-    text[at] != word[0]
+    !word.is_empty() && text[at] != word[0]
 }
 
 // Is the word at a place spelled so?
@@ -23,7 +21,7 @@ fn spelled_so(text: &[u8], at: usize, word: &[u8]) -> bool
     ensures { result ≡ same_text (spelled_at text.now at) word.now }
 {
     if text.len() <= at {
-        return word.len() == 0;
+        return word.is_empty();
     }
     if differs(text, at, word) {
         return false;
@@ -32,26 +30,17 @@ fn spelled_so(text: &[u8], at: usize, word: &[u8]) -> bool
     same(&text[at..end], word)
 }
 
-// An entry of the table as a place.
-fn place(x: u16) -> usize
-    ensures { result ≡ x }
-{
-    x as usize
-}
-
 // The first of so many places whose word is spelled so; their number where none is.
 fn first_spelled(text: &[u8], starts: &[u16; 16385], names: usize, word: &[u8]) -> usize
     requires { (names ≤ 16385) × (names ≤ length starts.now) }
     ensures { result ≡ place_of (names_at text.now (take names starts.now)) word.now }
 {
-    let mut i = 0;
-    while i < names {
-        if spelled_so(text, place(starts[i]), word) {
+    for i in 0..names {
+        if spelled_so(text, starts[i] as usize, word) {
             return i;
         }
-        i += 1;
     }
-    i
+    names
 }
 
 // The number of a token at a place: a name's among those before it, else the one that it has.

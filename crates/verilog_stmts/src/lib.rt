@@ -14,6 +14,7 @@ ghost use Rattle.verilog_stmts.specs.Events.{one_more, counted, term, event, eve
 
 use verilog_bytes::{put_front, put_pair, turn};
 use verilog_exprs::{Put, expect, expression, kind_at, number_at, put_constant, width_of};
+use verilog_tokens::Kind;
 use writing::put_byte;
 
 // A case's tests so far: its subject's token, the place of the last test, where its default begins and ends, and whether it has one.
@@ -35,30 +36,18 @@ fn low(w: u32) -> u8
     (w % 256) as u8
 }
 
-// A count as a place.
-fn wide(n: u16) -> usize
-    ensures { result ≡ n }
-{
-    n as usize
-}
-
 // How many tokens are left.
 pub fn left(count: u16, i: usize) -> u16
     ensures { result ≡ count - i }
 {
-    let n = wide(count);
-    if i < n { (n - i) as u16 } else { 0 }
+    (count as usize).saturating_sub(i) as u16
 }
 
 // Refused here.
 pub fn refused(at: Put) -> Put
     ensures { result ≡ refused at }
 {
-    Put {
-        ok: false,
-        next: at.next,
-        pos: at.pos,
-    }
+    Put { ok: false, ..at }
 }
 
 // Behind the token.
@@ -67,23 +56,17 @@ pub fn after(at: Put) -> Put
 {
     let i = at.next;
     if i < 16385 {
-        return Put {
-            ok: at.ok,
-            next: i + 1,
-            pos: at.pos,
-        };
+        return Put { next: i + 1, ..at };
     }
     at
 }
 
 // Whether a token of a kind is next.
+#[tactic(auto, unfolding(crate::specs::Steps::is_next))]
 pub fn is_next(kinds: &[u8; 16385], k: u8, at: Put) -> bool
     ensures { result ≡ is_next kinds.now k at }
 {
-    if !at.ok {
-        return false;
-    }
-    kind_at(kinds, at.next) == k
+    at.ok && kind_at(kinds, at.next) == k
 }
 
 // ---- bytes
@@ -93,11 +76,7 @@ fn write(b: u8, out: &mut [u8; 65536], at: Put) -> Put
     ensures { wrote result out.new ≡ write (b ∷ []) (wrote at out.old) }
 {
     let p = put_byte(b, out, at.pos);
-    Put {
-        ok: at.ok,
-        next: at.next,
-        pos: p,
-    }
+    Put { pos: p, ..at }
 }
 
 // Two bytes.
@@ -105,11 +84,7 @@ fn write_pair(a: u8, b: u8, out: &mut [u8; 65536], at: Put) -> Put
     ensures { wrote result out.new ≡ write (a ∷ b ∷ []) (wrote at out.old) }
 {
     let p = put_pair(a, b, out, at.pos);
-    Put {
-        ok: at.ok,
-        next: at.next,
-        pos: p,
-    }
+    Put { pos: p, ..at }
 }
 
 // A byte in front of all that stands from a place on.
@@ -117,11 +92,7 @@ fn front(b: u8, out: &mut [u8; 65536], from: usize, at: Put) -> Put
     ensures { wrote result out.new ≡ front b from (wrote at out.old) }
 {
     let p = put_front(b, out, from, at.pos);
-    Put {
-        ok: at.ok,
-        next: at.next,
-        pos: p,
-    }
+    Put { pos: p, ..at }
 }
 
 // A byte in place of another.
@@ -137,7 +108,7 @@ fn stamp(b: u8, out: &mut [u8; 65536], place: usize)
 fn named(kinds: &[u8; 16385], numbers: &[u32; 16385], out: &mut [u8; 65536], at: Put) -> Put
     ensures { wrote result out.new ≡ named kinds.now numbers.now (wrote at out.old) }
 {
-    if is_next(kinds, 64, at) {
+    if is_next(kinds, Kind::Name as u8, at) {
         let b = low(number_at(numbers, at.next));
         return write(b, out, after(at));
     }
@@ -178,10 +149,10 @@ fn term(
 fn event(kinds: &[u8; 16385], numbers: &[u32; 16385], out: &mut [u8; 65536], at: Put) -> Put
     ensures { wrote result out.new ≡ event kinds.now numbers.now (wrote at out.old) }
 {
-    if is_next(kinds, 17, at) {
+    if is_next(kinds, Kind::Posedge as u8, at) {
         return term(kinds, numbers, 1, out, after(at));
     }
-    if is_next(kinds, 18, at) {
+    if is_next(kinds, Kind::Negedge as u8, at) {
         return term(kinds, numbers, 2, out, after(at));
     }
     term(kinds, numbers, 0, out, at)
@@ -205,10 +176,10 @@ fn events(
     }
     let a = event(kinds, numbers, out, at);
     let m = one_more(n);
-    if is_next(kinds, 19, a) {
+    if is_next(kinds, Kind::Or as u8, a) {
         return events(kinds, numbers, out, after(a), from, m, fuel - 1);
     }
-    if is_next(kinds, 26, a) {
+    if is_next(kinds, Kind::Comma as u8, a) {
         return events(kinds, numbers, out, after(a), from, m, fuel - 1);
     }
     stamp(counted(m), out, from);
@@ -226,12 +197,12 @@ fn control(
     ensures { wrote result out.new ≡
         control kinds.now numbers.now count (wrote at out.old) }
 {
-    let a = write_pair(0x0C, 0x10, out, expect(kinds, at, 27));
+    let a = write_pair(0x0C, 0x10, out, expect(kinds, at, Kind::At as u8));
     let b = write(1, out, a);
-    if is_next(kinds, 20, b) {
+    if is_next(kinds, Kind::OpenParen as u8, b) {
         let c = after(b);
         let e = events(kinds, numbers, out, c, a.pos, 0, left(count, c.next));
-        return expect(kinds, e, 21);
+        return expect(kinds, e, Kind::CloseParen as u8);
     }
     term(kinds, numbers, 0, out, b)
 }
@@ -252,7 +223,7 @@ pub fn value(
         return at;
     }
     let i = at.next;
-    expression(kinds, numbers, out, i, 1, at.pos, wide(left(count, i)))
+    expression(kinds, numbers, out, i, 1, at.pos, left(count, i) as usize)
 }
 
 // `(`, an expression, `)`.
@@ -266,8 +237,14 @@ fn condition(
     ensures { wrote result out.new ≡
         condition_in kinds.now numbers.now count (wrote at out.old) }
 {
-    let e = value(kinds, numbers, count, out, expect(kinds, at, 20));
-    expect(kinds, e, 21)
+    let e = value(
+        kinds,
+        numbers,
+        count,
+        out,
+        expect(kinds, at, Kind::OpenParen as u8),
+    );
+    expect(kinds, e, Kind::CloseParen as u8)
 }
 
 // A case's subject, read at the buffer's end, where nothing is written.
@@ -281,22 +258,8 @@ fn subject(
     ensures { wrote result out.new ≡
         subject_in kinds.now numbers.now count (wrote at out.old) }
 {
-    let e = condition(
-        kinds,
-        numbers,
-        count,
-        out,
-        Put {
-            ok: at.ok,
-            next: at.next,
-            pos: 65536,
-        },
-    );
-    Put {
-        ok: e.ok,
-        next: e.next,
-        pos: at.pos,
-    }
+    let e = condition(kinds, numbers, count, out, Put { pos: 65536, ..at });
+    Put { pos: at.pos, ..e }
 }
 
 // An expression and `;`.
@@ -311,7 +274,7 @@ fn closed(
         closed_in kinds.now numbers.now count (wrote at out.old) }
 {
     let e = value(kinds, numbers, count, out, at);
-    expect(kinds, e, 25)
+    expect(kinds, e, Kind::Semicolon as u8)
 }
 
 // `v = e;` or `v <= e;`.
@@ -327,11 +290,17 @@ fn assignment(
 {
     let a = write(0x03, out, at);
     let n = named(kinds, numbers, out, a);
-    if is_next(kinds, 28, n) {
+    if is_next(kinds, Kind::Equal as u8, n) {
         return closed(kinds, numbers, count, out, after(n));
     }
     stamp(0x23, out, at.pos);
-    closed(kinds, numbers, count, out, expect(kinds, n, 30))
+    closed(
+        kinds,
+        numbers,
+        count,
+        out,
+        expect(kinds, n, Kind::LessEqual as u8),
+    )
 }
 
 // ---- a case's tests
@@ -347,15 +316,11 @@ fn label_value(
     ensures { wrote result out.new ≡
         label_value kinds.now numbers.now width (wrote at out.old) }
 {
-    if is_next(kinds, 67, at) {
+    if is_next(kinds, Kind::Known as u8, at) {
         let a = after(at);
         let v = number_at(numbers, at.next);
         let p = put_constant(width, v, out, a.pos);
-        return Put {
-            ok: a.ok,
-            next: a.next,
-            pos: p,
-        };
+        return Put { pos: p, ..a };
     }
     refused(at)
 }
@@ -364,7 +329,7 @@ fn label_value(
 fn label(kinds: &[u8; 16385], numbers: &[u32; 16385], out: &mut [u8; 65536], at: Put) -> Put
     ensures { wrote result out.new ≡ label_at kinds.now numbers.now (wrote at out.old) }
 {
-    if is_next(kinds, 65, at) {
+    if is_next(kinds, Kind::Number as u8, at) {
         let w = width_of(number_at(numbers, at.next));
         return label_value(kinds, numbers, out, w, after(at));
     }
@@ -385,22 +350,8 @@ fn heading(
 {
     let a = write(0x0E, out, at);
     let b = write_pair(0x31, 0x08, out, a);
-    let e = value(
-        kinds,
-        numbers,
-        count,
-        out,
-        Put {
-            ok: b.ok,
-            next: subject,
-            pos: b.pos,
-        },
-    );
-    Put {
-        ok: e.ok,
-        next: at.next,
-        pos: e.pos,
-    }
+    let e = value(kinds, numbers, count, out, Put { next: subject, ..b });
+    Put { next: at.next, ..e }
 }
 
 // `endcase`: the default's bytes come last; without one the last test is an if.
@@ -431,7 +382,7 @@ fn or_null(
     ensures { wrote result out.new ≡
         or_null_in kinds.now numbers.now count fuel (wrote at out.old) }
 {
-    if is_next(kinds, 25, at) {
+    if is_next(kinds, Kind::Semicolon as u8, at) {
         return write(0x00, out, after(at));
     }
     statement(kinds, numbers, count, out, at, fuel)
@@ -453,7 +404,7 @@ fn conditional(
     let a = write(0x06, out, after(at));
     let c = condition(kinds, numbers, count, out, a);
     let b = or_null(kinds, numbers, count, out, c, fuel);
-    if is_next(kinds, 11, b) {
+    if is_next(kinds, Kind::Else as u8, b) {
         stamp(0x0E, out, at.pos);
         return or_null(kinds, numbers, count, out, after(b), fuel);
     }
@@ -481,7 +432,7 @@ fn block_rest(
     if !at.ok {
         return at;
     }
-    if is_next(kinds, 9, at) {
+    if is_next(kinds, Kind::End as u8, at) {
         return after(at);
     }
     let a = front(0x0C, out, from, at);
@@ -506,7 +457,7 @@ fn block(
     if turns == 0 {
         return refused(at);
     }
-    if is_next(kinds, 9, at) {
+    if is_next(kinds, Kind::End as u8, at) {
         return write(0x00, out, after(at));
     }
     let b = statement(kinds, numbers, count, out, at, fuel);
@@ -527,7 +478,7 @@ fn defaulted(
         defaulted_in kinds.now numbers.now count fuel (wrote at out.old) }
 {
     let a = after(at);
-    if is_next(kinds, 24, a) {
+    if is_next(kinds, Kind::Colon as u8, a) {
         return or_null(kinds, numbers, count, out, after(a), fuel);
     }
     or_null(kinds, numbers, count, out, a, fuel)
@@ -549,7 +500,7 @@ fn labelled(
 {
     let a = heading(kinds, numbers, count, out, at, subject);
     let l = label(kinds, numbers, out, a);
-    let b = expect(kinds, l, 24);
+    let b = expect(kinds, l, Kind::Colon as u8);
     or_null(kinds, numbers, count, out, b, fuel)
 }
 
@@ -568,7 +519,7 @@ fn items_behind(
     ensures { wrote result out.new ≡
         items_behind_in kinds.now numbers.now count fuel turns c (wrote at out.old) }
 {
-    if is_next(kinds, 13, at) {
+    if is_next(kinds, Kind::Endcase as u8, at) {
         return case_end(out, at, c);
     }
     case_items(kinds, numbers, count, out, at, c, fuel, turns)
@@ -595,28 +546,21 @@ fn case_items(
     if !at.ok {
         return at;
     }
-    if is_next(kinds, 14, at) {
+    if is_next(kinds, Kind::Default as u8, at) {
         if c.closed {
             return refused(at);
         }
         let d = defaulted(kinds, numbers, count, out, at, fuel);
         let e = Case {
-            subject: c.subject,
-            last: c.last,
             from: at.pos,
             mid: d.pos,
             closed: true,
+            ..c
         };
         return items_behind(kinds, numbers, count, out, d, e, fuel, turns - 1);
     }
     let l = labelled(kinds, numbers, count, out, at, c.subject, fuel);
-    let e = Case {
-        subject: c.subject,
-        last: at.pos,
-        from: c.from,
-        mid: c.mid,
-        closed: c.closed,
-    };
+    let e = Case { last: at.pos, ..c };
     items_behind(kinds, numbers, count, out, l, e, fuel, turns - 1)
 }
 
@@ -646,6 +590,18 @@ fn case_statement(
     case_items(kinds, numbers, count, out, c, o, fuel, left(count, c.next))
 }
 
+const BEGIN: u8 = Kind::Begin as u8;
+
+const IF: u8 = Kind::If as u8;
+
+const CASE: u8 = Kind::Case as u8;
+
+const WHILE: u8 = Kind::While as u8;
+
+const FOREVER: u8 = Kind::Forever as u8;
+
+const AT: u8 = Kind::At as u8;
+
 // A statement, with so many levels left.
 #[cycle(block_block_rest_case_items_case_statement_conditional_defaulted_items_behind_labelled_or_null_statement)]
 pub fn statement(
@@ -667,22 +623,22 @@ pub fn statement(
     }
     let i = at.next;
     match kind_at(kinds, i) {
-        10 => conditional(kinds, numbers, count, out, at, fuel - 1),
-        12 => case_statement(kinds, numbers, count, out, at, fuel - 1),
-        15 => {
+        IF => conditional(kinds, numbers, count, out, at, fuel - 1),
+        CASE => case_statement(kinds, numbers, count, out, at, fuel - 1),
+        WHILE => {
             let a = write(0x46, out, after(at));
             let c = condition(kinds, numbers, count, out, a);
             statement(kinds, numbers, count, out, c, fuel - 1)
         }
-        16 => {
+        FOREVER => {
             let a = write(0x44, out, after(at));
             statement(kinds, numbers, count, out, a, fuel - 1)
         }
-        27 => {
+        AT => {
             let c = control(kinds, numbers, count, out, at);
             or_null(kinds, numbers, count, out, c, fuel - 1)
         }
-        8 => block(kinds, numbers, count, out, after(at), fuel - 1),
+        BEGIN => block(kinds, numbers, count, out, after(at), fuel - 1),
         _ => assignment(kinds, numbers, count, out, at),
     }
 }

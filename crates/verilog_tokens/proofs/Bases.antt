@@ -18,14 +18,6 @@ use Rattle.verilog_tokens.specs.Table.{kind_of, number_in}
 use Rattle.verilog_tokens.specs.Pieces.{piece, piece_of, piece_in, radix_in, digits_by}
 use Rattle.verilog_tokens.proofs.Runs.{span-few}
 
--- ---- the letter of a base
-
-pub radix-none : (b : ℕ) → (b ≡ 98 → ⊥) → (b ≡ 66 → ⊥) → (b ≡ 111 → ⊥) → (b ≡ 79 → ⊥) → (b ≡ 100 → ⊥) → (b ≡ 68 → ⊥) → (b ≡ 104 → ⊥) →
-    (b ≡ 72 → ⊥) → 0 ≡ radix_in (base_of b)
-unfolding radix_in base_of
-radix-none b h1 h2 h3 h4 h5 h6 h7 h8 =
-    rw (ne_eqb b 98 h1, ne_eqb b 66 h2, ne_eqb b 111 h3, ne_eqb b 79 h4, ne_eqb b 100 h5, ne_eqb b 68 h6, ne_eqb b 104 h7, ne_eqb b 72 h8)
-
 -- ---- where the digits end
 
 module _ (text : List ℕ) (at : ℕ) where
@@ -40,24 +32,6 @@ module _ (text : List ℕ) (at : ℕ) where
   pub decimal-digits : at < length text → is_x (get_or text at 0) ≡ false → run_end Decimal text at ≡ at + decimal_digits (drop at text)
   unfolding decimal_digits run_end
   decimal-digits l e = rw (drop-cons text at 0 l, e)
-
-  module _ (radix : ℕ) where
-    pub digits-binary : radix ≡ 2 → run_end Binary text at ≡ at + digits_by radix (drop at text)
-    unfolding digits_by run_end
-    digits-binary e = rw e
-
-    pub digits-octal : radix ≡ 8 → run_end Octal text at ≡ at + digits_by radix (drop at text)
-    unfolding digits_by run_end
-    digits-octal e = rw e
-
-    pub digits_decimal : radix ≡ 10 → at + decimal_digits (drop at text) ≡ at + digits_by radix (drop at text)
-    unfolding digits_by
-    digits_decimal e = rw e
-
-    pub digits-hexadecimal : (radix ≡ 2 → ⊥) → (radix ≡ 8 → ⊥) → (radix ≡ 10 → ⊥) →
-        run_end Hexadecimal text at ≡ at + digits_by radix (drop at text)
-    unfolding digits_by run_end
-    digits-hexadecimal h k m = rw (ne_eqb radix 2 h, ne_eqb radix 8 k, ne_eqb radix 10 m)
 
 decimal-few : (s : List ℕ) → decimal_digits s ≤ length s
 unfolding decimal_digits

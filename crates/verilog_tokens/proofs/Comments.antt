@@ -84,9 +84,6 @@ module _ (text : List ℕ) (i : ℕ) where
   pub closed-star : get_or text i 0 ≡ 42 → is_slash (drop (i + 1) text) ≡ closed
   closed-star e = rw e
 
-  pub closed-other : (get_or text i 0 ≡ 42 → ⊥) → false ≡ closed
-  closed-other h = rw (ne_eqb (get_or text i 0) 42 h)
-
   pub closed-inside : closed ≡ true → i + 1 < length text
   closed-inside e = slash-inside text (i + 1) (and_second (eqb (get_or text i 0) 42) (is_slash (drop (i + 1) text)) e)
 

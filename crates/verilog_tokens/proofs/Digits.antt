@@ -1,4 +1,4 @@
--- Laws of numerals: cut on the way or at the end, a number is the same; each row of what is asked of digits. Assumes nothing.
+-- Laws of numerals: cut on the way or at the end, a number is the same; what is asked of all digits. Assumes nothing.
 use mathlib.Core.Path.{◌≡◌, refl, sym, ap, ◌∙◌}
 use mathlib.Core.Bool.{Bool, true, false}
 use mathlib.Core.List.{List, [], ◌∷◌}
@@ -88,23 +88,6 @@ pub up_start : (digits : List ℕ) → (up_to255 0 ≡ 0) × (up_to255 (numeral_
 unfolding up_to255 numeral
 up_start digits = (refl, refl)
 
-module _ (n b : ℕ) where
-  pub grown-none : n < 256 → b ≡ 95 → n ≡ up_to255 (with_digit 10 n b)
-  unfolding up_to255 with_digit is_underscore
-  grown-none h e = rw (eq-eqb b 95 e) (by (ltb n 255) refl)
-    where
-      by : (t : Bool) → ltb n 255 ≡ t → n ≡ pick t n 255
-      by true q = refl
-      by false q = omega (arith, ltb-false n 255 q)
-
-  pub grown-less : (m : ℕ) → (b ≡ 95 → ⊥) → m ≡ n * 10 + digit_of b → m < 255 → m ≡ up_to255 (with_digit 10 n b)
-  unfolding up_to255 with_digit is_underscore
-  grown-less m h e l = rw (ne_eqb b 95 h, ← e, lt-ltb m 255 l)
-
-  pub grown-full : (m : ℕ) → (b ≡ 95 → ⊥) → m ≡ n * 10 + digit_of b → 255 ≤ m → 255 ≡ up_to255 (with_digit 10 n b)
-  unfolding up_to255 with_digit is_underscore
-  grown-full m h e l = rw (ne_eqb b 95 h, ← e, le-ltb m 255 l)
-
 -- ---- cut to 32 bits
 
 abbrev pub cut32 : ℕ → ℕ
@@ -147,52 +130,6 @@ product-few n r h k =
     let a : n ≤ 4294967296 = omega arith in
     let b : r ≤ 256 = omega arith in
     mul-le-mul a b
-
--- ---- number_token
-
-module _ (digits : List ℕ) where
-  pub number-empty : length digits ≡ 0 → 65 ≡ kind_of (number_token digits)
-  unfolding kind_of number_token opens_zero
-  number-empty e = by digits e
-    where
-      by : (s : List ℕ) → length s ≡ 0 → 65 ≡ kind_of (number_token s)
-      by [] e = refl
-      by (b ∷ s) e = absurd (omega arith)
-
-  pub number-zero : (length digits ≡ 0 → ⊥) → get_or digits 0 0 ≡ 48 → 66 ≡ kind_of (number_token digits)
-  unfolding kind_of number_token opens_zero
-  number-zero h e = by digits h e
-    where
-      by : (s : List ℕ) → (length s ≡ 0 → ⊥) → get_or s 0 0 ≡ 48 → 66 ≡ kind_of (number_token s)
-      by [] h e = absurd (h refl)
-      by (b ∷ s) h e = rw e
-
-  pub number-other : (length digits ≡ 0 → ⊥) → (get_or digits 0 0 ≡ 48 → ⊥) → 65 ≡ kind_of (number_token digits)
-  unfolding kind_of number_token opens_zero
-  number-other h e = by digits h e
-    where
-      by : (s : List ℕ) → (length s ≡ 0 → ⊥) → (get_or s 0 0 ≡ 48 → ⊥) → 65 ≡ kind_of (number_token s)
-      by [] h e = absurd (h refl)
-      by (b ∷ s) h e = rw (ne_eqb b 48 e)
-
--- ---- is_known, is_unknown
-
-module _ (b : ℕ) where
-  pub known-underscore : (radix : ℕ) → b ≡ 95 → true ≡ is_known radix b
-  unfolding is_known is_underscore
-  known-underscore radix e = rw (eq-eqb b 95 e)
-
-  pub known-digit : (radix : ℕ) → (b ≡ 95 → ⊥) → is_below radix b ≡ is_known radix b
-  unfolding is_known is_underscore
-  known-digit radix h = rw (ne_eqb b 95 h)
-
-  pub unknown-underscore : b ≡ 95 → true ≡ is_unknown b
-  unfolding is_unknown is_underscore
-  unknown-underscore e = rw (eq-eqb b 95 e)
-
-  pub unknown-x : (b ≡ 95 → ⊥) → is_x b ≡ is_unknown b
-  unfolding is_unknown is_underscore
-  unknown-x h = rw (ne_eqb b 95 h)
 
 -- ---- every
 

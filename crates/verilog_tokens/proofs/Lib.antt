@@ -1,3 +1,4 @@
+pub mod Lengths
 pub mod Runs
 pub mod Comments
 pub mod Tables

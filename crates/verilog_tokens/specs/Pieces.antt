@@ -1,5 +1,5 @@
 -- What the code says of the token at a place: its kind, its number and its length.
-use Rattle.std.specs.Prelude.{List, [], ◌∷◌, ℕ, drop}
+use Rattle.std.specs.Prelude.{List, [], ◌∷◌, ℕ, zero, suc, drop, Option, Some, None}
 use Rattle.values.specs.Values.{◌is◌then◌else◌}
 use Rattle.verilog_tokens.specs.declared.Piece.{Piece}
 use Rattle.verilog_tokens.specs.declared.Class.TheVariants.{Binary, Octal, Hexadecimal}
@@ -27,6 +27,11 @@ piece_from p (b ∷ s) = piece_in (token_by (opening b) p b s)
 
 unfoldable pub piece_at : List ℕ → ℕ → Piece
 piece_at text p = piece_from p (drop p text)
+
+-- A length that is none where it is 0.
+abbrev pub some_length : ℕ → Option ℕ
+some_length zero = None
+some_length (suc n) = Some (suc n)
 
 -- ---- a base by its radix, 0 for none; the digits of a radix
 

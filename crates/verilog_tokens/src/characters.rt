@@ -6,51 +6,31 @@ ghost use Rattle.verilog_tokens.specs.Characters.{run_end};
 use crate::Class;
 
 // Is it LF or CR?
+#[tactic(auto, unfolding(crate::specs::Characters::is_newline))]
 pub fn is_newline(b: u8) -> bool
     ensures { result ≡ is_newline b }
 {
-    if b == 10 {
-        return true;
-    }
-    b == 13
+    matches!(b, b'\n' | b'\r')
 }
 
 // Is it white space?
+#[tactic(auto, unfolding(crate::specs::Characters::is_space))]
 fn is_space(b: u8) -> bool
     ensures { result ≡ is_space b }
 {
-    if b == 32 {
-        return true;
-    }
-    if b == 9 {
-        return true;
-    }
-    if b == 12 {
-        return true;
-    }
-    is_newline(b)
+    matches!(b, b' ' | b'\t' | 12) || is_newline(b)
 }
 
 // Is it a letter or `_`?
+#[tactic(auto, unfolding(crate::specs::Characters::is_letter))]
 pub fn is_letter(b: u8) -> bool
     ensures { result ≡ is_letter b }
 {
-    if b < 65 {
-        return false;
-    }
-    if b < 91 {
-        return true;
-    }
-    if b == 95 {
-        return true;
-    }
-    if b < 97 {
-        return false;
-    }
-    b < 123
+    matches!(b, b'A'..=b'Z' | b'_' | b'a'..=b'z')
 }
 
 // Is it a digit below a radix?
+#[tactic(auto, unfolding(crate::specs::Characters::is_below))]
 pub fn is_below(radix: u8, b: u8) -> bool
     ensures { result ≡ is_below radix b }
 {
@@ -58,68 +38,47 @@ pub fn is_below(radix: u8, b: u8) -> bool
 }
 
 // Is it x or X?
+#[tactic(auto, unfolding(crate::specs::Characters::is_x))]
 pub fn is_x(b: u8) -> bool
     ensures { result ≡ is_x b }
 {
-    if b == 120 {
-        return true;
-    }
-    b == 88
+    matches!(b, b'x' | b'X')
 }
 
 // Is it z, Z or `?`?
+#[tactic(auto, unfolding(crate::specs::Characters::is_z))]
 fn is_z(b: u8) -> bool
     ensures { result ≡ is_z b }
 {
-    if b == 122 {
-        return true;
-    }
-    if b == 90 {
-        return true;
-    }
-    b == 63
+    matches!(b, b'z' | b'Z' | b'?')
 }
 
 // Is it what may stand among the digits of a radix?
+#[tactic(auto, unfolding(crate::specs::Characters::is_digit, crate::specs::Characters::is_underscore))]
 fn is_digit(radix: u8, b: u8) -> bool
     ensures { result ≡ is_digit radix b }
 {
-    if is_below(radix, b) {
-        return true;
-    }
-    if is_x(b) {
-        return true;
-    }
-    if is_z(b) {
-        return true;
-    }
-    b == 95
+    is_below(radix, b) || is_x(b) || is_z(b) || b == b'_'
 }
 
 // Is it what a word goes on with: a letter, a digit, `_` or `$`?
+#[tactic(auto, unfolding(crate::specs::Characters::is_named))]
 fn is_named(b: u8) -> bool
     ensures { result ≡ is_named b }
 {
-    if is_letter(b) {
-        return true;
-    }
-    if is_below(10, b) {
-        return true;
-    }
-    b == 36
+    is_letter(b) || is_below(10, b) || b == b'$'
 }
 
 // Is it what a one-line comment holds: ASCII, but no line end?
+#[tactic(auto, unfolding(crate::specs::Characters::is_text))]
 fn is_text(b: u8) -> bool
     ensures { result ≡ is_text b }
 {
-    if 128 <= b {
-        return false;
-    }
-    !is_newline(b)
+    b < 128 && !is_newline(b)
 }
 
 // Is the character of that kind?
+#[tactic(auto, unfolding(crate::specs::Characters::in_class, crate::specs::Characters::is_underscore))]
 fn in_class(class: Class, b: u8) -> bool
     ensures { result ≡ in_class class b }
 {
@@ -127,16 +86,11 @@ fn in_class(class: Class, b: u8) -> bool
         Class::Space => is_space(b),
         Class::Word => is_named(b),
         Class::Comment => is_text(b),
-        Class::Decimal => {
-            if b == 95 {
-                return true;
-            }
-            is_below(10, b)
-        }
+        Class::Decimal => b == b'_' || is_below(10, b),
         Class::Binary => is_digit(2, b),
         Class::Octal => is_digit(8, b),
         Class::Hexadecimal => is_digit(16, b),
-        Class::Underscore => b == 95,
+        Class::Underscore => b == b'_',
     }
 }
 
@@ -144,12 +98,10 @@ fn in_class(class: Class, b: u8) -> bool
 pub fn run_end(text: &[u8], at: usize, class: Class) -> usize
     ensures { result ≡ run_end class text.now at }
 {
-    let mut i = at;
-    while i < text.len() {
+    for i in at..text.len() {
         if !in_class(class, text[i]) {
             return i;
         }
-        i += 1;
     }
-    i
+    at.max(text.len())
 }

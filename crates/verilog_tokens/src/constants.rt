@@ -1,27 +1,24 @@
 // Constants: values behind a base.
 ghost use Rattle.std.specs.Prelude.{◌≡◌, ◌+◌, ◌≤◌, drop};
 ghost use Rattle.verilog_tokens.specs.Characters.{every};
-ghost use Rattle.verilog_tokens.specs.Tokens.{base_of, is_known, is_unknown, value_token, decimal_digits, based};
-ghost use Rattle.verilog_tokens.specs.Pieces.{piece_of, piece_in, radix_in, digits_by};
+ghost use Rattle.verilog_tokens.specs.Tokens.{broken, base_of, is_known, is_unknown, value_token, decimal_digits, based};
+ghost use Rattle.verilog_tokens.specs.Pieces.{piece_of, piece_in, radix_in, digits_by, some_length};
 
 use crate::characters::{is_below, is_x, run_end};
 use crate::numbers::number_in;
-use crate::{Class, Piece};
+use crate::{Class, Kind, Piece};
 
-// The radix of a base's letter; 0 for none.
-fn radix_of(b: u8) -> u8
-    ensures { result ≡ radix_in (base_of b) }
+// The radix of a base's letter.
+#[tactic(auto, unfolding(crate::specs::Pieces::radix_in, crate::specs::Tokens::radix_of, crate::specs::Tokens::base_of))]
+fn radix_of(b: u8) -> Option<u8>
+    ensures { result ≡ some_length (radix_in (base_of b)) }
 {
     match b {
-        b'b' => 2,
-        b'B' => 2,
-        b'o' => 8,
-        b'O' => 8,
-        b'd' => 10,
-        b'D' => 10,
-        b'h' => 16,
-        b'H' => 16,
-        _ => 0,
+        b'b' | b'B' => Some(2),
+        b'o' | b'O' => Some(8),
+        b'd' | b'D' => Some(10),
+        b'h' | b'H' => Some(16),
+        _ => None,
     }
 }
 
@@ -39,51 +36,42 @@ fn decimal_end(text: &[u8], at: usize) -> usize
 }
 
 // Where the digits of a radix at a place end.
+#[tactic(auto, unfolding(crate::specs::Pieces::digits_by, crate::specs::Characters::run_end))]
 fn digits_end(radix: u8, text: &[u8], at: usize) -> usize
     ensures { result ≡ at + digits_by radix (drop at text.now) }
 {
-    if radix == 2 {
-        return run_end(text, at, Class::Binary);
+    match radix {
+        2 => run_end(text, at, Class::Binary),
+        8 => run_end(text, at, Class::Octal),
+        10 => decimal_end(text, at),
+        _ => run_end(text, at, Class::Hexadecimal),
     }
-    if radix == 8 {
-        return run_end(text, at, Class::Octal);
-    }
-    if radix == 10 {
-        return decimal_end(text, at);
-    }
-    run_end(text, at, Class::Hexadecimal)
 }
 
 // Is it a digit below a radix, or `_`?
+#[tactic(auto, unfolding(crate::specs::Tokens::is_known, crate::specs::Characters::is_underscore))]
 fn is_known(radix: u8, b: u8) -> bool
     ensures { result ≡ is_known radix b }
 {
-    if b == 95 {
-        return true;
-    }
-    is_below(radix, b)
+    b == b'_' || is_below(radix, b)
 }
 
 // Is it x, X or `_`?
+#[tactic(auto, unfolding(crate::specs::Tokens::is_unknown, crate::specs::Characters::is_underscore))]
 fn is_unknown(b: u8) -> bool
     ensures { result ≡ is_unknown b }
 {
-    if b == 95 {
-        return true;
-    }
-    is_x(b)
+    b == b'_' || is_x(b)
 }
 
 // Are all digits numbers?
 fn all_known(radix: u8, digits: &[u8]) -> bool
     ensures { result ≡ every (is_known radix) digits.now }
 {
-    let mut i = 0;
-    while i < digits.len() {
-        if !is_known(radix, digits[i]) {
+    for &b in digits {
+        if !is_known(radix, b) {
             return false;
         }
-        i += 1;
     }
     true
 }
@@ -92,14 +80,24 @@ fn all_known(radix: u8, digits: &[u8]) -> bool
 fn all_unknown(digits: &[u8]) -> bool
     ensures { result ≡ every is_unknown digits.now }
 {
-    let mut i = 0;
-    while i < digits.len() {
-        if !is_unknown(digits[i]) {
+    for &b in digits {
+        if !is_unknown(b) {
             return false;
         }
-        i += 1;
     }
     true
+}
+
+// A token of that length that stands in no production.
+#[tactic(auto, unfolding(crate::specs::Pieces::piece_of, crate::specs::Table::kind_of, crate::specs::Table::number_in))]
+fn broken(size: usize) -> Piece
+    ensures { result ≡ piece_of broken size }
+{
+    Piece {
+        kind: Kind::Broken as u8,
+        number: 0,
+        size,
+    }
 }
 
 // The value of digits in a radix, in a token of that length.
@@ -107,39 +105,27 @@ fn value_of(radix: u8, digits: &[u8], size: usize) -> Piece
     ensures { result ≡ piece_of (value_token radix digits.now) size }
 {
     if digits.len() == 0 {
-        return Piece {
-            kind: 69,
-            number: 0,
-            size,
-        };
+        return broken(size);
     }
-    if digits[0] == 95 {
-        return Piece {
-            kind: 69,
-            number: 0,
-            size,
-        };
+    if digits[0] == b'_' {
+        return broken(size);
     }
     if all_known(radix, digits) {
         let number = number_in(radix, digits);
         return Piece {
-            kind: 67,
+            kind: Kind::Known as u8,
             number,
             size,
         };
     }
     if all_unknown(digits) {
         return Piece {
-            kind: 68,
+            kind: Kind::Unknown as u8,
             number: 0,
             size,
         };
     }
-    Piece {
-        kind: 69,
-        number: 0,
-        size,
-    }
+    broken(size)
 }
 
 // The value whose `'` stands in front of the place.
@@ -148,21 +134,14 @@ pub fn based(text: &[u8], at: usize) -> Piece
     ensures { result ≡ piece_in (based (drop at text.now)) }
 {
     if text.len() <= at {
-        return Piece {
-            kind: 69,
-            number: 0,
-            size: 1,
-        };
+        return broken(1);
     }
-    let radix = radix_of(text[at]);
-    if radix == 0 {
-        return Piece {
-            kind: 69,
-            number: 0,
-            size: 1,
-        };
+    match radix_of(text[at]) {
+        Some(radix) => {
+            let from = run_end(text, at + 1, Class::Space);
+            let end = digits_end(radix, text, from);
+            value_of(radix, &text[from..end], end - at + 1)
+        }
+        None => broken(1),
     }
-    let from = run_end(text, at + 1, Class::Space);
-    let end = digits_end(radix, text, from);
-    value_of(radix, &text[from..end], end - at + 1)
 }

@@ -1,6 +1,7 @@
 // Comments and gaps at a place of a text.
 ghost use Rattle.std.specs.Prelude.{◌≡◌, ◌&&◌, ◌+◌, ◌≤◌, eqb, length, get_or, drop};
 ghost use Rattle.verilog_tokens.specs.Tokens.{is_slash, closing, line_comment, block_comment, comment, blank, gap};
+ghost use Rattle.verilog_tokens.specs.Pieces.{some_length};
 
 use crate::Class;
 use crate::characters::{is_newline, run_end};
@@ -9,10 +10,7 @@ use crate::characters::{is_newline, run_end};
 fn is_slash(text: &[u8], at: usize) -> bool
     ensures { result ≡ is_slash (drop at text.now) }
 {
-    if at < text.len() {
-        return text[at] == 47;
-    }
-    false
+    at < text.len() && text[at] == b'/'
 }
 
 // Is there a `*/`?
@@ -22,85 +20,79 @@ fn closes(text: &[u8], at: usize) -> bool
     if text.len() <= at {
         return false;
     }
-    if text[at] == 42 {
-        return is_slash(text, at + 1);
-    }
-    false
+    text[at] == b'*' && is_slash(text, at + 1)
 }
 
-// How far off the first `*/` ends, with nothing but ASCII before it; 0 where none does.
-fn closing(text: &[u8], at: usize) -> usize
-    ensures { result ≡ closing (drop at text.now) }
+// How far off the first `*/` ends, with nothing but ASCII before it.
+fn closing(text: &[u8], at: usize) -> Option<usize>
+    ensures { result ≡ some_length (closing (drop at text.now)) }
 {
-    let mut i = at;
-    while i < text.len() {
+    for i in at..text.len() {
         if closes(text, i) {
-            return i - at + 2;
+            return Some(i - at + 2);
         }
         if 128 <= text[i] {
-            return 0;
+            return None;
         }
-        i += 1;
     }
-    0
+    None
 }
 
-// The length of the comment whose `//` stands in front of the place; 0 for none.
-fn line_comment(text: &[u8], at: usize) -> usize
+// The length of the comment whose `//` stands in front of the place.
+fn line_comment(text: &[u8], at: usize) -> Option<usize>
     requires { (2 ≤ at) × (at ≤ length text.now) }
-    ensures { result ≡ line_comment (drop at text.now) }
+    ensures { result ≡ some_length (line_comment (drop at text.now)) }
 {
     let end = run_end(text, at, Class::Comment);
     if text.len() <= end {
-        return end - at + 2;
+        return Some(end - at + 2);
     }
     if is_newline(text[end]) {
-        return end - at + 2;
+        return Some(end - at + 2);
     }
-    0
+    None
 }
 
-// The length of the comment whose `/*` stands in front of the place; 0 for none.
-fn block_comment(text: &[u8], at: usize) -> usize
+// The length of the comment whose `/*` stands in front of the place.
+fn block_comment(text: &[u8], at: usize) -> Option<usize>
     requires { (2 ≤ at) × (at ≤ length text.now) }
-    ensures { result ≡ block_comment (drop at text.now) }
+    ensures { result ≡ some_length (block_comment (drop at text.now)) }
 {
-    let n = closing(text, at);
-    if n == 0 {
-        return 0;
+    match closing(text, at) {
+        Some(n) => Some(n + 2),
+        None => None,
     }
-    n + 2
 }
 
-// The length of the comment at a place; 0 for none.
-fn comment(text: &[u8], at: usize) -> usize
-    ensures { result ≡ comment (drop at text.now) }
+// The length of the comment at a place.
+fn comment(text: &[u8], at: usize) -> Option<usize>
+    ensures { result ≡ some_length (comment (drop at text.now)) }
 {
     if text.len() <= at {
-        return 0;
+        return None;
     }
     if text.len() - at < 2 {
-        return 0;
+        return None;
     }
-    if text[at] != 47 {
-        return 0;
+    if text[at] != b'/' {
+        return None;
     }
-    if text[at + 1] == 47 {
+    if text[at + 1] == b'/' {
         return line_comment(text, at + 2);
     }
-    if text[at + 1] == 42 {
+    if text[at + 1] == b'*' {
         return block_comment(text, at + 2);
     }
-    0
+    None
 }
 
-// The length of the white space or else of the comment at a place; 0 for none.
-fn blank(text: &[u8], at: usize) -> usize
-    ensures { result ≡ blank (drop at text.now) }
+// The length of the white space or else of the comment at a place.
+fn blank(text: &[u8], at: usize) -> Option<usize>
+    ensures { result ≡ some_length (blank (drop at text.now)) }
 {
     let n = run_end(text, at, Class::Space) - at;
     if 0 < n {
-        return n;
+        return Some(n);
     }
     comment(text, at)
 }
@@ -111,10 +103,9 @@ pub fn gap_end(text: &[u8], at: usize) -> usize
 {
     let mut i = at;
     while i < text.len() {
-        let n = blank(text, i);
-        if n == 0 {
+        let Some(n) = blank(text, i) else {
             return i;
-        }
+        };
         i += n;
     }
     i

@@ -6,32 +6,17 @@ ghost use Rattle.verilog_tokens.specs.Table.{up_to255, kind_of};
 ghost use Rattle.verilog_tokens.specs.Pieces.{piece_in};
 
 use crate::characters::run_end;
-use crate::{Class, Piece};
-
-fn wide(x: u32) -> u64
-    ensures { result ≡ x }
-{
-    x as u64
-}
-
-fn byte(x: u8) -> u64
-    ensures { result ≡ x }
-{
-    x as u64
-}
+use crate::{Class, Kind, Piece};
 
 // One decimal digit more, up to 255.
+#[tactic(auto, unfolding(crate::specs::Table::up_to255, crate::specs::Characters::with_digit, crate::specs::Characters::is_underscore))]
 fn grown(n: u8, b: u8) -> u8
     ensures { result ≡ up_to255 (with_digit 10 n b) }
 {
-    if b == 95 {
+    if b == b'_' {
         return n;
     }
-    let m = byte(n) * 10 + byte(hextext::digit_of(b));
-    if m < 255 {
-        return m as u8;
-    }
-    255
+    (n as u64 * 10 + hextext::digit_of(b) as u64).min(255) as u8
 }
 
 // The number that decimal digits spell, up to 255.
@@ -39,10 +24,8 @@ fn number_up_to(digits: &[u8]) -> u8
     ensures { result ≡ up_to255 (numeral 10 digits.now) }
 {
     let mut n = 0;
-    let mut i = 0;
-    while i < digits.len() {
-        n = grown(n, digits[i]);
-        i += 1;
+    for &b in digits {
+        n = grown(n, b);
     }
     n
 }
@@ -51,10 +34,10 @@ fn number_up_to(digits: &[u8]) -> u8
 fn shifted(radix: u8, n: u32, b: u8) -> u32
     ensures { result ≡ with_digit radix n b % 4294967296 }
 {
-    if b == 95 {
+    if b == b'_' {
         return n;
     }
-    let m = wide(n) * byte(radix) + byte(hextext::digit_of(b));
+    let m = n as u64 * radix as u64 + hextext::digit_of(b) as u64;
     (m % 4294967296) as u32
 }
 
@@ -63,25 +46,21 @@ pub fn number_in(radix: u8, digits: &[u8]) -> u32
     ensures { result ≡ numeral radix digits.now % 4294967296 }
 {
     let mut n = 0;
-    let mut i = 0;
-    while i < digits.len() {
-        n = shifted(radix, n, digits[i]);
-        i += 1;
+    for &b in digits {
+        n = shifted(radix, n, b);
     }
     n
 }
 
 // The kind of a number: does it open with 0?
+#[tactic(auto, unfolding(crate::specs::Table::kind_of, crate::specs::Tokens::number_token, crate::specs::Tokens::opens_zero))]
 fn number_kind(digits: &[u8]) -> u8
     ensures { result ≡ kind_of (number_token digits.now) }
 {
-    if digits.len() == 0 {
-        return 65;
+    match digits {
+        [b'0', ..] => Kind::ZeroFirst as u8,
+        _ => Kind::Number as u8,
     }
-    if digits[0] == 48 {
-        return 66;
-    }
-    65
 }
 
 // The number at a place.

@@ -11,17 +11,7 @@ use crate::characters::run_end;
 pub fn same(a: &[u8], b: &[u8]) -> bool
     ensures { result ≡ same_text a.now b.now }
 {
-    if a.len() != b.len() {
-        return false;
-    }
-    let mut i = 0;
-    while i < a.len() {
-        if a[i] != b[i] {
-            return false;
-        }
-        i += 1;
-    }
-    true
+    a == b
 }
 
 // The place of the first row that is such a word; the number of rows where none is.
@@ -49,13 +39,11 @@ fn opens_with(word: &[u8], text: &[u8]) -> bool
     ensures { result ≡ opens_with word.now text.now }
 {
     let n = word.len();
-    if text.len() < n {
-        return false;
-    }
-    same(word, &text[..n])
+    n <= text.len() && same(word, &text[..n])
 }
 
 // The length of the first row that a text opens with; 0 for none.
+// Stays a number: a row can be empty, so 0 does not tell that none was found.
 pub fn first_of(table: &[u8], text: &[u8]) -> usize
     ensures { result ≡ length (first_of (rows_of table.now) text.now) }
 {

@@ -7,7 +7,7 @@ use crate::characters::{is_below, is_letter, run_end};
 use crate::constants::based;
 use crate::numbers::unsigned;
 use crate::words::{sign_size, terminal_kind, word_kind};
-use crate::{Class, Piece};
+use crate::{Class, Kind, Piece};
 
 // The word at a place.
 fn word(text: &[u8], at: usize) -> Piece
@@ -31,7 +31,7 @@ fn sign(text: &[u8], at: usize) -> Piece
     let n = sign_size(&text[at..]);
     if n == 0 {
         return Piece {
-            kind: 69,
+            kind: Kind::Broken as u8,
             number: 0,
             size: 0,
         };
@@ -51,7 +51,7 @@ pub fn token_at(text: &[u8], at: usize) -> Piece
 {
     if text.len() <= at {
         return Piece {
-            kind: 0,
+            kind: Kind::TextEnd as u8,
             number: 0,
             size: 0,
         };
@@ -63,7 +63,7 @@ pub fn token_at(text: &[u8], at: usize) -> Piece
     if is_below(10, b) {
         return unsigned(text, at);
     }
-    if b == 39 {
+    if b == b'\'' {
         return based(text, at + 1);
     }
     sign(text, at)

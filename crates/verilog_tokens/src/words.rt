@@ -4,6 +4,7 @@ ghost use Rattle.verilog_tokens.specs.Words.{is_keyword, signs, first_of};
 ghost use Rattle.verilog_tokens.specs.Tokens.{word_token};
 ghost use Rattle.verilog_tokens.specs.Table.{terminals, number_from, kind_of};
 
+use crate::Kind;
 use crate::rows::{first_of, place_in};
 
 // Is the word one of Annex B's?
@@ -26,7 +27,7 @@ fn is_keyword(word: &[u8]) -> bool
     n < 124
 }
 
-// The number of a keyword or sign among the terminals; 70 for another.
+// The kind of a keyword or sign: its number among the terminals, or that of another.
 pub fn terminal_kind(word: &[u8]) -> u8
     ensures { result ≡ number_from 1 terminals word.now }
 {
@@ -38,7 +39,7 @@ pub fn terminal_kind(word: &[u8]) -> u8
     if n < 39 {
         return n as u8 + 1;
     }
-    70
+    Kind::Reserved as u8
 }
 
 // A word's kind: a keyword's number or a name.
@@ -48,7 +49,7 @@ pub fn word_kind(word: &[u8]) -> u8
     if is_keyword(word) {
         return terminal_kind(word);
     }
-    64
+    Kind::Name as u8
 }
 
 // The length of the sign that a text opens with; 0 for none.

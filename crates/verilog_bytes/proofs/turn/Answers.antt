@@ -1,8 +1,8 @@
--- `verilog_bytes::turn` meets its contract: three reversals turn two ranges. Assumes nothing.
+-- `verilog_bytes::turn` meets its contract: a range is rotated. Assumes nothing.
 use mathlib.Core.Path.{sym, ap, ◌∙◌}
 use Prim.Native.Nat.{◌-◌}
-use Rattle.verilog_bytes.specs.Turning.{reversed, thrice}
-use Rattle.verilog_bytes.proofs.Turning.{turned-back, turned-ends, turned-past, turned-is}
+use borrow.Rule.Slice.PartMut.{put_mid}
+use Rattle.verilog_bytes.proofs.Turning.{turned-back, turned-ends, turned-past, turned-rotated}
 use Rattle.verilog_bytes.proofs.turn.Goals as goal
 
 pub returns-then-mid-from : goal.returns-then-mid-from
@@ -18,11 +18,7 @@ returns-then-end-gt65536 c =
     sym (turned-past _ _ _ _ c.if-end-gt65536.true)
 
 pub returns : goal.returns
-unfolding thrice
 returns c =
     let a = c.args in
-    c.reverse-3.ensures
-    ∙ ap (λ l. reversed (a.end - a.from) a.from l)
-    (c.reverse-2.ensures ∙ ap (λ l. reversed (a.end - a.mid) a.mid l) c.reverse.ensures)
-    ∙ sym (turned-is a.out.now a.from a.mid a.end c.if-mid-from.false c.if-end-mid.false
-    c.if-end-gt65536.false)
+    ap (λ s. put_mid a.from (a.end - a.from) a.out.now s) c.rotate_left.ensures.after
+    ∙ turned-rotated a.out.now a.from a.mid a.end c.told-out c.if-mid-from.false c.if-end-mid.false c.if-end-gt65536.false

@@ -15,7 +15,7 @@ use Rattle.verilog_exprs.proofs.+arms_climb_expression_operand_primary.Goals as 
 pub arms-overflow_add-i : goal.arms-overflow_add-i
 arms-overflow_add-i t c =
     let a = c.args in
-    let h = row_inside a.kinds.now a.at.next 32 _ c.kind_at-k.ensures c.if-k-ne32.false (omega arith) in
+    let h = row_inside a.kinds.now a.at.next 32 _ c.kind_at-k.ensures c.if-k.false (omega arith) in
     omega arith
 
 pub climb-overflow_add-i : goal.climb-overflow_add-i
@@ -62,56 +62,56 @@ expression-returns t c =
 pub operand-overflow_add-i : goal.operand-overflow_add-i
 operand-overflow_add-i t c =
     let a = c.args in
-    let h = row_inside a.kinds.now a.i 33 _ c.kind_at-k.ensures c.if-k-eq33.true (omega arith) in
+    let h = row_inside a.kinds.now a.i 33 _ c.kind_at-k.ensures c.if-k.true (omega arith) in
     omega arith
 
-pub operand-returns-then-k-eq33 : goal.operand-returns-then-k-eq33
-operand-returns-then-k-eq33 t c =
+pub operand-returns-then-k : goal.operand-returns-then-k
+operand-returns-then-k t c =
     let a = c.args in
     c.primary.ensures
     ∙ operand-complement a.kinds.now a.numbers.now _ a.i a.pos a.out.now c.kind_at-k.ensures _ _ _
-    c.if-k-eq33.true
+    c.if-k.true
     c.put_pair-p.ensures
 
-pub operand-overflow_add-i-then-k-eq34 : goal.operand-overflow_add-i-then-k-eq34
-operand-overflow_add-i-then-k-eq34 t c =
+pub operand-overflow_add-i-then-k-2 : goal.operand-overflow_add-i-then-k-2
+operand-overflow_add-i-then-k-2 t c =
     let a = c.args in
-    let h = row_inside a.kinds.now a.i 34 _ c.kind_at-k.ensures c.if-k-eq34.true (omega arith) in
+    let h = row_inside a.kinds.now a.i 34 _ c.kind_at-k.ensures c.if-k-2.true (omega arith) in
     omega arith
 
-pub operand-returns-then-k-eq34 : goal.operand-returns-then-k-eq34
-operand-returns-then-k-eq34 t c =
+pub operand-returns-then-k-2 : goal.operand-returns-then-k-2
+operand-returns-then-k-2 t c =
     let a = c.args in
-    c.primary-then-k-eq34.ensures
+    c.primary-then-k-2.ensures
     ∙ operand-negation a.kinds.now a.numbers.now _ a.i a.pos a.out.now c.kind_at-k.ensures _ _ _
-    c.if-k-eq34.true
-    c.put_pair-p-then-k-eq34.ensures
+    c.if-k-2.true
+    c.put_pair-p-then-k-2.ensures
 
 pub operand-returns : goal.operand-returns
 operand-returns t c =
     let a = c.args in
     c.primary-2.ensures
     ∙ operand-plain a.kinds.now a.numbers.now _ a.i a.pos a.out.now c.kind_at-k.ensures _
-    c.if-k-eq33.false c.if-k-eq34.false
+    c.if-k.false c.if-k-2.false
 
 pub primary-overflow_add-i : goal.primary-overflow_add-i
 primary-overflow_add-i t c =
     let a = c.args in
-    let h = row_inside a.kinds.now a.i 20 _ c.kind_at-k.ensures c.if-k-eq20.true (omega arith) in
+    let h = row_inside a.kinds.now a.i 20 _ c.kind_at-k.ensures c.if-k.true (omega arith) in
     omega arith
 
-pub primary-returns-then-k-eq20 : goal.primary-returns-then-k-eq20
-primary-returns-then-k-eq20 t c =
+pub primary-returns-then-k : goal.primary-returns-then-k
+primary-returns-then-k t c =
     let a = c.args in
     primary-brackets a.kinds.now a.numbers.now _ a.i a.pos a.out.now c.kind_at-k.ensures _ _ _ _
-    c.if-k-eq20.true
+    c.if-k.true
     c.expression-e.ensures c.expect.ensures
 
 pub primary-returns : goal.primary-returns
 primary-returns t c =
     let a = c.args in
     c.atom.ensures ∙ primary-atom a.kinds.now a.numbers.now _ a.i a.pos a.out.now c.kind_at-k.ensures _
-    c.if-k-eq20.false
+    c.if-k.false
 
 pub climb-returns : goal.climb-returns
 climb-returns t c =
@@ -154,7 +154,7 @@ arms-returns t c =
     ∙ sym (then-yes _ _ _ (not-false _ c.if-not-c.false))
     ∙ arms-choice a.kinds.now a.numbers.now _ a.at a.out.now (not-false _ c.if-not-at.false) a.level a.from _
     c.if-level-gt1.false
-    c.kind_at-k.ensures _ _ _ _ _ c.if-k-ne32.false c.put_pair_front-p.ensures
+    c.kind_at-k.ensures _ _ _ _ _ c.if-k.false c.put_pair_front-p.ensures
     c.expression-a.ensures c.expect-c.ensures
 
 pub arms-returns-then-not-c : goal.arms-returns-then-not-c
@@ -163,15 +163,15 @@ arms-returns-then-not-c t c =
     then-no _ _ _ (not-true _ c.if-not-c.true)
     ∙ arms-choice a.kinds.now a.numbers.now _ a.at a.out.now (not-false _ c.if-not-at.false) a.level a.from _
     c.if-level-gt1.false
-    c.kind_at-k.ensures _ _ _ _ _ c.if-k-ne32.false c.put_pair_front-p.ensures
+    c.kind_at-k.ensures _ _ _ _ _ c.if-k.false c.put_pair_front-p.ensures
     c.expression-a.ensures c.expect-c.ensures
 
-pub arms-returns-then-k-ne32 : goal.arms-returns-then-k-ne32
-arms-returns-then-k-ne32 t c =
+pub arms-returns-then-k : goal.arms-returns-then-k
+arms-returns-then-k t c =
     let a = c.args in
     arms_none a.kinds.now a.numbers.now _ a.at a.out.now (not-false _ c.if-not-at.false) a.level a.from _
     c.if-level-gt1.false
-    c.kind_at-k.ensures c.if-k-ne32.true
+    c.kind_at-k.ensures c.if-k.true
 
 pub arms-returns-then-level-gt1 : goal.arms-returns-then-level-gt1
 arms-returns-then-level-gt1 t c =

@@ -10,11 +10,7 @@ use Rattle.verilog_items.specs.Items.{targets}
 use Rattle.verilog_items.proofs.Turns.{targets-none, targets-stop, targets-last, targets-more, assigns-whole, assigns-refused}
 use Rattle.verilog_items.proofs.assigns.Given as goal
 
-abbrev pub invariant-loop-turns : goal.invariant-loop-turns
-invariant-loop-turns l =
-    (ws : List ℕ) → targets l.kinds l.numbers l.count l.turns (notes (wrote l.p l.out) l.roles ws)
+abbrev pub invariant-loop : goal.invariant-loop
+invariant-loop l =
+    (ws : List ℕ) → targets l.kinds l.numbers l.count (l.count - l.initial.p.next - l.counter) (notes (wrote l.p l.out) l.roles ws)
     ≡ targets l.kinds l.numbers l.count (l.count - l.initial.p.next) (notes (wrote l.initial.p l.initial.out) l.initial.roles ws)
-
-abbrev pub decreases-loop-turns : goal.decreases-loop-turns
-decreases-loop-turns l =
-    l.turns

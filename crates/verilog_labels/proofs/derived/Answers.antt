@@ -1,15 +1,16 @@
 -- `verilog_labels::derived` meets its contract. Assumes nothing.
 use borrow.Author.Rules.{rules}
 use borrow.Author.Tests.{not-true, not-false}
+use mathlib.Core.Path.{refl}
 use Rattle.verilog_labels.proofs.Wholes.{derived-no, derived-yes}
 use Rattle.verilog_labels.proofs.derived.Goals as goal
 
 pub returns-then-not-end : goal.returns-then-not-end
 returns-then-not-end c =
-    derived-no _ _ _ _ _ _ _ c.wide.ensures c.number.ensures c.read-end.ensures
+    derived-no _ _ _ _ _ _ _ refl c.number.ensures c.read-end.ensures
     (not-true _ c.if-not-end.true)
 
 pub returns : goal.returns
 returns c =
-    derived-yes _ _ _ _ _ _ _ c.wide.ensures c.number.ensures c.read-end.ensures
+    derived-yes _ _ _ _ _ _ _ refl c.number.ensures c.read-end.ensures
     (not-false _ c.if-not-end.false) c.faultless.ensures

@@ -7,6 +7,6 @@ pub returns-then-i-lt16385 : goal.returns-then-i-lt16385
 returns-then-i-lt16385 c =
     sym (row_in _ _ c.if-i-lt16385.true)
 
-pub returns : goal.returns
-returns c =
+pub returns-else-i-lt16385 : goal.returns-else-i-lt16385
+returns-else-i-lt16385 c =
     sym (row-past _ _ c.if-i-lt16385.false)

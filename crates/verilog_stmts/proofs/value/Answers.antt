@@ -18,4 +18,4 @@ returns c =
     c.args.numbers.now
     c.args.count) stay refl
     (not-false c.args.at.ok c.if-not-at.false)
-    (rw (← c.left.ensures, ← c.wide.ensures) c.expression.ensures)
+    (rw (← c.left.ensures) c.expression.ensures)

@@ -12,7 +12,3 @@ abbrev pub invariant-loop-n : goal.invariant-loop-n
 invariant-loop-n l =
     puts (filled l.out l.p) (choices_from (could_row l.kinds l.numbers l.count l.at) (45 - l.n) l.n l.first)
     ≡ puts (filled l.initial.out l.pos) (choices_from (could_row l.kinds l.numbers l.count l.at) 45 0 true)
-
-abbrev pub decreases-loop-n : goal.decreases-loop-n
-decreases-loop-n l =
-    45 - l.n

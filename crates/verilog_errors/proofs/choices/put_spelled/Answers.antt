@@ -7,4 +7,4 @@ use Rattle.verilog_errors.proofs.choices.put_spelled.Goals as goal
 pub returns : goal.returns
 unfolding spelled spellings ascii
 returns c =
-    rw c.wide.ensures at c.put_line.ensures
+    c.put_line.ensures

@@ -14,7 +14,3 @@ use Rattle.verilog_errors.proofs.faults.first_named.Given as goal
 abbrev pub invariant-loop-i : goal.invariant-loop-i
 invariant-loop-i l =
     first_or l.n (chosen (is_named l.numbers l.roles l.low l.high l.id) (l.n - l.i) l.i) ≡ first_named l.numbers l.roles l.n l.low l.high l.id
-
-abbrev pub decreases-loop-i : goal.decreases-loop-i
-decreases-loop-i l =
-    l.n - l.i

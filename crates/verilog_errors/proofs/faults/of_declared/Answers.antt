@@ -1,11 +1,12 @@
 -- `verilog_errors::faults::of_declared` meets its contract. Assumes nothing.
 use borrow.Author.Rules.{rules}
+use mathlib.Core.Path.{refl}
 use Rattle.verilog_errors.proofs.Faulting.{declared-again, declared-other, declared-lone, declared-none}
 use Rattle.verilog_errors.proofs.faults.of_declared.Goals as goal
 
 pub returns-then-f-t : goal.returns-then-f-t
 returns-then-f-t c =
-    declared-again _ _ _ _ _ _ c.if-f-t.true c.wide.ensures c.breaks.ensures
+    declared-again _ _ _ _ _ _ c.if-f-t.true refl c.breaks.ensures
 
 pub returns-then-roles-t-ne3 : goal.returns-then-roles-t-ne3
 returns-then-roles-t-ne3 c =

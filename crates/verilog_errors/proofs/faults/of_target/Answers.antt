@@ -1,5 +1,6 @@
 -- `verilog_errors::faults::of_target` meets its contract. Assumes nothing.
 use borrow.Author.Rules.{rules}
+use mathlib.Core.Path.{refl}
 use Rattle.verilog_errors.proofs.Faulting.{target-other, target-again, target_none}
 use Rattle.verilog_errors.proofs.faults.of_target.Goals as goal
 
@@ -10,7 +11,7 @@ returns-then-n-w c =
 pub returns-then-f-t : goal.returns-then-f-t
 returns-then-f-t c =
     target-again _ _ _ _ _ c.first_named-w.ensures.0 c.if-n-w.false c.first_named-f.ensures.0
-    c.if-f-t.true c.wide.ensures c.breaks-then-f-t.ensures
+    c.if-f-t.true refl c.breaks-then-f-t.ensures
 
 pub returns : goal.returns
 returns c =

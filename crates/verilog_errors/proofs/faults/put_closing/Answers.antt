@@ -7,4 +7,4 @@ use Rattle.verilog_errors.proofs.faults.put_closing.Goals as goal
 pub returns : goal.returns
 unfolding closing ascii
 returns c =
-    rw c.row.ensures at c.put_line.ensures
+    c.put_line.ensures

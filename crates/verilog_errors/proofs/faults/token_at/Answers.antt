@@ -1,7 +1,7 @@
 -- `verilog_errors::faults::token_at` meets its contract. The loop's invariant: the first from `i` on is the first of all.
 -- Assumes nothing.
 use borrow.Author.Rules.{rules}
-use mathlib.Core.Path.{◌≡◌, sym, ◌∙◌}
+use mathlib.Core.Path.{◌≡◌, sym, ◌∙◌, refl}
 use Prim.Native.Nat.{◌-◌}
 use native.Mathlib.Omega.{arith}
 use Rattle.verilog_names.specs.Chosen.{chosen, has_role}
@@ -18,16 +18,16 @@ pub bounds-places-i : goal.bounds-places-i
 bounds-places-i c =
     omega arith
 
-pub returns-then-wide-place : goal.returns-then-wide-place
-returns-then-wide-place c = (
-  sym (first-here _ _ _ c.loop-i-test.true (stands_here _ _ _ c.wide.ensures c.if-wide-place.true))
+pub returns-then-places-i : goal.returns-then-places-i
+returns-then-places-i c = (
+  sym (first-here _ _ _ c.loop-i-test.true (stands_here _ _ _ refl c.if-places-i.true))
       ∙ c.loop-i.invariant,
   omega arith,
 )
 
 pub loop-i-preserved : goal.loop-i-preserved
 loop-i-preserved c =
-    sym (first_on _ _ _ c.loop-i-test.true (stands-elsewhere _ _ _ c.wide.ensures c.if-wide-place.false))
+    sym (first_on _ _ _ c.loop-i-test.true (stands-elsewhere _ _ _ refl c.if-places-i.false))
     ∙ c.loop-i.invariant
 
 pub returns : goal.returns

@@ -13,7 +13,3 @@ use Rattle.verilog_errors.proofs.faults.token_at.Given as goal
 abbrev pub invariant-loop-i : goal.invariant-loop-i
 invariant-loop-i l =
     first_or l.n (chosen (has_role l.places l.place) (l.n - l.i) l.i) ≡ next_of l.places l.n l.place 0
-
-abbrev pub decreases-loop-i : goal.decreases-loop-i
-decreases-loop-i l =
-    l.n - l.i

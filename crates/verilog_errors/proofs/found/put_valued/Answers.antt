@@ -9,4 +9,4 @@ pub returns : goal.returns
 unfolding ascii valued
 returns c =
     both _ _ _ _ _ c.put_word-a.ensures
-    (rw c.wide.ensures at c.put_decimal.ensures)
+    c.put_decimal.ensures

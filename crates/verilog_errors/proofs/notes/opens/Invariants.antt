@@ -10,7 +10,3 @@ use Rattle.verilog_errors.proofs.notes.opens.Given as goal
 abbrev pub invariant-loop-i : goal.invariant-loop-i
 invariant-loop-i l =
     opens (take l.left (drop l.i l.word)) (drop l.j l.table) ≡ opens (take l.n l.word) (drop l.from l.table)
-
-abbrev pub decreases-loop-i : goal.decreases-loop-i
-decreases-loop-i l =
-    length l.word - l.i

@@ -7,4 +7,4 @@ use Rattle.verilog_errors.proofs.notes.put_permission.Goals as goal
 pub returns : goal.returns
 unfolding permission permissions ascii
 returns c =
-    rw c.wide.ensures at c.put_line.ensures
+    c.put_line.ensures

@@ -8,7 +8,7 @@ pub returns : goal.returns
 unfolding ascii
 returns c =
     line-whole _ _ _
-    c.spot_of-s.ensures c.between-before.ensures c.between-start.ensures c.line_end-end.ensures c.between.ensures
+    c.spot_of-s.ensures c.saturating_sub-before.ensures c.saturating_sub-start.ensures c.line_end-end.ensures c.saturating_sub.ensures
     c.put_word-a.ensures
     c.put_part-b.ensures
     c.put_word-c.ensures c.put_part-d.ensures

@@ -2,7 +2,6 @@
 use borrow.Author.Rules.{rules}
 use mathlib.Core.Path.{◌≡◌, refl, sym, ◌∙◌}
 use mathlib.Core.List.{map}
-use Prim.Native.Nat.{◌-◌}
 use lib.ListN.{length}
 use Rattle.writing.specs.Buffer.{filled, puts}
 use Rattle.verilog_errors.specs.Spots.{part, sign_of}
@@ -13,7 +12,3 @@ abbrev pub invariant-loop-i : goal.invariant-loop-i
 invariant-loop-i l =
     puts (filled l.out l.p) (map (sign_of l.blank) (part l.text l.i l.left)) ≡ puts
     (filled l.initial.out l.pos) (map (sign_of l.blank) (part l.text l.from l.n))
-
-abbrev pub decreases-loop-i : goal.decreases-loop-i
-decreases-loop-i l =
-    length l.text - l.i

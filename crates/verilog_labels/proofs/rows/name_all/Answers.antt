@@ -1,7 +1,7 @@
 -- `verilog_labels::rows::name_all` meets its contract. The loop's invariant: what is still to be laid gives the whole.
 -- Assumes nothing.
 use borrow.Author.Rules.{rules}
-use mathlib.Core.Path.{◌∙◌}
+use mathlib.Core.Path.{◌∙◌, refl}
 use Prim.Native.Nat.{◌-◌}
 use native.Mathlib.Omega.{arith}
 use Rattle.verilog_labels.proofs.Laying.{Laying, laying-first, laying-in, laying-out, laying-last}
@@ -24,7 +24,7 @@ loop-i-preserved c =
     let h = c.loop-i-test.true in
     elim c.if-roles-i.branch [
       | then-roles-i w ↦
-          laying-in _ _ _ _ _ _ _ _ l h w.if-roles-i.true (w.places-is ∙ w.put.ensures) w.wide.ensures w.length_at.ensures
+          laying-in _ _ _ _ _ _ _ _ l h w.if-roles-i.true (w.places-is ∙ w.put.ensures) refl w.length_at.ensures
           (w.lengths-is ∙ w.put-then-roles-i.ensures) w.k-is
       | else-roles-i w ↦ laying-out _ _ _ _ _ _ _ _ l h w.if-roles-i.false w.places-is w.lengths-is w.k-is
     ]

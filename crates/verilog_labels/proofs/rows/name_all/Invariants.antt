@@ -3,7 +3,6 @@
 use borrow.Author.Rules.{rules}
 use mathlib.Core.Path.{◌∙◌}
 use mathlib.Core.Logic.{⊎_elim}
-use Prim.Native.Nat.{◌-◌}
 use native.Mathlib.Omega.{arith}
 use Rattle.verilog_labels.proofs.Laying.{Laying, laying-first, laying-in, laying-out, laying-last}
 use Rattle.verilog_labels.proofs.rows.name_all.Given as goal
@@ -11,7 +10,3 @@ use Rattle.verilog_labels.proofs.rows.name_all.Given as goal
 abbrev pub invariant-loop-i : goal.invariant-loop-i
 invariant-loop-i l =
     Laying l.text l.begun l.roles l.count l.role l.from l.initial.places l.initial.lengths l.places l.lengths l.k l.i
-
-abbrev pub decreases-loop-i : goal.decreases-loop-i
-decreases-loop-i l =
-    l.count - l.i

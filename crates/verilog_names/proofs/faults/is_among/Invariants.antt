@@ -9,7 +9,3 @@ use Rattle.verilog_names.proofs.faults.is_among.Given as goal
 abbrev pub invariant-loop-i : goal.invariant-loop-i
 invariant-loop-i l =
     is_among l.numbers (chosen (is_in l.kinds l.roles l.class) (l.count - l.i) l.i) l.id ≡ is_among l.numbers (chosen (is_in l.kinds l.roles l.class) l.count 0) l.id
-
-abbrev pub decreases-loop-i : goal.decreases-loop-i
-decreases-loop-i l =
-    l.count - l.i

@@ -7,6 +7,6 @@ pub returns-then-is_in : goal.returns-then-is_in
 returns-then-is_in c =
     among_in _ _ _ _ (sym c.is_in.ensures ∙ c.if-is_in.true)
 
-pub returns : goal.returns
-returns c =
-    among-out _ _ _ _ (sym c.is_in.ensures ∙ c.if-is_in.false)
+pub returns-else-is_in : goal.returns-else-is_in
+returns-else-is_in c =
+    c.if-is_in.false ∙ among-out _ _ _ _ (sym c.is_in.ensures ∙ c.if-is_in.false)

@@ -12,7 +12,3 @@ invariant-loop-i l =
     (l.best ≤ 65536)
     × (lower l.best (nearest l.places (missing l.numbers (chosen (is_in l.kinds l.roles l.a) (l.count - l.i) l.i) (chosen (is_in l.kinds l.roles l.b) l.count 0)))
     ≡ nearest l.places (missing l.numbers (chosen (is_in l.kinds l.roles l.a) l.count 0) (chosen (is_in l.kinds l.roles l.b) l.count 0)))
-
-abbrev pub decreases-loop-i : goal.decreases-loop-i
-decreases-loop-i l =
-    l.count - l.i

@@ -14,7 +14,3 @@ invariant-loop-i l =
     × (lower l.best (nearest l.places (repeated l.numbers (chosen (is_in l.kinds l.roles l.a) l.i 0) (chosen (is_in l.kinds l.roles l.a) (l.count - l.i) l.i)))
     ≡ nearest l.places (repeated l.numbers [] (chosen (is_in l.kinds l.roles l.a) l.count 0)))
     × (l.seen ≡ marks l.numbers (chosen (is_in l.kinds l.roles l.a) l.i 0))
-
-abbrev pub decreases-loop-i : goal.decreases-loop-i
-decreases-loop-i l =
-    l.count - l.i

@@ -8,7 +8,3 @@ use Rattle.verilog_names.proofs.faults.see.Given as goal
 abbrev pub invariant-loop-i : goal.invariant-loop-i
 invariant-loop-i l =
     marked l.numbers (chosen (is_in l.kinds l.roles l.class) (l.count - l.i) l.i) l.seen ≡ marked l.numbers (chosen (is_in l.kinds l.roles l.class) l.count 0) l.initial.seen
-
-abbrev pub decreases-loop-i : goal.decreases-loop-i
-decreases-loop-i l =
-    l.count - l.i

@@ -11,7 +11,3 @@ abbrev pub invariant-loop-i : goal.invariant-loop-i
 invariant-loop-i l =
     puts (filled l.text l.p) (widths_of l.widths (chosen (has_role l.roles l.role) (l.count - l.i) l.i))
     ≡ puts (filled l.initial.text l.pos) (widths_of l.widths (chosen (has_role l.roles l.role) l.count 0))
-
-abbrev pub decreases-loop-i : goal.decreases-loop-i
-decreases-loop-i l =
-    l.count - l.i

@@ -9,7 +9,3 @@ use Rattle.verilog_names.proofs.numbers.number.Given as goal
 abbrev pub invariant-loop-i : goal.invariant-loop-i
 invariant-loop-i l =
     sets l.out l.i (numbers_from l.kinds l.numbers l.roles l.n (l.n - l.i) l.i) ≡ numbered l.kinds l.numbers l.roles l.n l.initial.out
-
-abbrev pub decreases-loop-i : goal.decreases-loop-i
-decreases-loop-i l =
-    l.n - l.i

@@ -1,4 +1,5 @@
 -- `verilog_names::numbers::number_at` meets its contract. Assumes nothing.
+use mathlib.Core.Path.{refl}
 use Rattle.verilog_names.proofs.Numbering.{number-other, number-name}
 use Rattle.verilog_names.proofs.Entering.{known-number}
 use Rattle.verilog_names.proofs.numbers.number_at.Goals as goal
@@ -11,9 +12,9 @@ pub returns-then-k-lt16385 : goal.returns-then-k-lt16385
 returns-then-k-lt16385 c =
     let a = c.args in
     known-number a.numbers.now a.kinds.now a.roles.now a.table.now a.count a.i _ _ c.if-kinds-i-ne64.false
-    c.requires.table_value c.slot-k.ensures c.if-k-lt16385.true c.entry.ensures
+    c.requires.table_value refl c.if-k-lt16385.true refl
 
 pub returns : goal.returns
 returns c =
     number-name _ _ _ _ _ _ _ _ c.if-kinds-i-ne64.false c.variable_of-v.ensures c.up_to.ensures
-    c.entry-2.ensures
+    refl

@@ -10,7 +10,3 @@ abbrev pub invariant-loop-i : goal.invariant-loop-i
 invariant-loop-i l =
     (l.k ≤ l.i)
     × (l.k + place_of l.numbers (chosen (has_role l.roles l.role) (l.count - l.i) l.i) l.id ≡ place_of l.numbers (chosen (has_role l.roles l.role) l.count 0) l.id)
-
-abbrev pub decreases-loop-i : goal.decreases-loop-i
-decreases-loop-i l =
-    l.count - l.i

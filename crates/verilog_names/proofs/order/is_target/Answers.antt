@@ -7,6 +7,6 @@ pub returns-then-has_role : goal.returns-then-has_role
 returns-then-has_role c =
     target-in _ _ _ _ (sym c.has_role.ensures ∙ c.if-has_role.true)
 
-pub returns : goal.returns
-returns c =
-    target-out _ _ _ _ (sym c.has_role.ensures ∙ c.if-has_role.false)
+pub returns-else-has_role : goal.returns-else-has_role
+returns-else-has_role c =
+    c.if-has_role.false ∙ target-out _ _ _ _ (sym c.has_role.ensures ∙ c.if-has_role.false)

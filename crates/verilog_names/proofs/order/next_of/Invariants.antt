@@ -9,7 +9,3 @@ use Rattle.verilog_names.proofs.order.next_of.Given as goal
 abbrev pub invariant-loop-i : goal.invariant-loop-i
 invariant-loop-i l =
     first_or l.n (chosen (has_role l.roles l.role) (l.n - l.i) l.i) ≡ first_or l.n (chosen (has_role l.roles l.role) (l.n - l.from) l.from)
-
-abbrev pub decreases-loop-i : goal.decreases-loop-i
-decreases-loop-i l =
-    l.n - l.i

@@ -9,7 +9,3 @@ use Rattle.verilog_names.proofs.order.target_of.Given as goal
 abbrev pub invariant-loop-i : goal.invariant-loop-i
 invariant-loop-i l =
     first_or l.n (chosen (is_target l.numbers l.roles l.id) (l.n - l.i) l.i) ≡ first_or l.n (chosen (is_target l.numbers l.roles l.id) (l.n - 0) 0)
-
-abbrev pub decreases-loop-i : goal.decreases-loop-i
-decreases-loop-i l =
-    l.n - l.i

@@ -9,7 +9,3 @@ use Rattle.verilog_names.proofs.tokens.count_of.Given as goal
 abbrev pub invariant-loop-i : goal.invariant-loop-i
 invariant-loop-i l =
     l.n + length (chosen (has_role l.roles l.role) (l.count - l.i) l.i) ≡ length (chosen (has_role l.roles l.role) l.count 0)
-
-abbrev pub decreases-loop-i : goal.decreases-loop-i
-decreases-loop-i l =
-    l.count - l.i

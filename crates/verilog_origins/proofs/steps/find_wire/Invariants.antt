@@ -11,7 +11,3 @@ abbrev pub invariant-loop-i : goal.invariant-loop-i
 invariant-loop-i l =
     first_past (wire_at l.kinds l.numbers l.table l.roles l.count) l.place (l.n - l.i) l.i (filled l.out l.p)
     ≡ first_past (wire_at l.kinds l.numbers l.table l.roles l.count) l.place (capped l.count) 0 (filled l.initial.out l.pos)
-
-abbrev pub decreases-loop-i : goal.decreases-loop-i
-decreases-loop-i l =
-    l.n - l.i

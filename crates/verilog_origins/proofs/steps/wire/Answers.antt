@@ -1,4 +1,5 @@
 -- `verilog_origins::steps::wire` meets its contract. Assumes nothing.
+use mathlib.Core.Path.{refl}
 use Rattle.verilog_read.proofs.Turns.{wire-not, wire-one}
 use Rattle.verilog_origins.proofs.steps.wire.Goals as goal
 
@@ -8,5 +9,5 @@ returns-then-roles-i-ne3 c =
 
 pub returns : goal.returns
 returns c =
-    wire-one _ _ _ _ _ _ _ c.if-roles-i-ne3.false c.wide.ensures
+    wire-one _ _ _ _ _ _ _ c.if-roles-i-ne3.false refl
     c.target_of-t.ensures c.value_behind.ensures

@@ -7,8 +7,8 @@ use Rattle.verilog_read.proofs.bytes.capped.Goals as goal
 
 pub returns-then-n-lt16385 : goal.returns-then-n-lt16385
 returns-then-n-lt16385 c =
-    capped-below _ c.if-n-lt16385.true ∙ ap capped c.wide-n.ensures
+    capped-below _ c.if-n-lt16385.true
 
 pub returns-else-n-lt16385 : goal.returns-else-n-lt16385
 returns-else-n-lt16385 c =
-    capped-above _ c.if-n-lt16385.false ∙ ap capped c.wide-n.ensures
+    capped-above _ c.if-n-lt16385.false

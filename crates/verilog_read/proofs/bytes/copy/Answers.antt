@@ -3,7 +3,7 @@ use borrow.Author.Rules.{rules}
 use mathlib.Core.Path.{◌≡◌, refl, ◌∙◌}
 use Prim.Native.Nat.{◌-◌}
 use native.Mathlib.Omega.{arith}
-use lib.ListN.{length, length-set}
+use lib.ListN.{length}
 use lib.Seq.{sets}
 use Rattle.verilog_read.specs.Read.{padded, copied}
 use Rattle.verilog_read.proofs.Turns.{copied_all, copied-turn, copied-over}
@@ -17,17 +17,9 @@ pub bounds-lent-i : goal.bounds-lent-i
 bounds-lent-i c =
     omega arith
 
-pub overflow_add-i : goal.overflow_add-i
-overflow_add-i c =
-    omega (arith, c.loop-i.invariant.0)
-
-pub loop-i-smaller : goal.loop-i-smaller
-loop-i-smaller c =
-    simp length-set (omega arith)
-
 pub loop-i-preserved : goal.loop-i-preserved
 loop-i-preserved c =
-    copied-turn _ c.loop-i.lent _ _ _ _ _ c.loop-i-test.true c.byte_at.ensures refl c.loop-i.invariant
+    copied-turn _ c.loop-i.lent _ _ _ _ _ (omega (arith, c.loop-i-test.true, c.loop-i.invariant.0)) c.byte_at.ensures refl c.loop-i.invariant
 
 pub shape_of-lent : goal.shape_of-lent
 shape_of-lent c =
@@ -35,4 +27,4 @@ shape_of-lent c =
 
 pub returns : goal.returns
 returns c =
-    copied-over _ _ _ _ c.loop-i-test.false c.loop-i.invariant.1
+    copied-over _ _ _ _ (omega (arith, c.loop-i-test.false, c.loop-i.invariant.0)) c.loop-i.invariant.1

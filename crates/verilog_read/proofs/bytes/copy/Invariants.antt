@@ -12,7 +12,3 @@ use Rattle.verilog_read.proofs.bytes.copy.Given as goal
 abbrev pub invariant-loop-i : goal.invariant-loop-i
 invariant-loop-i l =
     (length l.lent ≡ length l.initial.lent) × (sets l.lent l.i (padded l.sheet (length l.lent - l.i) l.i) ≡ copied l.sheet l.initial.lent)
-
-abbrev pub decreases-loop-i : goal.decreases-loop-i
-decreases-loop-i l =
-    length l.lent - l.i

@@ -20,14 +20,6 @@ pub bounds-held-i : goal.bounds-held-i
 bounds-held-i c =
     omega arith
 
-pub overflow_add-i : goal.overflow_add-i
-overflow_add-i c =
-    omega arith
-
-pub loop-i-smaller : goal.loop-i-smaller
-loop-i-smaller c =
-    omega arith
-
 pub loop-i-preserved : goal.loop-i-preserved
 loop-i-preserved c =
     held-turn _ 65536 _ _ _ _ _ c.loop-i-test.true refl refl c.loop-i.invariant

@@ -11,7 +11,3 @@ use Rattle.verilog_read.proofs.bytes.hold.Given as goal
 abbrev pub invariant-loop-i : goal.invariant-loop-i
 invariant-loop-i l =
     sets l.held l.i (padded l.bytes (65536 - l.i) l.i) ≡ sets l.initial.held 0 (padded l.bytes 65536 0)
-
-abbrev pub decreases-loop-i : goal.decreases-loop-i
-decreases-loop-i l =
-    65536 - l.i

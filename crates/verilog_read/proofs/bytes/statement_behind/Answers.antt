@@ -1,8 +1,9 @@
 -- `verilog_read::bytes::statement_behind` meets its contract. Assumes nothing.
+use mathlib.Core.Path.{refl}
 use borrow.Author.Rules.{rules}
 use Rattle.verilog_read.proofs.Turns.{statement-whole}
 use Rattle.verilog_read.proofs.bytes.statement_behind.Goals as goal
 
 pub returns : goal.returns
 returns c =
-    statement-whole _ _ _ _ _ _ _ c.from.ensures c.after-at.ensures c.left-n.ensures c.wide.ensures c.statement-s.ensures
+    statement-whole _ _ _ _ _ _ _ c.from.ensures c.after-at.ensures c.left-n.ensures refl c.statement-s.ensures

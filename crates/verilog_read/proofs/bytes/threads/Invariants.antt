@@ -13,7 +13,3 @@ use Rattle.verilog_read.proofs.bytes.threads.Given as goal
 abbrev pub invariant-loop-i : goal.invariant-loop-i
 invariant-loop-i l =
     each (thread_at l.kinds l.table l.roles l.count) (l.n - l.i) l.i (filled l.out l.p) ≡ each (thread_at l.kinds l.table l.roles l.count) (capped l.count) 0 (filled l.initial.out l.pos)
-
-abbrev pub decreases-loop-i : goal.decreases-loop-i
-decreases-loop-i l =
-    l.n - l.i

@@ -1,4 +1,5 @@
 -- `verilog_read::bytes::wire` meets its contract. Assumes nothing.
+use mathlib.Core.Path.{refl}
 use borrow.Author.Rules.{rules}
 use Rattle.verilog_read.proofs.Turns.{wire-not, wire-one}
 use Rattle.verilog_read.proofs.bytes.wire.Goals as goal
@@ -9,4 +10,4 @@ returns-then-roles-i-ne3 c =
 
 pub returns : goal.returns
 returns c =
-    wire-one _ _ _ _ _ _ _ c.if-roles-i-ne3.false c.wide.ensures c.target_of-t.ensures c.value_behind.ensures
+    wire-one _ _ _ _ _ _ _ c.if-roles-i-ne3.false refl c.target_of-t.ensures c.value_behind.ensures

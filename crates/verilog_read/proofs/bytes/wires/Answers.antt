@@ -18,10 +18,6 @@ pub wire-p-requires : goal.wire-p-requires
 wire-p-requires c =
     omega (arith, capped-kept _ _ c.capped-n.ensures)
 
-pub overflow_add-i : goal.overflow_add-i
-overflow_add-i c =
-    omega (arith, capped-kept _ _ c.capped-n.ensures)
-
 pub loop-i-preserved : goal.loop-i-preserved
 loop-i-preserved c =
     each_turn _ _ _ _ _ _ c.loop-i-test.true c.wire-p.ensures c.loop-i.invariant

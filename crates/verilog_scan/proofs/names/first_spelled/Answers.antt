@@ -1,8 +1,7 @@
 -- `verilog_scan::names::first_spelled` meets its contract. The loop's invariant: the first from `i` on is the first of all.
 -- Assumes nothing.
-use mathlib.Core.Path.{sym, ap, ◌∙◌}
-use Rattle.naming.specs.Naming.{same_text}
-use Rattle.verilog_scan.specs.Scan.{spelled_at}
+use mathlib.Core.Path.{◌≡◌, sym, ◌∙◌}
+use native.Mathlib.Omega.{arith}
 use Rattle.verilog_scan.proofs.Spelling.{sought-start, first-here, first_next, first_done}
 use Rattle.verilog_scan.proofs.names.first_spelled.Goals as goal
 
@@ -16,13 +15,10 @@ returns-then-spelled_so c =
     let l = c.loop-i in
     let p = c.requires in
     let t = c.loop-i-test in
-    let r-place = c.place in
     let r-spelled-so = c.spelled_so in
     let i1 = c.if-spelled_so in
     first-here a.text.now a.word.now a.starts.now a.names l.i p.1 t.true l.invariant
-    (sym (ap (λ x. same_text (spelled_at a.text.now x) a.word.now) r-place.ensures)
-    ∙ sym r-spelled-so.ensures
-    ∙ i1.true)
+    (sym r-spelled-so.ensures ∙ i1.true)
 
 pub loop-i-preserved : goal.loop-i-preserved
 loop-i-preserved c =
@@ -30,13 +26,10 @@ loop-i-preserved c =
     let l = c.loop-i in
     let p = c.requires in
     let t = c.loop-i-test in
-    let r-place = c.place in
     let r-spelled-so = c.spelled_so in
     let i1 = c.if-spelled_so in
     first_next a.text.now a.word.now a.starts.now a.names l.i p.1 t.true l.invariant
-    (sym (ap (λ x. same_text (spelled_at a.text.now x) a.word.now) r-place.ensures)
-    ∙ sym r-spelled-so.ensures
-    ∙ i1.false)
+    (sym r-spelled-so.ensures ∙ i1.false)
 
 pub returns : goal.returns
 returns c =
@@ -44,4 +37,5 @@ returns c =
     let l = c.loop-i in
     let p = c.requires in
     let t = c.loop-i-test in
-    first_done a.text.now a.word.now a.starts.now a.names l.i p.1 l.invariant t.false
+    let e : a.names ≡ l.i = omega (arith, l.auto.i-end, t.false) in
+    e ∙ first_done a.text.now a.word.now a.starts.now a.names l.i p.1 l.invariant t.false

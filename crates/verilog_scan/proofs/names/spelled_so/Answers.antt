@@ -11,7 +11,7 @@ pub returns-then-text-at : goal.returns-then-text-at
 returns-then-text-at c =
     let a = c.args in
     let i1 = c.if-text-at in
-    spelled-past a.text.now a.at a.word.now i1.true
+    c.is_empty.ensures ∙ spelled-past a.text.now a.at a.word.now i1.true
 
 pub returns-then-differs : goal.returns-then-differs
 returns-then-differs c =

@@ -1,34 +1,34 @@
--- `verilog_tokens::constants::all_unknown` meets its contract. The loop's invariant: the digits from `i` on decide. Assumes nothing.
+-- `verilog_tokens::constants::all_unknown` meets its contract. The loop's invariant: the digits that are left decide. Assumes nothing.
 use mathlib.Core.Path.{refl, sym, ◌∙◌}
 use Rattle.verilog_tokens.specs.Tokens.{is_unknown}
 use Rattle.verilog_tokens.proofs.Digits.{every-next, every-fails, every-done}
 use Rattle.verilog_tokens.proofs.constants.all_unknown.Goals as goal
 
-pub loop-i-init : goal.loop-i-init
-loop-i-init c =
+pub loop-b-init : goal.loop-b-init
+loop-b-init c =
     refl
 
 pub returns : goal.returns
 returns c =
     let a = c.args in
-    let l = c.loop-i in
-    let t = c.loop-i-test in
-    every-done is_unknown a.digits.now l.i t.false ∙ l.invariant
+    let l = c.loop-b in
+    let t = c.loop-b-test in
+    every-done is_unknown a.digits.now l.b-index t.false ∙ l.invariant
 
-pub loop-i-preserved : goal.loop-i-preserved
-loop-i-preserved c =
+pub loop-b-preserved : goal.loop-b-preserved
+loop-b-preserved c =
     let a = c.args in
-    let l = c.loop-i in
-    let t = c.loop-i-test in
+    let l = c.loop-b in
+    let t = c.loop-b-test in
     let r-is-unknown = c.is_unknown in
     let i1 = c.if-not-is_unknown in
-    every-next is_unknown a.digits.now l.i t.true (sym r-is-unknown.ensures ∙ i1.false) ∙ l.invariant
+    every-next is_unknown a.digits.now l.b-index t.true (sym r-is-unknown.ensures ∙ i1.false) ∙ l.invariant
 
 pub returns-then-not-is_unknown : goal.returns-then-not-is_unknown
 returns-then-not-is_unknown c =
     let a = c.args in
-    let l = c.loop-i in
-    let t = c.loop-i-test in
+    let l = c.loop-b in
+    let t = c.loop-b-test in
     let r-is-unknown = c.is_unknown in
     let i1 = c.if-not-is_unknown in
-    every-fails is_unknown a.digits.now l.i t.true (sym r-is-unknown.ensures ∙ i1.true) ∙ l.invariant
+    every-fails is_unknown a.digits.now l.b-index t.true (sym r-is-unknown.ensures ∙ i1.true) ∙ l.invariant

@@ -1,6 +1,7 @@
 -- `verilog_tokens::gaps::closes` meets its contract, row by row. Assumes nothing.
 use mathlib.Core.Path.{◌∙◌}
-use Rattle.verilog_tokens.proofs.Comments.{closed-past, closed-star, closed-other}
+use borrow.Author.Tests.{ne_eqb}
+use Rattle.verilog_tokens.proofs.Comments.{closed-past, closed-star}
 use Rattle.verilog_tokens.proofs.gaps.closes.Goals as goal
 
 pub returns-then-text-at : goal.returns-then-text-at
@@ -9,13 +10,8 @@ returns-then-text-at c =
 
 pub returns-then-text-at-eq42 : goal.returns-then-text-at-eq42
 returns-then-text-at-eq42 c =
-    let r-is-slash = c.is_slash in
-    let a = c.args in
-    let i2 = c.if-text-at-eq42 in
-    r-is-slash.ensures ∙ closed-star a.text.now a.at i2.true
+    c.is_slash.ensures ∙ closed-star c.args.text.now c.args.at c.if-text-at-eq42.true
 
-pub returns : goal.returns
-returns c =
-    let a = c.args in
-    let i2 = c.if-text-at-eq42 in
-    closed-other a.text.now a.at i2.false
+pub returns-else-text-at-eq42 : goal.returns-else-text-at-eq42
+returns-else-text-at-eq42 c =
+    rw (ne_eqb _ _ c.if-text-at-eq42.false)

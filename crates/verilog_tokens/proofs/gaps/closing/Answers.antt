@@ -5,6 +5,7 @@ use mathlib.Core.Path.{sym, ◌∙◌}
 use native.Mathlib.Omega.{arith}
 use Rattle.verilog_tokens.proofs.Comments.{closing-starts, closing-stops, closing-none, closed-inside, closes_here}
 use Rattle.verilog_tokens.proofs.Comments.{closes-never, closes-later}
+use Rattle.verilog_tokens.proofs.Lengths.{length_some, length_none}
 use Rattle.verilog_tokens.proofs.gaps.closing.Goals as goal
 
 pub loop-i-init : goal.loop-i-init
@@ -26,7 +27,7 @@ returns-then-closes c =
     let t = c.loop-i-test in
     let r-closes = c.closes in
     let i1 = c.if-closes in
-    closes_here a.text.now a.at l.i l.invariant t.true (sym r-closes.ensures ∙ i1.true)
+    length_some _ _ (omega arith) (closes_here a.text.now a.at l.i l.invariant t.true (sym r-closes.ensures ∙ i1.true))
 
 pub returns-then-text-i-ge128 : goal.returns-then-text-i-ge128
 returns-then-text-i-ge128 c =
@@ -36,8 +37,8 @@ returns-then-text-i-ge128 c =
     let r-closes = c.closes in
     let i1 = c.if-closes in
     let i2 = c.if-text-i-ge128 in
-    closes-never a.text.now a.at l.i l.invariant (closing-stops a.text.now l.i t.true (sym r-closes.ensures
-    ∙ i1.false) i2.true)
+    length_none _ (closes-never a.text.now a.at l.i l.invariant (closing-stops a.text.now l.i t.true (sym r-closes.ensures
+    ∙ i1.false) i2.true))
 
 pub loop-i-preserved : goal.loop-i-preserved
 loop-i-preserved c =
@@ -57,4 +58,4 @@ returns c =
     let a = c.args in
     let l = c.loop-i in
     let t = c.loop-i-test in
-    closes-never a.text.now a.at l.i l.invariant (closing-none a.text.now l.i t.false)
+    length_none _ (closes-never a.text.now a.at l.i l.invariant (closing-none a.text.now l.i t.false))

@@ -4,6 +4,7 @@ use native.Mathlib.Omega.{arith}
 use Rattle.verilog_tokens.specs.declared.Class.TheVariants.{Comment}
 use Rattle.verilog_tokens.proofs.Runs.{run-after, run_inside}
 use Rattle.verilog_tokens.proofs.Comments.{line-last, line-ended, line-broken}
+use Rattle.verilog_tokens.proofs.Lengths.{length_some, length_none}
 use Rattle.verilog_tokens.proofs.gaps.line_comment.Goals as goal
 
 pub overflow_sub-result : goal.overflow_sub-result
@@ -24,7 +25,7 @@ returns-then-text-end c =
     let a = c.args in
     let r-run-end = c.run_end-end in
     let i1 = c.if-text-end in
-    line-last a.text.now a.at _ r-run-end.ensures i1.true
+    length_some _ _ (omega arith) (line-last a.text.now a.at _ r-run-end.ensures i1.true)
 
 pub overflow_sub-result-then-is_newline : goal.overflow_sub-result-then-is_newline
 overflow_sub-result-then-is_newline c =
@@ -46,7 +47,7 @@ returns-then-is_newline c =
     let i1 = c.if-text-end in
     let r-is-newline = c.is_newline in
     let i2 = c.if-is_newline in
-    line-ended a.text.now a.at _ r-run-end.ensures i1.false (sym r-is-newline.ensures ∙ i2.true)
+    length_some _ _ (omega arith) (line-ended a.text.now a.at _ r-run-end.ensures i1.false (sym r-is-newline.ensures ∙ i2.true))
 
 pub returns : goal.returns
 returns c =
@@ -55,4 +56,4 @@ returns c =
     let i1 = c.if-text-end in
     let r-is-newline = c.is_newline in
     let i2 = c.if-is_newline in
-    line-broken a.text.now a.at _ r-run-end.ensures i1.false (sym r-is-newline.ensures ∙ i2.false)
+    length_none _ (line-broken a.text.now a.at _ r-run-end.ensures i1.false (sym r-is-newline.ensures ∙ i2.false))

@@ -1,5 +1,5 @@
 -- `verilog_tokens::numbers::shifted` meets its contract, row by row. Assumes nothing.
-use mathlib.Core.Path.{ap, ◌∙◌}
+use mathlib.Core.Path.{ap}
 use Prim.Native.Nat.{◌*◌, ◌+◌}
 use native.Mathlib.Omega.{arith}
 use Rattle.verilog_tokens.proofs.Digits.{shifted_none, shifted-more, product-few}
@@ -11,32 +11,20 @@ returns-then-b-eq95 c =
 
 pub overflow_mul-m : goal.overflow_mul-m
 overflow_mul-m c =
-    let r-wide = c.wide in
-    let r-byte = c.byte in
+    let a = c.args in
     let r-fits = c.ranges in
-    let h = product-few r-wide.result r-byte.result (omega (arith, r-wide.ensures, r-fits.n))
-    (omega (arith, r-byte.ensures, r-fits.radix)) in
+    let h = product-few a.n a.radix (omega (arith, r-fits.n)) (omega (arith, r-fits.radix)) in
     omega arith
 
 pub overflow_add-m : goal.overflow_add-m
 overflow_add-m c =
-    let r-wide = c.wide in
-    let r-byte = c.byte in
+    let a = c.args in
     let r-fits = c.ranges in
-    let r-byte2 = c.byte-2 in
-    let h = product-few r-wide.result r-byte.result (omega (arith, r-wide.ensures, r-fits.n))
-    (omega (arith, r-byte.ensures, r-fits.radix)) in
-    omega (arith, r-byte2.ensures)
+    let h = product-few a.n a.radix (omega (arith, r-fits.n)) (omega (arith, r-fits.radix)) in
+    omega (arith, c.digit_of.type_inv)
 
 pub returns : goal.returns
 returns c =
     let a = c.args in
     let i1 = c.if-b-eq95 in
-    let r-byte = c.byte in
-    let r-byte2 = c.byte-2 in
-    let r-wide = c.wide in
-    let r-digit-of = c.digit_of in
-    shifted-more a.radix a.n a.b _ i1.false (ap (λ x. x * r-byte.result + r-byte2.result) r-wide.ensures
-    ∙ ap (λ x. a.n * x + r-byte2.result) r-byte.ensures
-    ∙ ap (λ x. a.n * a.radix + x) (r-byte2.ensures
-    ∙ r-digit-of.ensures))
+    shifted-more a.radix a.n a.b _ i1.false (ap (λ x. a.n * a.radix + x) c.digit_of.ensures)
