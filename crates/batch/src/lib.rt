@@ -9,6 +9,7 @@ use state::State;
 
 // What `run_cycles` gives: how many instants were accepted and run to rest or to 65,535 choices; where it was stopped earlier,
 // the number that stopped it and whether it was the run after an instant that did; the state reached.
+// stays a record of its own, with a flag: specs/Cycles defines the call by it, apart from prepared_cycles
 #[derive(Clone, Copy)]
 pub struct Cycled {
     pub phases: usize,
@@ -33,12 +34,11 @@ fn refused_with(number: u8, state: State) -> Cycled
 fn told(c: prepared_cycles::Cycled) -> Cycled
     ensures { result ≡ told c }
 {
-    let state = c.state;
     Cycled {
         phases: c.phases,
         number: c.number,
         running: c.running,
-        state,
+        state: c.state,
     }
 }
 
@@ -46,7 +46,7 @@ fn told(c: prepared_cycles::Cycled) -> Cycled
 pub fn run_cycles(sheet: &[u8], st: State, user: u8, value: &[u32], unknown: &[u32]) -> Cycled
     ensures { result ≡ run_cycles sheet.now st user value.now unknown.now }
 {
-    let mut plan = [0u32; 25212];
+    let mut plan = [0u32; plan::WORDS];
     let read = prepared::prepare(sheet, &mut plan);
     if read.number != 0 {
         return refused_with(read.number, st);

@@ -13,6 +13,7 @@ pub struct Inputs {
 }
 
 // What a choice or an instant gives: 0 and the state that it leaves, or a refusal's number and the state that it got.
+// number stays a number: C hands it over (walbryts_choose), and a refusal has a state too (specs/Calls)
 #[derive(Clone, Copy)]
 pub struct Chosen {
     pub number: u8,

@@ -43,6 +43,7 @@ pub fn union(a: u32, b: u32) -> u32
 }
 
 // The place of the lowest mark, or 32 where none is up.
+// stays a number: its clause says `first`, which is 32 where none is up
 pub fn lowest(m: u32) -> usize
     ensures { result ≡ first (bits m) }
 {
@@ -61,10 +62,8 @@ pub fn flags(m: u32) -> [bool; 32]
     ensures { result ≡ bits m }
 {
     let mut out = [false; 32];
-    let mut i: usize = 0;
-    while i < 32 {
+    for i in 0..32 {
         out[i] = has(m, i);
-        i += 1;
     }
     out
 }
@@ -74,12 +73,10 @@ pub fn mask_of(flags: [bool; 32]) -> u32
     ensures { bits result ≡ flags }
 {
     let mut m: u32 = 0;
-    let mut i: usize = 0;
-    while i < 32 {
+    for i in 0..32 {
         if flags[i] {
             m = with(m, i);
         }
-        i += 1;
     }
     m
 }

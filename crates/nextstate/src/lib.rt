@@ -12,6 +12,7 @@ pub struct Registers {
 
 // What a cycle run gives: 0 and the registers, places and wires after the cycle, or a refusal's number, the registers and places
 // that it got, and wires all x.
+// number stays a number: C hands it over (walbryts_cycle), and a refusal has registers too
 #[derive(Clone, Copy)]
 pub struct Clocked {
     pub number: u8,

@@ -51,6 +51,24 @@ pub const GO: u32 = 3;
 
 pub const IFNOT: u32 = 4;
 
+// The kinds of nodes: the value of a variable, a constant, unknown bits, operators (of one operand from 11 on, of two from 13 on, by the
+// operator's number and 10), a choice, and a choice that waits for its condition alone.
+pub const VARIABLE: u32 = 0;
+
+pub const CONSTANT: u32 = 1;
+
+pub const UNKNOWN: u32 = 2;
+
+pub const OPERATORS: u32 = 10;
+
+pub const UNARY: u32 = 11;
+
+pub const BINARY: u32 = 13;
+
+pub const CHOICE: u32 = 20;
+
+pub const BRANCH: u32 = 40;
+
 // An expression: its nodes are those from `first` to `root`, whose cell gets its value. A variable's root is its own cell, before
 // `first`, and there are no nodes.
 #[derive(Clone, Copy)]
@@ -74,34 +92,19 @@ pub enum Instruction {
     Act(Action),
 }
 
-// A byte as a place.
-fn wide(b: u8) -> usize
-    ensures { result ≡ b }
-{
-    b as usize
-}
-
-// A word as a place.
-fn place(w: u32) -> usize
-    ensures { result ≡ w }
-{
-    w as usize
-}
-
 // A word as the number of a cell.
 pub fn slot(w: u32) -> usize
     ensures value { result ≡ slot_of w }
     ensures upper_bound { result < 4176 }
 {
-    if w < 4176 { place(w) } else { 0 }
+    if w < 4176 { w as usize } else { 0 }
 }
 
 // The low byte of a word.
 pub fn low(w: u32) -> u8
     ensures { result ≡ w % 256 }
 {
-    let b = w % 256;
-    b as u8
+    (w % 256) as u8
 }
 
 // A place as the number of a cell.
@@ -116,9 +119,8 @@ fn slot_at(n: usize) -> usize
 fn no_term() -> EdgeTerm
     ensures { result ≡ no_term }
 {
-    let none = Edge::Change;
     EdgeTerm {
-        edge: none,
+        edge: Edge::Change,
         variable: 0,
     }
 }
@@ -129,13 +131,10 @@ fn term_from(plan: &PlanTable, first: usize, count: u8, k: u8) -> EdgeTerm
     ensures { result ≡ term_from plan.now first count k }
 {
     if k < count {
-        let n = slot_at(first + wide(k));
-        let e = values::edge_of(low(plan[4 * n]));
-        let v = low(plan[4 * n + 1]);
-        EdgeTerm {
-            edge: e,
-            variable: v,
-        }
+        let n = slot_at(first + k as usize);
+        let edge = values::edge_of(low(plan[4 * n]));
+        let variable = low(plan[4 * n + 1]);
+        EdgeTerm { edge, variable }
     } else {
         no_term()
     }
@@ -174,23 +173,23 @@ pub fn fetch(plan: &PlanTable, thread: usize, place: u8) -> Instruction
     if 8 <= thread {
         return Instruction::Act(Action::Go(0));
     }
-    let at = CODE + 1024 * thread + 4 * wide(place);
+    let at = CODE + 1024 * thread + 4 * (place as usize);
     let kind = plan[at];
     let number = low(plan[at + 1]);
     let first = slot(plan[at + 2]);
     let root = slot(plan[at + 3]);
     let source = Expression { first, root };
     match kind {
-        0 => Instruction::Wait(terms_from(plan, first, number)),
-        1 => Instruction::Act(Action::Set {
+        WAIT => Instruction::Wait(terms_from(plan, first, number)),
+        SET => Instruction::Act(Action::Set {
             target: number,
             source,
         }),
-        2 => Instruction::Act(Action::Later {
+        LATER => Instruction::Act(Action::Later {
             target: number,
             source,
         }),
-        3 => Instruction::Act(Action::Go(number)),
+        GO => Instruction::Act(Action::Go(number)),
         _ => Instruction::Act(Action::IfNot {
             goal: number,
             condition: source,
@@ -205,7 +204,7 @@ pub fn term_count(plan: &PlanTable, thread: usize, place: u8) -> u8
     if 8 <= thread {
         return 0;
     }
-    low(plan[CODE + 1024 * thread + 4 * wide(place) + 1])
+    low(plan[CODE + 1024 * thread + 4 * (place as usize) + 1])
 }
 
 // Term `k` of the wait at a place of a thread, past the eight none.
@@ -218,7 +217,7 @@ pub fn term(plan: &PlanTable, thread: usize, place: u8, k: u8) -> EdgeTerm
     if 8 <= k {
         return no_term();
     }
-    let at = CODE + 1024 * thread + 4 * wide(place);
+    let at = CODE + 1024 * thread + 4 * (place as usize);
     let count = low(plan[at + 1]);
     let first = slot(plan[at + 2]);
     term_from(plan, first, count, k)
@@ -228,10 +227,7 @@ pub fn term(plan: &PlanTable, thread: usize, place: u8, k: u8) -> EdgeTerm
 pub fn waits(plan: &PlanTable, thread: usize, place: u8) -> bool
     ensures { result ≡ (plan_of plan.now).waits thread place }
 {
-    if 8 <= thread {
-        return false;
-    }
-    plan[CODE + 1024 * thread + 4 * wide(place)] == 0
+    thread < 8 && plan[CODE + 1024 * thread + 4 * (place as usize)] == WAIT
 }
 
 // The expression of a wire; past the last wire it is the clock.
@@ -283,30 +279,30 @@ pub fn size(plan: &PlanTable, i: usize) -> usize
     if 8 <= i {
         return 0;
     }
-    place(plan[SIZES + i])
+    plan[SIZES + i] as usize
 }
 
 // The counts.
 pub fn inputs(plan: &PlanTable) -> usize
     ensures { result ≡ (plan_of plan.now).inputs }
 {
-    wide(low(plan[COUNTS]))
+    low(plan[COUNTS]) as usize
 }
 
 pub fn registers(plan: &PlanTable) -> usize
     ensures { result ≡ (plan_of plan.now).registers }
 {
-    wide(low(plan[COUNTS + 1]))
+    low(plan[COUNTS + 1]) as usize
 }
 
 pub fn wires(plan: &PlanTable) -> usize
     ensures { result ≡ (plan_of plan.now).wires }
 {
-    wide(low(plan[COUNTS + 2]))
+    low(plan[COUNTS + 2]) as usize
 }
 
 pub fn threads(plan: &PlanTable) -> usize
     ensures { result ≡ (plan_of plan.now).threads }
 {
-    wide(low(plan[COUNTS + 3]))
+    low(plan[COUNTS + 3]) as usize
 }

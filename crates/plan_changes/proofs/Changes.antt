@@ -1,13 +1,14 @@
 -- Laws of a change, one step more of each count, and the bound of eight. Assumes nothing.
 use mathlib.Core.Path.{◌≡◌, refl, ap}
-use Prim.Native.Nat.{ℕ, ◌+◌, ◌≤◌, ◌<◌}
+use Prim.Native.Nat.{ℕ, min, ◌+◌, ◌≤◌, ◌<◌}
 use native.Mathlib.Omega.{arith}
+use Rattle.std.proofs.Math.Nat.{min-eq_left, min-eq_right}
 use native.Mathlib.Numerals.{add-one}
 use mathlib.Core.Bool.{Bool, true, false, ◌||◌}
 use mathlib.Core.List.{List}
 use lib.Dec.{ltb, eqb}
 use lib.ListN.{get_or, set}
-use borrow.Author.Tests.{lt-ltb, le-ltb, ltb-true}
+use borrow.Author.Tests.{lt-ltb, le-ltb, ltb-true, ltb-false}
 use Rattle.values.specs.declared.Value.{Value}
 use Rattle.values.specs.Values.{pick, same}
 use Rattle.values.specs.Cells.{cell_of, value_of, cell_at}
@@ -31,6 +32,14 @@ eight-most n = by (ltb n 8) refl
     by : (t : Bool) → ltb n 8 ≡ t → pick t n 8 ≤ 8
     by true e = omega (arith, ltb-true n 8 e)
     by false e = omega arith
+
+pub min-eight : (n : ℕ) → min n 8 ≡ eight n
+unfolding eight
+min-eight n = by (ltb n 8) refl
+  where
+    by : (t : Bool) → ltb n 8 ≡ t → min n 8 ≡ pick t n 8
+    by true e = let h = ltb-true n 8 e in min-eq_left (omega arith)
+    by false e = min-eq_right (ltb-false n 8 e)
 
 -- ---- one more
 

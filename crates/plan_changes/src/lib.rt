@@ -9,7 +9,7 @@ ghost use Rattle.events.specs.Cycle.{any_below};
 ghost use Rattle.values.specs.Cells.{value_of};
 ghost use Rattle.plan.specs.Plan.{plan_of};
 ghost use Rattle.plan_changes.specs.Scene.{stand, changing, scene};
-ghost use Rattle.plan_changes.specs.Changes.{eight, term_wakes, wakes, wake_thread, wake, put, after, placed, move_thread, move, store};
+ghost use Rattle.plan_changes.specs.Changes.{term_wakes, wakes, wake_thread, wake, put, after, placed, move_thread, move, store};
 
 use plan::{Cells, PlanTable};
 
@@ -28,27 +28,6 @@ pub struct Marks {
     pub held: u32,
 }
 
-// A byte as a place.
-fn wide(b: u8) -> usize
-    ensures { result ≡ b }
-{
-    b as usize
-}
-
-// At most eight terms of a wait.
-fn eight(n: u8) -> u8
-    ensures { result ≡ eight n }
-{
-    if n < 8 { n } else { 8 }
-}
-
-// At most eight threads.
-fn eight_threads(n: usize) -> usize
-    ensures { result ≡ eight n }
-{
-    if n < 8 { n } else { 8 }
-}
-
 // The next place of a thread; there is none after 255.
 pub fn after(p: u8) -> u8
     ensures { result ≡ after p }
@@ -61,12 +40,7 @@ fn term_wakes(plan: &PlanTable, i: usize, p: u8, k: u8, v: usize, old: u64, new:
     ensures { result ≡ term_wakes ((plan_of plan.now).terms i p) v (value_of old) (value_of new) k }
 {
     let t = plan::term(plan, i, p, k);
-    if wide(t.variable) == v {
-        let e = t.edge;
-        values::fires_cells(e, old, new)
-    } else {
-        false
-    }
+    t.variable as usize == v && values::fires_cells(t.edge, old, new)
 }
 
 // Does one of its first `count` terms fire?
@@ -74,12 +48,10 @@ fn terms_wake(plan: &PlanTable, i: usize, p: u8, count: u8, v: usize, old: u64, 
     ensures { result
         ≡ any_below count (term_wakes ((plan_of plan.now).terms i p) v (value_of old) (value_of new)) }
 {
-    let mut k: u8 = 0;
-    while k < count {
+    for k in 0u8..count {
         if term_wakes(plan, i, p, k, v, old, new) {
             return true;
         }
-        k += 1;
     }
     false
 }
@@ -88,11 +60,8 @@ fn terms_wake(plan: &PlanTable, i: usize, p: u8, count: u8, v: usize, old: u64, 
 fn wakes(plan: &PlanTable, i: usize, p: u8, v: usize, old: u64, new: u64) -> bool
     ensures { result ≡ wakes ((plan_of plan.now).instruction i p) v (value_of old) (value_of new) }
 {
-    if !plan::waits(plan, i, p) {
-        return false;
-    }
-    let count = eight(plan::term_count(plan, i, p));
-    terms_wake(plan, i, p, count, v, old, new)
+    plan::waits(plan, i, p)
+        && terms_wake(plan, i, p, plan::term_count(plan, i, p).min(8), v, old, new)
 }
 
 // Thread `i` is woken where it watches the variable and its wait fires.
@@ -110,12 +79,8 @@ fn wake_thread(
         ≡ wake_thread (plan_of plan.now) places.now v (value_of old) (value_of new) i (bits woken) }
 {
     let watchers = plan::watchers(plan, v);
-    if masks::has(watchers, i) {
-        if wakes(plan, i, places[i], v, old, new) {
-            masks::with(woken, i)
-        } else {
-            woken
-        }
+    if masks::has(watchers, i) && wakes(plan, i, places[i], v, old, new) {
+        masks::with(woken, i)
     } else {
         woken
     }
@@ -130,12 +95,10 @@ fn wake(plan: &PlanTable, places: &[u8; 8], woken: u32, v: usize, old: u64, new:
     if !masks::any(watchers) {
         return woken;
     }
-    let n = eight_threads(plan::threads(plan));
+    let n = plan::threads(plan).min(8);
     let mut marks = woken;
-    let mut i: usize = 0;
-    while i < n {
+    for i in 0..n {
         marks = wake_thread(plan, places, marks, v, old, new, i);
-        i += 1;
     }
     marks
 }
@@ -164,10 +127,7 @@ pub fn put(
     }
     let due = masks::union(made.due, plan::readers(plan, v));
     if !masks::any(plan::watchers(plan, v)) {
-        return Made {
-            due,
-            woken: made.woken,
-        };
+        return Made { due, ..made };
     }
     let woken = wake(plan, places, made.woken, v, old, c);
     Made { due, woken }
@@ -211,12 +171,10 @@ pub fn move_on(plan: &PlanTable, places: &mut [u8; 8], ready: u32, woken: u32) -
     if !masks::any(woken) {
         return ready;
     }
-    let n = eight_threads(plan::threads(plan));
+    let n = plan::threads(plan).min(8);
     let mut marks = ready;
-    let mut i: usize = 0;
-    while i < n {
+    for i in 0..n {
         marks = move_thread(plan, places, marks, woken, i);
-        i += 1;
     }
     marks
 }
@@ -245,17 +203,13 @@ pub fn store(
     }
     let due = masks::union(marks.due, plan::readers(plan, v));
     if !masks::any(plan::watchers(plan, v)) {
-        return Marks {
-            due,
-            ready: marks.ready,
-            held: marks.held,
-        };
+        return Marks { due, ..marks };
     }
     let woken = wake(plan, places, 0, v, old, c);
     let ready = move_on(plan, places, marks.ready, woken);
     Marks {
         due,
         ready,
-        held: marks.held,
+        ..marks
     }
 }

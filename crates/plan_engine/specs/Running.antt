@@ -1,5 +1,7 @@
 -- Runs on a plan: over a list of choices, and the plain run.
 use Rattle.std.specs.Prelude.{ℕ, zero, suc, ◌+◌, ◌-◌, Bool, true, ◌||◌, List, [], ◌∷◌, ltb, eqb}
+use Rattle.std.specs.declared.option.Option.{Option}
+use Rattle.std.specs.declared.option.Option.TheVariants.{Some, None}
 use Rattle.values.specs.Values.{pick}
 use Rattle.masks.specs.Masks.{first, any_mark}
 use Rattle.plan.specs.Plan.{Plan}
@@ -44,6 +46,11 @@ run_plain q (suc n) room l =
     pick (busy l)
     (onward (take_choice q room (plain_choice q l) l) (run_plain q n (room - 1) (take_choice q room (plain_choice q l) l).left))
     (run 0 0 l)
+
+-- The number of a turn's choice: that of one that is given, else one past every item's.
+abbrev pub given : Option ℕ → ℕ
+given None = 65536
+given (Some c) = c
 
 -- ---- turns: at most n of them, each with the choice that is given, or with the plain one where its number is past every item's
 

@@ -3,7 +3,7 @@
 // is left is asked.
 #![tactic(auto)]
 
-ghost use Rattle.std.specs.Prelude.{◌≡◌, List, ℕ, ◌<◌, ◌-◌};
+ghost use Rattle.std.specs.Prelude.{◌≡◌, List, ℕ, ◌<◌, ◌-◌, IfSome};
 ghost use Rattle.values.specs.Planes.{value_at};
 ghost use Rattle.masks.specs.Masks.{bits};
 ghost use Rattle.plan.specs.Plan.{plan_of};
@@ -11,16 +11,17 @@ ghost use Rattle.plan_changes.specs.Scene.{changing, scene};
 ghost use Rattle.plan_changes.specs.Changes.{opened};
 ghost use Rattle.plan_engine.specs.Live.{live, root_of, evaluate, worth};
 ghost use Rattle.plan_engine.specs.Acting.{pending_with, held_with, leg, act, settle, put_register, put_pending, commit, put_inputs, feed};
-ghost use Rattle.plan_engine.specs.Running.{run, busy, plain_choice, turns_on, turn_choice, turns, run_list, run_plain};
+ghost use Rattle.plan_engine.specs.Running.{run, busy, plain_choice, given, turns_on, turn_choice, turns, run_list, run_plain};
 ghost use Rattle.plan_engine.specs.Taking.{taken, take_thread, take_wire, take_commit, take_choice};
 
 use plan::{Action, Cells, Expression, Instruction, PlanTable};
 use plan_changes::{Made, Marks};
 
-// The number that stands for the plain choice, past the number of every item.
-const PLAIN: usize = 65536;
+// No item has this number or a higher one.
+const ITEMS: usize = 65536;
 
 // What a choice leaves: 0, or the number that refuses it, and the marks.
+// stays a number: C hands it over (walbryts_plan_choose), and a refusal leaves marks too
 #[derive(Clone, Copy)]
 pub struct Taken {
     pub number: u8,
@@ -41,13 +42,6 @@ pub struct PlainRun {
     pub accepted: u16,
     pub number: u8,
     pub marks: Marks,
-}
-
-// A byte as a place.
-fn wide(b: u8) -> usize
-    ensures { result ≡ b }
-{
-    b as usize
 }
 
 // The cell of an expression's value.
@@ -83,9 +77,7 @@ fn leg(c: u64, p: u8, goal: u8) -> u8
 fn register_of(plan: &PlanTable, v: u8) -> usize
     ensures { result ≡ v - (plan_of plan.now).inputs }
 {
-    let i = wide(v);
-    let first = plan::inputs(plan);
-    if i < first { 0 } else { i - first }
+    (v as usize).saturating_sub(plan::inputs(plan))
 }
 
 // A later assignment: the cell is held for the commit. Gives the registers that hold one.
@@ -119,40 +111,28 @@ fn act(
     match action {
         Action::Set { target, source } => {
             let c = evaluate(plan, cells, source);
-            let m = plan_changes::store(plan, cells, places, marks, wide(target), c);
+            let m = plan_changes::store(plan, cells, places, marks, target as usize, c);
             let ready = plan_changes::go_to(plan, places, m.ready, i, plan_changes::after(p));
-            Marks {
-                due: m.due,
-                ready,
-                held: m.held,
-            }
+            Marks { ready, ..m }
         }
         Action::Later { target, source } => {
             let c = evaluate(plan, cells, source);
             let held = defer(plan, pending, marks.held, target, c);
             let ready = plan_changes::go_to(plan, places, marks.ready, i, plan_changes::after(p));
             Marks {
-                due: marks.due,
                 ready,
                 held,
+                ..marks
             }
         }
         Action::Go(goal) => {
             let ready = plan_changes::go_to(plan, places, marks.ready, i, goal);
-            Marks {
-                due: marks.due,
-                ready,
-                held: marks.held,
-            }
+            Marks { ready, ..marks }
         }
         Action::IfNot { goal, condition } => {
             let c = evaluate(plan, cells, condition);
             let ready = plan_changes::go_to(plan, places, marks.ready, i, leg(c, p, goal));
-            Marks {
-                due: marks.due,
-                ready,
-                held: marks.held,
-            }
+            Marks { ready, ..marks }
         }
     }
 }
@@ -175,8 +155,7 @@ fn settle(
     let c = evaluate(plan, cells, e);
     let cleared = Marks {
         due: masks::without(marks.due, k),
-        ready: marks.ready,
-        held: marks.held,
+        ..marks
     };
     let v = plan::inputs(plan) + plan::registers(plan) + k;
     plan_changes::store(plan, cells, places, cleared, v, c)
@@ -222,10 +201,8 @@ fn put_pending<'a>(
 {
     let registers = plan::registers(plan);
     let mut made = Made { due, woken: 0 };
-    let mut n: usize = 0;
-    while n < registers {
+    for n in 0..registers {
         made = put_register(plan, cells, pending, places, held, made, n);
-        n += 1;
     }
     made
 }
@@ -267,11 +244,9 @@ fn put_inputs<'a>(
 {
     let inputs = plan::inputs(plan);
     let mut made = Made { due, woken: 0 };
-    let mut n: usize = 0;
-    while n < inputs {
+    for n in 0..inputs {
         let c = values::store(values::value_at(value, unknown, n));
         made = plan_changes::put(plan, cells, places, made, n, c);
-        n += 1;
     }
     made
 }
@@ -295,7 +270,7 @@ pub fn feed<'a>(
     Marks {
         due: made.due,
         ready,
-        held: marks.held,
+        ..marks
     }
 }
 
@@ -323,11 +298,8 @@ pub fn take_thread(
     if room == 0 {
         return Taken { number: 47, marks };
     }
-    let m = act(plan, cells, pending, places, marks, i, p, action);
-    Taken {
-        number: 0,
-        marks: m,
-    }
+    let marks = act(plan, cells, pending, places, marks, i, p, action);
+    Taken { number: 0, marks }
 }
 
 // A choice of wire `k`: refused where it isn't due.
@@ -350,14 +322,12 @@ pub fn take_wire(
     if room == 0 {
         return Taken { number: 47, marks };
     }
-    let m = settle(plan, cells, places, marks, k);
-    Taken {
-        number: 0,
-        marks: m,
-    }
+    let marks = settle(plan, cells, places, marks, k);
+    Taken { number: 0, marks }
 }
 
 // A choice of the commit: refused while an item is enabled, or where nothing is held.
+// stays test by test: with the first two as one its proof didn't close
 pub fn take_commit(
     plan: &PlanTable,
     cells: &mut Cells,
@@ -382,11 +352,8 @@ pub fn take_commit(
     if room == 0 {
         return Taken { number: 47, marks };
     }
-    let m = commit(plan, cells, pending, places, marks);
-    Taken {
-        number: 0,
-        marks: m,
-    }
+    let marks = commit(plan, cells, pending, places, marks);
+    Taken { number: 0, marks }
 }
 
 // A choice: the threads by their numbers, then the wires; 255 is the commit. `room` is how many choices may still be accepted.
@@ -418,6 +385,7 @@ fn take(
 }
 
 // Is something enabled or held?
+// stays test by test: as one expression its proof didn't close
 pub fn busy(marks: Marks) -> bool
     ensures { (cs ns ps : List ℕ) → result ≡ busy (live cs ns ps marks) }
 {
@@ -444,45 +412,47 @@ pub fn plain_choice(plan: &PlanTable, marks: Marks) -> usize
 }
 
 // Is there a turn? A choice that is given is taken in any case.
-fn turns_on(c: usize, marks: Marks) -> bool
-    ensures { (cs ns ps : List ℕ) → result ≡ turns_on c (live cs ns ps marks) }
+fn turns_on(c: Option<usize>, marks: Marks) -> bool
+    requires { IfSome c (λ n. n < 65536) }
+    ensures { (cs ns ps : List ℕ) → result ≡ turns_on (given c) (live cs ns ps marks) }
 {
-    if c < PLAIN {
-        return true;
+    match c {
+        Some(_) => true,
+        None => busy(marks),
     }
-    busy(marks)
 }
 
 // The choice of a turn.
-fn turn_choice(plan: &PlanTable, c: usize, marks: Marks) -> usize
-    ensures { (cs ns ps : List ℕ) → result ≡ turn_choice (plan_of plan.now) c (live cs ns ps marks) }
+fn turn_choice(plan: &PlanTable, c: Option<usize>, marks: Marks) -> usize
+    requires { IfSome c (λ n. n < 65536) }
+    ensures { (cs ns ps : List ℕ) → result ≡ turn_choice (plan_of plan.now) (given c) (live cs ns ps marks) }
 {
-    if c < PLAIN {
-        return c;
+    match c {
+        Some(n) => n,
+        None => plain_choice(plan, marks),
     }
-    plain_choice(plan, marks)
 }
 
-// At most `limit` turns: the choice that is given, or at `PLAIN` the plain ones.
+// At most `limit` turns: the choice that is given, or else the plain ones.
 fn take_turns(
     plan: &PlanTable,
     cells: &mut Cells,
     pending: &mut [u64; 32],
     places: &mut [u8; 8],
     marks: Marks,
-    c: usize,
+    c: Option<usize>,
     limit: u16,
     room: u64,
 ) -> PlainRun
+    requires { IfSome c (λ n. n < 65536) }
     ensures { run result.accepted result.number
         (live cells.new pending.new places.new result.marks)
-        ≡ turns (plan_of plan.now) c limit room
+        ≡ turns (plan_of plan.now) (given c) limit room
         (live cells.old pending.old places.old marks) }
 {
     let mut m = marks;
     let mut left = room;
-    let mut i: u16 = 0;
-    while i < limit {
+    for i in 0u16..limit {
         if !turns_on(c, m) {
             return PlainRun {
                 accepted: i,
@@ -501,10 +471,9 @@ fn take_turns(
             };
         }
         left -= 1;
-        i += 1;
     }
     PlainRun {
-        accepted: i,
+        accepted: limit,
         number: 0,
         marks: m,
     }
@@ -524,14 +493,13 @@ pub fn take_choice(
         ≡ take_choice (plan_of plan.now) room c
         (live cells.old pending.old places.old marks) }
 {
-    if PLAIN <= c {
+    if ITEMS <= c {
         return Taken { number: 22, marks };
     }
-    let t = take_turns(plan, cells, pending, places, marks, c, 1, room);
-    let m = t.marks;
+    let t = take_turns(plan, cells, pending, places, marks, Some(c), 1, room);
     Taken {
         number: t.number,
-        marks: m,
+        marks: t.marks,
     }
 }
 
@@ -552,9 +520,8 @@ pub fn run_list(
 {
     let mut m = marks;
     let mut left = room;
-    let mut i: usize = 0;
-    while i < choices.len() {
-        let c = wide(choices[i]);
+    for i in 0..choices.len() {
+        let c = choices[i] as usize;
         let t = take_choice(plan, cells, pending, places, m, c, left);
         m = t.marks;
         if t.number != 0 {
@@ -565,10 +532,9 @@ pub fn run_list(
             };
         }
         left -= 1;
-        i += 1;
     }
     ListRun {
-        accepted: i,
+        accepted: choices.len(),
         number: 0,
         marks: m,
     }
@@ -589,5 +555,5 @@ pub fn run_plain(
         ≡ run_plain (plan_of plan.now) limit room
         (live cells.old pending.old places.old marks) }
 {
-    take_turns(plan, cells, pending, places, marks, PLAIN, limit, room)
+    take_turns(plan, cells, pending, places, marks, None, limit, room)
 }

@@ -2,10 +2,9 @@
 #![tactic(auto)]
 
 ghost use Rattle.std.specs.Prelude.{◌≡◌};
-ghost use Rattle.plan.specs.Plan.{plan_of};
 ghost use Rattle.plan_exprs.specs.Flatten.{put_node, more, emit, none, made, add_at};
 
-use plan::PlanTable;
+use plan::{CHOICE, CONSTANT, OPERATORS, PlanTable, UNKNOWN};
 use sheet::{byte_at, word_at};
 
 // The node that has an expression's value, the next free node, the expression's width, and the place after it.
@@ -15,27 +14,6 @@ pub struct Added {
     pub free: u32,
     pub width: u8,
     pub next: usize,
-}
-
-// A byte as a place.
-fn wide(b: u8) -> usize
-    ensures { result ≡ b }
-{
-    b as usize
-}
-
-// A byte as a word.
-fn widen(b: u8) -> u32
-    ensures { result ≡ b }
-{
-    b as u32
-}
-
-// A word as a place.
-fn index(w: u32) -> usize
-    ensures { result ≡ w }
-{
-    w as usize
 }
 
 // The number after a node's; there is none after the last cell's.
@@ -52,7 +30,7 @@ pub fn put_node(plan: &mut PlanTable, n: u32, kind: u32, a: u32, b: u32, c: u32)
     if 4176 <= n {
         return;
     }
-    let i = 4 * index(n);
+    let i = 4 * n as usize;
     plan[i] = kind;
     plan[i + 1] = a;
     plan[i + 2] = b;
@@ -81,13 +59,6 @@ fn emit(
     }
 }
 
-// The width of a variable.
-fn width_of(plan: &PlanTable, v: u8) -> u8
-    ensures { result ≡ (plan_of plan.now).width v }
-{
-    plan::width(plan, wide(v))
-}
-
 // Lays out the expression at a place as nodes from `free` on, with so many levels left.
 pub fn add_expr(sheet: &[u8], at: usize, depth: u8, free: u32, plan: &mut PlanTable) -> Added
     ensures { made result plan.new ≡ add_at depth sheet.now at free plan.old }
@@ -103,21 +74,30 @@ pub fn add_expr(sheet: &[u8], at: usize, depth: u8, free: u32, plan: &mut PlanTa
     let rest = at + 2;
     match map {
         0x02 => Added {
-            root: widen(field),
+            root: field as u32,
             free,
-            width: width_of(plan, field),
+            width: plan::width(plan, field as usize),
             next: rest,
         },
-        0x0C => emit(plan, free, 1, 0, word_at(sheet, rest), 0, field, at + 6),
+        0x0C => emit(
+            plan,
+            free,
+            CONSTANT,
+            0,
+            word_at(sheet, rest),
+            0,
+            field,
+            at + 6,
+        ),
         0x11 => {
             let a = add_expr(sheet, rest, depth - 1, free, plan);
             emit(
                 plan,
                 a.free,
-                10 + widen(field),
+                OPERATORS + field as u32,
                 a.root,
                 0,
-                widen(a.width),
+                a.width as u32,
                 values::unary_width(field, a.width),
                 a.next,
             )
@@ -128,10 +108,10 @@ pub fn add_expr(sheet: &[u8], at: usize, depth: u8, free: u32, plan: &mut PlanTa
             emit(
                 plan,
                 b.free,
-                10 + widen(field),
+                OPERATORS + field as u32,
                 a.root,
                 b.root,
-                widen(a.width),
+                a.width as u32,
                 values::binary_width(field, a.width),
                 b.next,
             )
@@ -140,9 +120,11 @@ pub fn add_expr(sheet: &[u8], at: usize, depth: u8, free: u32, plan: &mut PlanTa
             let c = add_expr(sheet, rest, depth - 1, free, plan);
             let a = add_expr(sheet, c.next, depth - 1, c.free, plan);
             let b = add_expr(sheet, a.next, depth - 1, a.free, plan);
-            emit(plan, b.free, 20, c.root, a.root, b.root, a.width, b.next)
+            emit(
+                plan, b.free, CHOICE, c.root, a.root, b.root, a.width, b.next,
+            )
         }
-        _ => emit(plan, free, 2, 0, 0, widen(field), field, rest),
+        _ => emit(plan, free, UNKNOWN, 0, 0, field as u32, field, rest),
     }
 }
 

@@ -3,7 +3,6 @@
 #![tactic(auto)]
 
 ghost use Rattle.std.specs.Prelude.{◌≡◌, ◌%◌, ◌<◌, ◌≤◌};
-ghost use Rattle.tables.specs.Readers.{at_most};
 ghost use Rattle.plan_fill.specs.Filling.{up_to, put_four, copy_word, put_width, watch_term, watch_instr, watch_place};
 ghost use Rattle.plan_fill.specs.Filling.{watch_thread, filling, fill_wire, put_term, fill_wait, fill_expr, fill_act};
 ghost use Rattle.plan_fill.specs.Filling.{fill_instr, fill_place, fill_thread, with_counts, with_widths, with_readers};
@@ -13,36 +12,6 @@ use plan::PlanTable;
 use plan_exprs::{add_expr, more, put_node};
 use pseudocode::{Action, EdgeTerms, Instruction};
 use sheet::{Layout, byte_at};
-use tables::at_most;
-
-// A byte as a place.
-fn wide(b: u8) -> usize
-    ensures { result ≡ b }
-{
-    b as usize
-}
-
-// A byte as a word.
-fn widen(b: u8) -> u32
-    ensures { result ≡ b }
-{
-    b as u32
-}
-
-// A goal as a word.
-fn goal_word(n: usize) -> u32
-    ensures { result ≡ n % 256 }
-{
-    let b = n % 256;
-    b as u32
-}
-
-// A thread's size as a word.
-fn size_word(n: usize) -> u32
-    ensures { result ≡ at_most 256 n }
-{
-    if n < 256 { n as u32 } else { 256 }
-}
 
 // Puts four words in a row.
 fn put_four(plan: &mut PlanTable, at: usize, k: u32, a: u32, b: u32, c: u32)
@@ -60,10 +29,8 @@ fn copy(table: &[u32; 80], base: usize, plan: &mut PlanTable)
     requires { base < 25120 }
     ensures { plan.new ≡ up_to (copy_word table.now base) 80 plan.old }
 {
-    let mut k: usize = 0;
-    while k < 80 {
+    for k in 0..80 {
         plan[base + k] = table[k];
-        k += 1;
     }
 }
 
@@ -74,10 +41,10 @@ fn fill_counts(layout: Layout, plan: &mut PlanTable)
     put_four(
         plan,
         plan::COUNTS,
-        widen(layout.inputs),
-        widen(layout.registers),
-        widen(layout.wires),
-        widen(layout.threads),
+        layout.inputs as u32,
+        layout.registers as u32,
+        layout.wires as u32,
+        layout.threads as u32,
     );
 }
 
@@ -87,10 +54,8 @@ fn put_widths(sheet: &[u8], at: usize, n: usize, plan: &mut PlanTable)
     requires n_bound { n ≤ 80 }
     ensures { plan.new ≡ up_to (put_width sheet.now at) n plan.old }
 {
-    let mut v: usize = 0;
-    while v < n {
-        plan[plan::WIDTHS + v] = widen(byte_at(sheet, at + v));
-        v += 1;
+    for v in 0..n {
+        plan[plan::WIDTHS + v] = byte_at(sheet, at + v) as u32;
     }
 }
 
@@ -98,8 +63,8 @@ fn put_widths(sheet: &[u8], at: usize, n: usize, plan: &mut PlanTable)
 fn fill_widths(sheet: &[u8], layout: Layout, plan: &mut PlanTable)
     ensures { plan.new ≡ with_widths sheet.now layout plan.old }
 {
-    let n = wide(layout.inputs) + wide(layout.registers) + wide(layout.wires);
-    put_widths(sheet, at_most(5, layout.widths), at_most(80, n), plan);
+    let n = layout.inputs as usize + layout.registers as usize + layout.wires as usize;
+    put_widths(sheet, layout.widths.min(5), n.min(80), plan);
 }
 
 // Puts each variable's readers.
@@ -122,11 +87,9 @@ fn fill_readers(sheet: &[u8], layout: Layout, plan: &mut PlanTable)
 fn watch_terms(t: EdgeTerms, n: u8, i: usize, watchers: &mut [u32; 80])
     ensures { watchers.new ≡ up_to (watch_term i t) n watchers.old }
 {
-    let mut k: u8 = 0;
-    while k < n {
+    for k in 0u8..n {
         let term = pseudocode::term_at(t, k);
         tables::mark_variable(i, term.variable, watchers);
-        k += 1;
     }
 }
 
@@ -144,10 +107,8 @@ fn watch_instr(x: Instruction, i: usize, watchers: &mut [u32; 80])
 fn watch_thread(sheet: &[u8], code: &[u16; 4096], i: usize, n: usize, watchers: &mut [u32; 80])
     ensures { watchers.new ≡ up_to (watch_place sheet.now code.now i) n watchers.old }
 {
-    let mut p: usize = 0;
-    while p < n {
+    for p in 0..n {
         watch_instr(pseudocode::fetch(sheet, code, i, p), i, watchers);
-        p += 1;
     }
 }
 
@@ -163,10 +124,8 @@ fn watch_threads(
     ensures { watchers.new
         ≡ up_to (watch_thread sheet.now code.now sizes.now) n watchers.old }
 {
-    let mut i: usize = 0;
-    while i < n {
-        watch_thread(sheet, code, i, at_most(256, sizes[i]), watchers);
-        i += 1;
+    for i in 0..n {
+        watch_thread(sheet, code, i, sizes[i].min(256), watchers);
     }
 }
 
@@ -191,10 +150,8 @@ fn fill_watchers(
 fn fill_sizes(sizes: &[usize; 8], plan: &mut PlanTable)
     ensures { plan.new ≡ with_sizes sizes.now plan.old }
 {
-    let mut i: usize = 0;
-    while i < 8 {
-        plan[plan::SIZES + i] = size_word(sizes[i]);
-        i += 1;
+    for i in 0..8 {
+        plan[plan::SIZES + i] = sizes[i].min(256) as u32;
     }
 }
 
@@ -218,10 +175,8 @@ fn fill_wires(sheet: &[u8], starts: &[usize; 32], n: usize, plan: &mut PlanTable
         ≡ up_to (fill_wire sheet.now starts.now) n (filling 80 plan.old) }
 {
     let mut free: u32 = 80;
-    let mut k: usize = 0;
-    while k < n {
+    for k in 0..n {
         free = fill_wire(sheet, starts, k, free, plan);
-        k += 1;
     }
     free
 }
@@ -231,20 +186,17 @@ fn put_terms(t: EdgeTerms, n: u8, first: u32, plan: &mut PlanTable) -> u32
     ensures { filling result plan.new ≡ up_to (put_term t) n (filling first plan.old) }
 {
     let mut free = first;
-    let mut k: u8 = 0;
-    while k < n {
+    for k in 0u8..n {
         let term = pseudocode::term_at(t, k);
-        let edge = term.edge;
         put_node(
             plan,
             free,
-            widen(values::edge_number(edge)),
-            widen(term.variable),
+            values::edge_number(term.edge) as u32,
+            term.variable as u32,
             0,
             0,
         );
         free = more(free);
-        k += 1;
     }
     free
 }
@@ -255,7 +207,7 @@ fn fill_wait(t: EdgeTerms, at: usize, free: u32, plan: &mut PlanTable) -> u32
     ensures { filling result plan.new ≡ fill_wait t at (filling free plan.old) }
 {
     let next = put_terms(t, tables::term_count(t.count), free, plan);
-    put_four(plan, at, plan::WAIT, widen(t.count), free, 0);
+    put_four(plan, at, plan::WAIT, t.count as u32, free, 0);
     next
 }
 
@@ -283,7 +235,7 @@ fn fill_go(goal: usize, at: usize, free: u32, plan: &mut PlanTable) -> u32
     requires { at < 25209 }
     ensures { filling result plan.new ≡ filling free (put_four at 3 (goal % 256) 0 0 plan.old) }
 {
-    put_four(plan, at, plan::GO, goal_word(goal), 0, 0);
+    put_four(plan, at, plan::GO, (goal % 256) as u32, 0, 0);
     free
 }
 
@@ -294,14 +246,14 @@ fn fill_act(sheet: &[u8], a: Action, at: usize, free: u32, plan: &mut PlanTable)
 {
     match a {
         Action::Set { target, at: p } => {
-            fill_expr(sheet, p, plan::SET, widen(target), at, free, plan)
+            fill_expr(sheet, p, plan::SET, target as u32, at, free, plan)
         }
         Action::Later { target, at: p } => {
-            fill_expr(sheet, p, plan::LATER, widen(target), at, free, plan)
+            fill_expr(sheet, p, plan::LATER, target as u32, at, free, plan)
         }
         Action::Go(g) => fill_go(g, at, free, plan),
         Action::IfNot { goal, at: p } => {
-            fill_expr(sheet, p, plan::IFNOT, goal_word(goal), at, free, plan)
+            fill_expr(sheet, p, plan::IFNOT, (goal % 256) as u32, at, free, plan)
         }
     }
 }
@@ -332,11 +284,9 @@ fn fill_thread(
         ≡ up_to (fill_place sheet.now code.now i) n (filling first plan.old) }
 {
     let mut free = first;
-    let mut p: usize = 0;
-    while p < n {
+    for p in 0..n {
         let at = plan::CODE + 1024 * i + 4 * p;
         free = fill_instr(sheet, pseudocode::fetch(sheet, code, i, p), at, free, plan);
-        p += 1;
     }
     free
 }
@@ -355,10 +305,8 @@ fn fill_threads(
         ≡ up_to (fill_thread sheet.now code.now sizes.now) n (filling first plan.old) }
 {
     let mut free = first;
-    let mut i: usize = 0;
-    while i < n {
-        free = fill_thread(sheet, code, i, at_most(256, sizes[i]), free, plan);
-        i += 1;
+    for i in 0..n {
+        free = fill_thread(sheet, code, i, sizes[i].min(256), free, plan);
     }
     free
 }
@@ -375,12 +323,12 @@ pub fn fill(sheet: &[u8], layout: Layout, plan: &mut PlanTable)
         layout.body,
         &mut code,
     );
-    let threads = at_most(8, wide(layout.threads));
+    let threads = (layout.threads as usize).min(8);
     fill_counts(layout, plan);
     fill_widths(sheet, layout, plan);
     fill_readers(sheet, layout, plan);
     fill_watchers(sheet, &code, &sizes, threads, plan);
     fill_sizes(&sizes, plan);
-    let free = fill_wires(sheet, &layout.starts, at_most(32, wide(layout.wires)), plan);
+    let free = fill_wires(sheet, &layout.starts, (layout.wires as usize).min(32), plan);
     fill_threads(sheet, &code, &sizes, threads, free, plan);
 }

@@ -17,18 +17,11 @@ use sheet::byte_at;
 use state::{Counters, State};
 use values::{Value, fits, value_at};
 
-// A byte as a number of places.
-fn wide(b: u8) -> usize
-    ensures { result ≡ b }
-{
-    b as usize
-}
-
 // The flag at a place, down past the end.
 fn flag_at(flags: &[bool], at: usize) -> bool
     ensures { result ≡ get_or flags.now at false }
 {
-    if at < flags.len() { flags[at] } else { false }
+    at < flags.len() && flags[at]
 }
 
 // Do the first `n` values fit their widths?
@@ -36,12 +29,10 @@ fn values_fit<'a>(plan: &PlanTable, n: usize, value: &'a [u32], unknown: &'a [u3
     ensures { result ≡ all_below n
         (λ v. fits ((plan_of plan.now).width v) (value_at value.now unknown.now v)) }
 {
-    let mut v: usize = 0;
-    while v < n {
+    for v in 0..n {
         if !fits(plan::width(plan, v), value_at(value, unknown, v)) {
             return false;
         }
-        v += 1;
     }
     true
 }
@@ -50,7 +41,7 @@ fn values_fit<'a>(plan: &PlanTable, n: usize, value: &'a [u32], unknown: &'a [u3
 fn slot_fits(width: u8, held: bool, a: Value) -> bool
     ensures { result ≡ pending_fits width (pick held (some a) none) }
 {
-    if held { fits(width, a) } else { true }
+    !held || fits(width, a)
 }
 
 // Do the pending values of the registers fit the registers' widths?
@@ -59,15 +50,13 @@ fn slots_fit(plan: &PlanTable, st: State) -> bool
 {
     let from = plan::inputs(plan);
     let n = plan::registers(plan);
-    let mut r: usize = 0;
-    while r < n {
+    for r in 0..n {
         let width = plan::width(plan, from + r);
         let held = flag_at(&st.held, r);
         let a = value_at(&st.pending, &st.unsure, r);
         if !slot_fits(width, held, a) {
             return false;
         }
-        r += 1;
     }
     true
 }
@@ -77,12 +66,10 @@ fn places_fit(plan: &PlanTable, places: &[u8]) -> bool
     ensures { result ≡ places_fit (plan_of plan.now) places.now }
 {
     let n = plan::threads(plan);
-    let mut i: usize = 0;
-    while i < n {
-        if plan::size(plan, i) <= wide(byte_at(places, i)) {
+    for i in 0..n {
+        if plan::size(plan, i) <= byte_at(places, i) as usize {
             return false;
         }
-        i += 1;
     }
     true
 }
@@ -91,12 +78,10 @@ fn places_fit(plan: &PlanTable, places: &[u8]) -> bool
 fn none_past(flags: &[bool; 32], n: usize) -> bool
     ensures { result ≡ none_past flags.now n }
 {
-    let mut k = n;
-    while k < 32 {
+    for k in n..32 {
         if flags[k] {
             return false;
         }
-        k += 1;
     }
     true
 }
@@ -105,12 +90,10 @@ fn none_past(flags: &[bool; 32], n: usize) -> bool
 fn counts_fit(c: Counters) -> bool
     ensures { result ≡ counts_fit c }
 {
-    let mut u: usize = 0;
-    while u < 4 {
+    for u in 0..4 {
         if c.counts[u] > c.allowances[u] as u64 {
             return false;
         }
-        u += 1;
     }
     true
 }
@@ -135,8 +118,7 @@ pub fn state_fits(plan: &PlanTable, st: State) -> bool
     if !none_past(&st.held, plan::registers(plan)) {
         return false;
     }
-    let counters = st.counters;
-    counts_fit(counters)
+    counts_fit(st.counters)
 }
 
 // 25: are the inputs as many as the plan's, and does each fit its width?
@@ -144,8 +126,5 @@ pub fn inputs_fit(plan: &PlanTable, a: Inputs) -> bool
     ensures { result ≡ plan_inputs_fit (plan_of plan.now) a }
 {
     let n = plan::inputs(plan);
-    if wide(a.count) != n {
-        return false;
-    }
-    values_fit(plan, n, &a.value, &a.unknown)
+    a.count as usize == n && values_fit(plan, n, &a.value, &a.unknown)
 }

@@ -6,41 +6,41 @@ ghost use Rattle.values.specs.Cells.{cell_of, cell_at};
 ghost use Rattle.plan.specs.Plan.{node, plan_of};
 ghost use Rattle.plan_nodes.specs.Nodes.{leaf_of, worth_of, work_node, work};
 
-use plan::{Cells, PlanTable, low, slot};
+use plan::{
+    BINARY, BRANCH, CHOICE, CONSTANT, Cells, OPERATORS, PlanTable, UNARY, VARIABLE, low, slot,
+};
 
 // What a node below the operators is worth, as a cell.
 fn leaf(cells: &Cells, kind: u32, a: u32, b: u32, c: u32) -> u64
     ensures { result ≡ cell_of (leaf_of (cell_at cells.now) (node kind a b c)) }
 {
-    if kind == 1 {
-        return b as u64;
+    match kind {
+        CONSTANT => b as u64,
+        VARIABLE => values::store(values::load(cells[slot(a)])),
+        _ => values::store(values::all_unknown(low(c))),
     }
-    if kind == 0 {
-        return values::store(values::load(cells[slot(a)]));
-    }
-    values::store(values::all_unknown(low(c)))
 }
 
 // What a node is worth, as a cell.
 fn worth(cells: &Cells, kind: u32, a: u32, b: u32, c: u32) -> u64
     ensures { result ≡ cell_of (worth_of (cell_at cells.now) (node kind a b c)) }
 {
-    if kind < 11 {
+    if kind < UNARY {
         return leaf(cells, kind, a, b, c);
     }
     let x = cells[slot(a)];
     let y = cells[slot(b)];
-    if kind < 13 {
-        return values::unary_cell(low(kind - 10), low(c), x);
+    if kind < BINARY {
+        return values::unary_cell(low(kind - OPERATORS), low(c), x);
     }
-    if kind < 20 {
-        return values::binary_cell(low(kind - 10), low(c), x, y);
+    if kind < CHOICE {
+        return values::binary_cell(low(kind - OPERATORS), low(c), x, y);
     }
     let z = cells[slot(c)];
-    if kind == 20 {
+    if kind == CHOICE {
         return values::choice_cell(x, y, z);
     }
-    if kind == 40 {
+    if kind == BRANCH {
         return values::branch_cell(x, y, z);
     }
     values::store(values::all_unknown(low(c)))
@@ -62,9 +62,7 @@ pub fn work(plan: &PlanTable, lo: usize, hi: usize, cells: &mut Cells)
     if 4176 < hi {
         return;
     }
-    let mut i = lo;
-    while i < hi {
+    for i in lo..hi {
         work_node(plan, i, cells);
-        i += 1;
     }
 }

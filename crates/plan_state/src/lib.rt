@@ -2,7 +2,7 @@
 // definition in specs/ for plans and states of any contents.
 #![tactic(auto)]
 
-ghost use Rattle.std.specs.Prelude.{◌≡◌, replicate};
+ghost use Rattle.std.specs.Prelude.{◌≡◌, ◌≤◌, length, replicate};
 ghost use Rattle.values.specs.Cells.{number_in, marks_in};
 ghost use Rattle.masks.specs.Masks.{bits};
 ghost use Rattle.plan.specs.Plan.{plan_of};
@@ -28,29 +28,37 @@ pub fn marked(n: u32, marks: u32) -> u64
 pub fn number_in(c: u64) -> u32
     ensures { result ≡ number_in c }
 {
-    let n = c % 4294967296;
-    n as u32
+    (c % 4294967296) as u32
 }
 
 // The marks that lie in a cell.
 pub fn marks_in(c: u64) -> u32
     ensures { result ≡ marks_in c }
 {
-    let u = c / 4294967296 % 4294967296;
-    u as u32
+    (c / 4294967296 % 4294967296) as u32
 }
 
 // ---- a state into cells and masks
+
+// The first cells from two planes.
+fn lay<'a, const N: usize, const M: usize>(
+    value: &'a [u32; N],
+    unknown: &'a [u32; N],
+    cells: &mut [u64; M],
+)
+    requires { N ≤ M }
+    ensures { cells.new ≡ cells_below value.now unknown.now N cells.old }
+{
+    for v in 0..N {
+        cells[v] = marked(value[v], unknown[v]);
+    }
+}
 
 // The variables' cells from a state's values.
 pub fn fill_cells<'a>(value: &'a [u32; 80], unknown: &'a [u32; 80], cells: &mut Cells)
     ensures { cells.new ≡ cells_below value.now unknown.now 80 cells.old }
 {
-    let mut v: usize = 0;
-    while v < 80 {
-        cells[v] = marked(value[v], unknown[v]);
-        v += 1;
-    }
+    lay::<80, 4176>(value, unknown, cells);
 }
 
 // The registers' cells from a state's pending values.
@@ -58,19 +66,8 @@ pub fn slots_of<'a>(pending: &'a [u32; 32], unsure: &'a [u32; 32]) -> [u64; 32]
     ensures { result ≡ cells_below pending.now unsure.now 32 (replicate 32 0) }
 {
     let mut slots = [0u64; 32];
-    let mut n: usize = 0;
-    while n < 32 {
-        slots[n] = marked(pending[n], unsure[n]);
-        n += 1;
-    }
+    lay::<32, 32>(pending, unsure, &mut slots);
     slots
-}
-
-// At most eight threads.
-fn eight(n: usize) -> usize
-    ensures { result ≡ eight n }
-{
-    if n < 8 { n } else { 8 }
 }
 
 // The threads that stand off a wait.
@@ -78,14 +75,12 @@ pub fn ready(plan: &PlanTable, places: &[u8; 8]) -> u32
     ensures { bits result
         ≡ ready_below (plan_of plan.now) places.now (eight (plan_of plan.now).threads) }
 {
-    let n = eight(plan::threads(plan));
+    let n = plan::threads(plan).min(8);
     let mut m: u32 = 0;
-    let mut i: usize = 0;
-    while i < n {
+    for i in 0..n {
         if !plan::waits(plan, i, places[i]) {
             m = masks::with(m, i);
         }
-        i += 1;
     }
     m
 }
@@ -103,54 +98,26 @@ pub fn unpack(plan: &PlanTable, st: State, cells: &mut Cells) -> Marks
 
 // ---- and back
 
-// The numbers of the variables' cells.
-fn numbers_in(cells: &Cells) -> [u32; 80]
-    ensures { result ≡ numbers_in cells.now 80 }
+// The numbers of the first cells.
+fn numbers_in<const N: usize>(cells: &[u64]) -> [u32; N]
+    requires { N ≤ length cells.now }
+    ensures { result ≡ numbers_in cells.now N }
 {
-    let mut a = [0u32; 80];
-    let mut v: usize = 0;
-    while v < 80 {
+    let mut a = [0u32; N];
+    for v in 0..N {
         a[v] = number_in(cells[v]);
-        v += 1;
     }
     a
 }
 
 // Their marks.
-fn unknowns_in(cells: &Cells) -> [u32; 80]
-    ensures { result ≡ unknowns_in cells.now 80 }
+fn unknowns_in<const N: usize>(cells: &[u64]) -> [u32; N]
+    requires { N ≤ length cells.now }
+    ensures { result ≡ unknowns_in cells.now N }
 {
-    let mut a = [0u32; 80];
-    let mut v: usize = 0;
-    while v < 80 {
+    let mut a = [0u32; N];
+    for v in 0..N {
         a[v] = marks_in(cells[v]);
-        v += 1;
-    }
-    a
-}
-
-// The numbers of the registers' cells.
-fn slot_numbers(pending: &[u64; 32]) -> [u32; 32]
-    ensures { result ≡ numbers_in pending.now 32 }
-{
-    let mut a = [0u32; 32];
-    let mut v: usize = 0;
-    while v < 32 {
-        a[v] = number_in(pending[v]);
-        v += 1;
-    }
-    a
-}
-
-// Their marks.
-fn slot_unknowns(pending: &[u64; 32]) -> [u32; 32]
-    ensures { result ≡ unknowns_in pending.now 32 }
-{
-    let mut a = [0u32; 32];
-    let mut v: usize = 0;
-    while v < 32 {
-        a[v] = marks_in(pending[v]);
-        v += 1;
     }
     a
 }
@@ -165,10 +132,10 @@ pub fn pack(
 ) -> State
     ensures { result ≡ packed (live cells.now pending.now places marks) counters }
 {
-    let value = numbers_in(cells);
-    let unknown = unknowns_in(cells);
-    let numbers = slot_numbers(pending);
-    let unsure = slot_unknowns(pending);
+    let value = numbers_in::<80>(cells);
+    let unknown = unknowns_in::<80>(cells);
+    let numbers = numbers_in::<32>(pending);
+    let unsure = unknowns_in::<32>(pending);
     let held = masks::flags(marks.held);
     let due = masks::flags(marks.due);
     State {

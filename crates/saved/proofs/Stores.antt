@@ -1,17 +1,27 @@
 -- The stores of `save`, part by part: what each puts into the buffer is a part of the saved form. Assumes nothing.
 use mathlib.Core.Path.{◌≡◌, refl, sym, ◌∙◌}
-use mathlib.Core.Bool.{Bool, false}
+use mathlib.Core.Bool.{Bool, true, false}
 use mathlib.Core.List.{List, ◌∷◌, ◌++◌}
-use Prim.Native.Nat.{ℕ, ◌+◌, ◌*◌, ◌/◌, ◌%◌}
-use native.Mathlib.Numerals.{add-one, add-two, add-three}
+use Prim.Native.Nat.{ℕ, ◌≤◌, ◌+◌, ◌*◌, ◌/◌, ◌%◌}
+use native.Mathlib.Numerals.{add-one}
 use native.Mathlib.Omega.{arith}
-use lib.ListN.{length, get_or, set, length-append}
-use lib.Seq.{sets}
+use mir.Val.{bool_byte}
+use lib.ListN.{length, get_or, set, take, drop, length-append}
+use Rattle.std.proofs.lemmas.List.{append_assoc}
+use lib.Seq.{sets, sets-eq, drop-drop}
+use borrow.Rule.Slice.PartMut.{put_mid}
 use Rattle.state.specs.declared.State.{State}
 use Rattle.state.specs.Rows.{rows}
 use Rattle.saved.specs.Saved.{flag_byte, word_bytes, long_bytes, value_row, slot_row, place_row, due_row}
 use Rattle.saved.specs.Saved.{value_bytes, slot_bytes, place_bytes, due_bytes, body, count_bytes, allowance_bytes, tail, saved}
 use Rattle.state.proofs.Rows.{sets-append, length-rows, rows_step}
+
+-- ---- a flag as a byte
+
+pub byte-flag : (b : Bool) → bool_byte b ≡ flag_byte b
+unfolding flag_byte
+byte-flag true = refl
+byte-flag false = refl
 
 -- ---- four bytes of a number
 
@@ -19,11 +29,11 @@ pub length-word : (n : ℕ) → length (word_bytes n) ≡ 4
 unfolding word_bytes
 length-word n = refl
 
-pub word-sets : (l : List ℕ) (at n : ℕ)
-    → set (set (set (set l at (n % 256)) (at + 1) (n / 256 % 256)) (at + 2) (n / 65536 % 256)) (at + 3) (n / 16777216 % 256)
-    ≡ sets l at (word_bytes n)
-unfolding word_bytes
-word-sets l at n = rw (add-one, add-two, add-three)
+part-sets : (l ys : List ℕ) (at k : ℕ) → length ys ≡ k → at + k ≤ length l → put_mid at k l ys ≡ sets l at ys
+part-sets l ys at k e h = rw (drop-drop k at l) (sym (rw e at (sets-eq ys l at (rw e h)) ∙ append_assoc (take at l) ys (drop (at + k) l)))
+
+pub word-placed : (l : List ℕ) (at n : ℕ) → at + 4 ≤ length l → put_mid at 4 l (word_bytes n) ≡ sets l at (word_bytes n)
+word-placed l at n h = part-sets l (word_bytes n) at 4 (length-word n) h
 
 -- ---- eight bytes of two numbers
 

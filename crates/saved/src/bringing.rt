@@ -13,6 +13,7 @@ use state::{Counters, State};
 use values::Value;
 
 // Are these bytes of an older form, with its number of bytes?
+// stays test by test: as one expression its proof didn't close
 fn is_older(form: u8, size: usize, bytes: &[u8]) -> bool
     ensures { result ≡ is_older form size bytes.now }
 {
@@ -44,54 +45,36 @@ fn older_value(width: u8, bytes: &[u8], at: usize) -> Value
     values::known(word_at(bytes, at + 1))
 }
 
-fn older_numbers(bytes: &[u8], widths: &[u8; 80]) -> [u32; 80]
-    ensures { result ≡ list_of 80 (λ v. number_of (older_value (get_or widths.now v 0) bytes.now (1 + 5 * v))) }
+// The numbers of N values of these widths, the first at a place, each so many bytes after the one before.
+fn older_numbers<const N: usize>(bytes: &[u8], widths: &[u8; N], at: usize, step: usize) -> [u32; N]
+    requires at_bound { at ≤ 402 }
+    requires step_bound { step ≤ 6 }
+    requires n_bound { N ≤ 80 }
+    ensures { result ≡ list_of N (λ k. number_of (older_value (get_or widths.now k 0) bytes.now (at + step * k))) }
 {
-    let mut a = [0u32; 80];
-    let mut v = 0;
-    while v < 80 {
-        let x = older_value(widths[v], bytes, 1 + 5 * v);
+    let mut a = [0u32; N];
+    let mut p = at;
+    for v in 0..N {
+        let x = older_value(widths[v], bytes, p);
         a[v] = values::number_of(x);
-        v += 1;
+        p += step;
     }
     a
 }
 
-fn older_marks(bytes: &[u8], widths: &[u8; 80]) -> [u32; 80]
-    ensures { result ≡ list_of 80 (λ v. marks_of (older_value (get_or widths.now v 0) bytes.now (1 + 5 * v))) }
+// Their marks.
+fn older_marks<const N: usize>(bytes: &[u8], widths: &[u8; N], at: usize, step: usize) -> [u32; N]
+    requires at_bound { at ≤ 402 }
+    requires step_bound { step ≤ 6 }
+    requires n_bound { N ≤ 80 }
+    ensures { result ≡ list_of N (λ k. marks_of (older_value (get_or widths.now k 0) bytes.now (at + step * k))) }
 {
-    let mut a = [0u32; 80];
-    let mut v = 0;
-    while v < 80 {
-        let x = older_value(widths[v], bytes, 1 + 5 * v);
+    let mut a = [0u32; N];
+    let mut p = at;
+    for v in 0..N {
+        let x = older_value(widths[v], bytes, p);
         a[v] = values::marks_of(x);
-        v += 1;
-    }
-    a
-}
-
-fn older_pending(bytes: &[u8], widths: &[u8; 32]) -> [u32; 32]
-    ensures { result ≡ list_of 32 (λ k. number_of (older_value (get_or widths.now k 0) bytes.now (402 + 6 * k))) }
-{
-    let mut a = [0u32; 32];
-    let mut r = 0;
-    while r < 32 {
-        let x = older_value(widths[r], bytes, 402 + 6 * r);
-        a[r] = values::number_of(x);
-        r += 1;
-    }
-    a
-}
-
-fn older_unsure(bytes: &[u8], widths: &[u8; 32]) -> [u32; 32]
-    ensures { result ≡ list_of 32 (λ k. marks_of (older_value (get_or widths.now k 0) bytes.now (402 + 6 * k))) }
-{
-    let mut a = [0u32; 32];
-    let mut r = 0;
-    while r < 32 {
-        let x = older_value(widths[r], bytes, 402 + 6 * r);
-        a[r] = values::marks_of(x);
-        r += 1;
+        p += step;
     }
     a
 }
@@ -102,10 +85,10 @@ fn older_unsure(bytes: &[u8], widths: &[u8; 32]) -> [u32; 32]
 fn older_in(widths: &[u8; 80], slots: &[u8; 32], bytes: &[u8], counters: Counters) -> State
     ensures { result ≡ older_in (λ v. get_or widths.now v 0) (λ k. get_or slots.now k 0) bytes.now counters }
 {
-    let value = older_numbers(bytes, widths);
-    let unknown = older_marks(bytes, widths);
-    let pending = older_pending(bytes, slots);
-    let unsure = older_unsure(bytes, slots);
+    let value = older_numbers(bytes, widths, 1, 5);
+    let unknown = older_marks(bytes, widths, 1, 5);
+    let pending = older_numbers(bytes, slots, 402, 6);
+    let unsure = older_marks(bytes, slots, 402, 6);
     let held = flags_at(bytes, 401, 6);
     let places = places_at(bytes, 593);
     let due = flags_at(bytes, 601, 1);
@@ -190,28 +173,15 @@ fn width_in(sheet: &[u8], first: usize, n: usize, k: usize) -> u8
     32
 }
 
-fn variable_widths(sheet: &[u8], first: usize, n: usize) -> [u8; 80]
-    requires { first ≤ 300 }
-    ensures { result ≡ list_of 80 (width_in sheet.now first n) }
+// The widths of the first N items.
+fn widths_in<const N: usize>(sheet: &[u8], first: usize, n: usize) -> [u8; N]
+    requires first_bound { first ≤ 300 }
+    requires n_bound { N ≤ 80 }
+    ensures { result ≡ list_of N (width_in sheet.now first n) }
 {
-    let mut a = [0u8; 80];
-    let mut v = 0;
-    while v < 80 {
+    let mut a = [0u8; N];
+    for v in 0..N {
         a[v] = width_in(sheet, first, n, v);
-        v += 1;
-    }
-    a
-}
-
-fn register_widths(sheet: &[u8], first: usize, n: usize) -> [u8; 32]
-    requires { first ≤ 300 }
-    ensures { result ≡ list_of 32 (width_in sheet.now first n) }
-{
-    let mut a = [0u8; 32];
-    let mut r = 0;
-    while r < 32 {
-        a[r] = width_in(sheet, first, n, r);
-        r += 1;
     }
     a
 }
@@ -234,7 +204,7 @@ pub fn bring_over(sheet: &[u8], bytes: &[u8], allowances: [u32; 4]) -> Brought
     let registers = layout.registers as usize;
     let wires = layout.wires as usize;
     let first = layout.widths;
-    let widths = variable_widths(sheet, first, inputs + registers + wires);
-    let slots = register_widths(sheet, first + inputs, registers);
+    let widths = widths_in::<80>(sheet, first, inputs + registers + wires);
+    let slots = widths_in::<32>(sheet, first + inputs, registers);
     bring_older(&widths, &slots, bytes, allowances)
 }

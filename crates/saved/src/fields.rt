@@ -24,13 +24,11 @@ pub(crate) fn flags(bytes: &[u8], at: usize, step: usize, n: usize) -> bool
     ensures { result ≡ flags bytes.now at step n }
 {
     let mut p = at;
-    let mut k = 0;
-    while k < n {
+    for _ in 0..n {
         if !is_flag(bytes, p) {
             return false;
         }
         p += step;
-        k += 1;
     }
     true
 }
@@ -39,10 +37,7 @@ pub(crate) fn flags(bytes: &[u8], at: usize, step: usize, n: usize) -> bool
 pub(crate) fn is_form(form: u8, size: usize, bytes: &[u8]) -> bool
     ensures { result ≡ is_form form size bytes.now }
 {
-    if bytes.len() != size {
-        return false;
-    }
-    byte_at(bytes, 0) == form
+    bytes.len() == size && byte_at(bytes, 0) == form
 }
 
 // ---- flags and numbers
@@ -62,11 +57,9 @@ pub(crate) fn flags_at(bytes: &[u8], at: usize, step: usize) -> [bool; 32]
 {
     let mut a = [false; 32];
     let mut p = at;
-    let mut k = 0;
-    while k < 32 {
+    for k in 0..32 {
         a[k] = flag_at(bytes, p);
         p += step;
-        k += 1;
     }
     a
 }
@@ -77,10 +70,8 @@ pub(crate) fn places_at(bytes: &[u8], at: usize) -> [u8; 8]
     ensures { result ≡ places_at bytes.now at }
 {
     let mut a = [0u8; 8];
-    let mut i = 0;
-    while i < 8 {
+    for i in 0..8 {
         a[i] = byte_at(bytes, at + i);
-        i += 1;
     }
     a
 }
@@ -102,23 +93,24 @@ fn counts_at(bytes: &[u8], at: usize) -> [u64; 4]
     ensures { result ≡ list_of 4 (λ u. long_of bytes.now (at + 8 * u)) }
 {
     let mut a = [0u64; 4];
-    let mut u = 0;
-    while u < 4 {
+    for u in 0..4 {
         a[u] = long_at(bytes, at + 8 * u);
-        u += 1;
     }
     a
 }
 
-fn allowances_at(bytes: &[u8], at: usize) -> [u32; 4]
-    requires { at ≤ 1024 }
-    ensures { result ≡ list_of 4 (λ u. word_of bytes.now (at + 4 * u)) }
+// N numbers of 32 bits, the first at a place, each so many bytes after the one before.
+pub(crate) fn words_at<const N: usize>(bytes: &[u8], at: usize, step: usize) -> [u32; N]
+    requires at_bound { at ≤ 1024 }
+    requires step_bound { step ≤ 9 }
+    requires n_bound { N ≤ 80 }
+    ensures { result ≡ list_of N (λ k. word_of bytes.now (at + step * k)) }
 {
-    let mut a = [0u32; 4];
-    let mut u = 0;
-    while u < 4 {
-        a[u] = word_at(bytes, at + 4 * u);
-        u += 1;
+    let mut a = [0u32; N];
+    let mut p = at;
+    for k in 0..N {
+        a[k] = word_at(bytes, p);
+        p += step;
     }
     a
 }
@@ -130,7 +122,7 @@ pub(crate) fn counters_at(bytes: &[u8], at: usize) -> Counters
 {
     let time = long_at(bytes, at);
     let counts = counts_at(bytes, at + 8);
-    let allowances = allowances_at(bytes, at + 40);
+    let allowances = words_at::<4>(bytes, at + 40, 4);
     Counters {
         time,
         counts,

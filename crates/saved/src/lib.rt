@@ -12,6 +12,7 @@ pub use saving::save;
 use state::State;
 
 // What loading finds: a state, or none.
+// stays a flag beside a state: the clause of `load` cites the record (specs/Saved, `loaded_answer`)
 #[derive(Clone, Copy)]
 pub struct Loaded {
     pub found: bool,
@@ -19,6 +20,7 @@ pub struct Loaded {
 }
 
 // What bringing over gives: 0 and a state, or the number that refuses it.
+// stays a number beside a state: a clause of walbryts_bring_over cites both, on a refusal too
 #[derive(Clone, Copy)]
 pub struct Brought {
     pub number: u8,

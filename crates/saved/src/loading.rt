@@ -1,15 +1,13 @@
 // A state out of its saved form.
-ghost use Rattle.std.specs.Prelude.{◌≡◌, ◌+◌, ◌*◌, ◌≤◌};
-ghost use Rattle.sheet.specs.Reading.{word_of};
-ghost use Rattle.state.specs.Rows.{list_of};
+ghost use Rattle.std.specs.Prelude.{◌≡◌};
 ghost use Rattle.saved.specs.Saved.{is_saved, state_in, zero_state, loaded, loaded_answer};
 
 use super::Loaded;
-use super::fields::{counters_at, flags, flags_at, is_form, places_at};
-use sheet::word_at;
+use super::fields::{counters_at, flags, flags_at, is_form, places_at, words_at};
 use state::{Counters, State};
 
 // Are these bytes the saved form of a state?
+// stays test by test: as one expression its proof didn't close
 pub(crate) fn is_saved(bytes: &[u8]) -> bool
     ensures { result ≡ is_saved bytes.now }
 {
@@ -22,42 +20,14 @@ pub(crate) fn is_saved(bytes: &[u8]) -> bool
     flags(bytes, 937, 1, 32)
 }
 
-// A number of each variable: its number, or its marks.
-fn variable_words(bytes: &[u8], at: usize) -> [u32; 80]
-    requires { at ≤ 1024 }
-    ensures { result ≡ list_of 80 (λ v. word_of bytes.now (at + 8 * v)) }
-{
-    let mut a = [0u32; 80];
-    let mut v = 0;
-    while v < 80 {
-        a[v] = word_at(bytes, at + 8 * v);
-        v += 1;
-    }
-    a
-}
-
-// A number of each pending slot: its number, or its marks.
-fn slot_words(bytes: &[u8], at: usize) -> [u32; 32]
-    requires { at ≤ 1024 }
-    ensures { result ≡ list_of 32 (λ k. word_of bytes.now (at + 9 * k)) }
-{
-    let mut a = [0u32; 32];
-    let mut r = 0;
-    while r < 32 {
-        a[r] = word_at(bytes, at + 9 * r);
-        r += 1;
-    }
-    a
-}
-
 // The state in bytes of this form.
 pub(crate) fn state_in(bytes: &[u8]) -> State
     ensures { result ≡ state_in bytes.now }
 {
-    let value = variable_words(bytes, 1);
-    let unknown = variable_words(bytes, 5);
-    let pending = slot_words(bytes, 642);
-    let unsure = slot_words(bytes, 646);
+    let value = words_at::<80>(bytes, 1, 8);
+    let unknown = words_at::<80>(bytes, 5, 8);
+    let pending = words_at::<32>(bytes, 642, 9);
+    let unsure = words_at::<32>(bytes, 646, 9);
     let held = flags_at(bytes, 641, 9);
     let places = places_at(bytes, 929);
     let due = flags_at(bytes, 937, 1);

@@ -16,7 +16,7 @@ use state::State;
 pub fn start(sheet: &[u8], allowances: [u32; 4]) -> Chosen
     ensures { result ≡ start sheet.now allowances }
 {
-    let mut plan = [0u32; 25212];
+    let mut plan = [0u32; plan::WORDS];
     let answer = prepared::prepare(sheet, &mut plan);
     let state = prepared::start(&plan, allowances);
     Chosen {
@@ -38,7 +38,7 @@ fn refused(number: u8, state: State) -> Chosen
 pub fn choose(sheet: &[u8], st: State, user: u8, c: u8) -> Chosen
     ensures { result ≡ choose sheet.now st user c }
 {
-    let mut plan = [0u32; 25212];
+    let mut plan = [0u32; plan::WORDS];
     let read = prepared::prepare(sheet, &mut plan);
     if read.number != 0 {
         return refused(read.number, st);
@@ -50,7 +50,7 @@ pub fn choose(sheet: &[u8], st: State, user: u8, c: u8) -> Chosen
 pub fn run(sheet: &[u8], st: State, user: u8, choices: &[u8]) -> Ran
     ensures { result ≡ run_list sheet.now st user choices.now }
 {
-    let mut plan = [0u32; 25212];
+    let mut plan = [0u32; plan::WORDS];
     let read = prepared::prepare(sheet, &mut plan);
     if read.number != 0 {
         return Ran {
@@ -66,7 +66,7 @@ pub fn run(sheet: &[u8], st: State, user: u8, choices: &[u8]) -> Ran
 pub fn run_plain(sheet: &[u8], st: State, user: u8, limit: u16) -> Rested
     ensures { result ≡ run_plain sheet.now st user limit }
 {
-    let mut plan = [0u32; 25212];
+    let mut plan = [0u32; plan::WORDS];
     let read = prepared::prepare(sheet, &mut plan);
     if read.number != 0 {
         return Rested {
@@ -82,7 +82,7 @@ pub fn run_plain(sheet: &[u8], st: State, user: u8, limit: u16) -> Rested
 pub fn instant(sheet: &[u8], st: State, a: Inputs) -> Chosen
     ensures { result ≡ instant sheet.now st a }
 {
-    let mut plan = [0u32; 25212];
+    let mut plan = [0u32; plan::WORDS];
     let answer = prepared::prepare(sheet, &mut plan);
     if answer.number != 0 {
         return refused(answer.number, st);

@@ -11,7 +11,7 @@ pub struct Counters {
 }
 
 // A time that can't go on: number 36.
-pub const FULL: u64 = 18446744073709551615;
+pub const FULL: u64 = u64::MAX;
 
 // A state. A value is a number and a second one that marks its unknown bits, in `unknown`, and of a pending value in `unsure`. A
 // register's pending value counts where its held flag is up.

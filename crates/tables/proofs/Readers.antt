@@ -2,9 +2,10 @@
 use mathlib.Core.Path.{◌≡◌, refl, sym, ap, ◌∙◌}
 use mathlib.Core.Bool.{Bool, true, false}
 use mathlib.Core.List.{List}
-use Prim.Native.Nat.{ℕ, zero, suc, ◌+◌, ◌-◌, ◌^◌, ◌≤◌, ◌<◌}
+use Prim.Native.Nat.{ℕ, zero, suc, min, ◌+◌, ◌-◌, ◌^◌, ◌≤◌, ◌<◌}
 use native.Mathlib.Numerals.{add-one, sub-one}
 use native.Mathlib.Omega.{arith}
+use Rattle.std.proofs.Math.Nat.{min-eq_left, min-eq_right}
 use borrow.Author.Tests.{lt-ltb, le-ltb, ltb-true, ltb-false, ne_eqb}
 use lib.Dec.{ltb}
 use lib.ListN.{length, get_or, set, get_or-eq_default}
@@ -46,6 +47,14 @@ module _ (limit n : ℕ) where
       by : (t : Bool) → ltb n limit ≡ t → pick t n limit ≡ n
       by true e = refl
       by false e = let l = ltb-false n limit e in omega arith
+
+  pub min-at_most : min n limit ≡ at_most limit n
+  unfolding at_most
+  min-at_most = by (ltb n limit) refl
+    where
+      by : (t : Bool) → ltb n limit ≡ t → min n limit ≡ pick t n limit
+      by true e = let l = ltb-true n limit e in min-eq_left (omega arith)
+      by false e = min-eq_right (ltb-false n limit e)
 
 -- ---- mark_variable
 

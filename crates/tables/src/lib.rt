@@ -10,25 +10,19 @@ ghost use Rattle.tables.specs.Readers.{watch_variable, watch_terms, watch_instr,
 use pseudocode::{EdgeTerms, Instruction};
 use sheet::byte_at;
 
-// A byte as a place.
-fn wide(b: u8) -> usize
-    ensures { result ≡ b }
-{
-    b as usize
-}
-
 // A count, or the limit where it is more.
+// stays a function: other crates call it and cite its clause
 pub fn at_most(limit: usize, n: usize) -> usize
     ensures { result ≡ at_most limit n }
 {
-    if n < limit { n } else { limit }
+    n.min(limit)
 }
 
 // Marks wire `k` at a variable.
 pub fn mark_variable(k: usize, v: u8, readers: &mut [u32; 80])
     ensures { readers.new ≡ mark_variable k v readers.old }
 {
-    let i = wide(v);
+    let i = v as usize;
     if 80 <= i {
         return;
     }
@@ -138,11 +132,9 @@ pub fn fill_readers(
 )
     ensures { readers.new ≡ readers_below sheet.now definitions.now starts.now (at_most 32 wires) readers.old }
 {
-    let count = at_most(32, wide(wires));
-    let mut k: usize = 0;
-    while k < count {
+    let count = (wires as usize).min(32);
+    for k in 0..count {
         mark_expr(sheet, definitions, starts[k], 16, k, readers);
-        k += 1;
     }
 }
 
@@ -150,7 +142,7 @@ pub fn fill_readers(
 fn watch_variable(v: u8, watched: &mut [bool; 80])
     ensures { watched.new ≡ watch_variable v watched.old }
 {
-    let i = wide(v);
+    let i = v as usize;
     if 80 <= i {
         return;
     }
@@ -161,18 +153,16 @@ fn watch_variable(v: u8, watched: &mut [bool; 80])
 pub fn term_count(count: u8) -> u8
     ensures { result ≡ at_most 8 count }
 {
-    if count < 8 { count } else { 8 }
+    count.min(8)
 }
 
 // Marks the variables of a wait's first terms.
 fn watch_terms(t: EdgeTerms, n: u8, watched: &mut [bool; 80])
     ensures { watched.new ≡ watch_terms t n watched.old }
 {
-    let mut k: u8 = 0;
-    while k < n {
+    for k in 0u8..n {
         let term = pseudocode::term_at(t, k);
         watch_variable(term.variable, watched);
-        k += 1;
     }
 }
 
@@ -190,10 +180,8 @@ fn watch_instr(i: Instruction, watched: &mut [bool; 80])
 fn watch_thread(sheet: &[u8], code: &[u16; 4096], thread: usize, n: usize, watched: &mut [bool; 80])
     ensures { watched.new ≡ watch_thread sheet.now code.now thread n watched.old }
 {
-    let mut p: usize = 0;
-    while p < n {
+    for p in 0..n {
         watch_instr(pseudocode::fetch(sheet, code, thread, p), watched);
-        p += 1;
     }
 }
 
@@ -207,11 +195,9 @@ pub fn fill_watched(
 )
     ensures { watched.new ≡ watched_below sheet.now code.now sizes.now (at_most 8 threads) watched.old }
 {
-    let count = at_most(8, wide(threads));
-    let mut i: usize = 0;
-    while i < count {
-        let n = at_most(256, sizes[i]);
+    let count = (threads as usize).min(8);
+    for i in 0..count {
+        let n = sizes[i].min(256);
         watch_thread(sheet, code, i, n, watched);
-        i += 1;
     }
 }

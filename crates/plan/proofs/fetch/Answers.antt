@@ -11,65 +11,55 @@ returns-then-thread-ge8 c =
 pub returns-in-0 : goal.returns-in-0
 unfolding fetch_at decode
 returns-in-0 c =
-    let w = c.wide.ensures in
     rw (
       c.terms_from.ensures,
       c.slot-first.ensures.value,
       c.low-number.ensures,
-      w,
       lt-ltb _ _ c.if-thread-ge8.false,
-      rw w at c.in-0.is,
+      c.in-0.is,
     )
 
 pub returns-in-1 : goal.returns-in-1
 unfolding fetch_at decode
 returns-in-1 c =
-    let w = c.wide.ensures in
     rw (
       c.slot-root.ensures.value,
       c.slot-first.ensures.value,
       c.low-number.ensures,
-      w,
       lt-ltb _ _ c.if-thread-ge8.false,
-      rw w at c.in-1.is,
+      c.in-1.is,
     )
 
 pub returns-in-2 : goal.returns-in-2
 unfolding fetch_at decode
 returns-in-2 c =
-    let w = c.wide.ensures in
     rw (
       c.slot-root.ensures.value,
       c.slot-first.ensures.value,
       c.low-number.ensures,
-      w,
       lt-ltb _ _ c.if-thread-ge8.false,
-      rw w at c.in-2.is,
+      c.in-2.is,
     )
 
 pub returns-in-3 : goal.returns-in-3
 unfolding fetch_at decode
 returns-in-3 c =
-    let w = c.wide.ensures in
     rw (
       c.low-number.ensures,
-      w,
       lt-ltb _ _ c.if-thread-ge8.false,
-      rw w at c.in-3.is,
+      c.in-3.is,
     )
 
 pub returns-in_default : goal.returns-in_default
 unfolding fetch_at decode
 returns-in_default c =
-    let w = c.wide.ensures in
     simp (
       c.slot-root.ensures.value,
       c.slot-first.ensures.value,
       c.low-number.ensures,
-      w,
       lt-ltb _ _ c.if-thread-ge8.false,
-      ne_eqb _ _ (rw w at c.in_default.in_default-own.rest.0.0.0.1),
-      ne_eqb _ _ (rw w at c.in_default.in_default-own.rest.0.0.1),
-      ne_eqb _ _ (rw w at c.in_default.in_default-own.rest.0.1),
-      ne_eqb _ _ (rw w at c.in_default.in_default-own.rest.1),
+      ne_eqb _ _ c.in_default.in_default-own.rest.0.0.0.1,
+      ne_eqb _ _ c.in_default.in_default-own.rest.0.0.1,
+      ne_eqb _ _ c.in_default.in_default-own.rest.0.1,
+      ne_eqb _ _ c.in_default.in_default-own.rest.1,
     )

@@ -11,4 +11,4 @@ returns-then-i-ge8 c =
 pub returns : goal.returns
 unfolding size_at
 returns c =
-    rw (lt-ltb _ _ c.if-i-ge8.false, c.place.ensures)
+    rw (lt-ltb _ _ c.if-i-ge8.false)

@@ -7,9 +7,7 @@ use Rattle.plan.proofs.slot.Goals as goal
 pub returns-then-w-lt4176 : goal.returns-then-w-lt4176
 unfolding slot_of
 returns-then-w-lt4176 c =
-    let w = c.place.ensures in
-    let h = c.if-w-lt4176.true in
-    (record { value = rw (lt-ltb _ _ h, w); upper_bound = omega (arith, w, h) })
+    record { value = rw (lt-ltb _ _ c.if-w-lt4176.true); upper_bound = c.if-w-lt4176.true }
 
 pub returns-else-w-lt4176 : goal.returns-else-w-lt4176
 unfolding slot_of

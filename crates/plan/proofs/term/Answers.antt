@@ -22,7 +22,6 @@ returns c =
       c.term_from.ensures,
       c.slot-first.ensures.value,
       c.low-count.ensures,
-      c.wide.ensures,
       lt-ltb _ _ c.if-thread-ge8.false,
     )
     (sym (term-stands _ _ _ _ (omega (arith, c.if-k-ge8.false))))

@@ -11,4 +11,4 @@ returns-then-thread-ge8 c =
 pub returns : goal.returns
 unfolding terms_at terms_from
 returns c =
-    rw (c.low.ensures, c.wide.ensures, lt-ltb _ _ c.if-thread-ge8.false)
+    rw (c.low.ensures, lt-ltb _ _ c.if-thread-ge8.false)

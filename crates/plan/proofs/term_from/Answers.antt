@@ -8,11 +8,10 @@ unfolding term_from
 returns-then-k-count c =
     rw (
       lt-ltb _ _ c.if-k-count.true,
-      c.edge_of-e.ensures,
+      c.edge_of-edge.ensures,
       c.low.ensures,
-      c.low-v.ensures,
+      c.low-variable.ensures,
       c.slot_at-n.ensures.value,
-      c.wide.ensures,
     )
 
 pub returns-else-k-count : goal.returns-else-k-count

@@ -3,12 +3,12 @@ use borrow.Author.Tests.{lt-ltb, le-ltb}
 use Rattle.plan.specs.Plan.{waits_at}
 use Rattle.plan.proofs.waits.Goals as goal
 
-pub returns-then-thread-ge8 : goal.returns-then-thread-ge8
+pub returns-then-thread-lt8 : goal.returns-then-thread-lt8
 unfolding waits_at
-returns-then-thread-ge8 c =
-    rw (le-ltb _ _ c.if-thread-ge8.true)
+returns-then-thread-lt8 c =
+    rw (lt-ltb _ _ c.if-thread-lt8.true)
 
-pub returns : goal.returns
+pub returns-else-thread-lt8 : goal.returns-else-thread-lt8
 unfolding waits_at
-returns c =
-    rw (lt-ltb _ _ c.if-thread-ge8.false, c.wide.ensures)
+returns-else-thread-lt8 c =
+    rw (le-ltb _ _ c.if-thread-lt8.false)

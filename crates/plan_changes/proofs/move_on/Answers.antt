@@ -6,7 +6,7 @@ use Rattle.masks.specs.Masks.{bits}
 use Rattle.plan.specs.Plan.{plan_of}
 use Rattle.plan_changes.specs.Scene.{stand}
 use Rattle.plan_changes.specs.Changes.{eight, move_thread, move_below, move}
-use Rattle.plan_changes.proofs.Changes.{eight-most, move-more}
+use Rattle.plan_changes.proofs.Changes.{eight-most, min-eight, move-more}
 use Rattle.plan_changes.proofs.move_on.Goals as goal
 
 pub returns-then-not-any : goal.returns-then-not-any
@@ -17,7 +17,7 @@ returns-then-not-any c =
 pub loop-i-init : goal.loop-i-init
 unfolding move_below
 loop-i-init c =
-    (omega arith, rw c.eight_threads-n.ensures (eight-most _), refl)
+    (omega arith, omega (arith, c.min-n.ensures, eight-most c.threads.result, min-eight c.threads.result), refl)
 
 pub move_thread-marks-requires : goal.move_thread-marks-requires
 move_thread-marks-requires c =
@@ -39,7 +39,7 @@ unfolding move
 returns c =
     let q = plan_of c.args.plan.now in
     let s = stand c.args.places.now (bits c.args.ready) in
-    let e : c.loop-i.i ≡ c.eight_threads-n.result = omega arith in
-    let m = e ∙ c.eight_threads-n.ensures ∙ ap eight c.threads.ensures in
+    let e : c.loop-i.i ≡ c.min-n.result = omega arith in
+    let m = e ∙ c.min-n.ensures ∙ min-eight _ ∙ ap eight c.threads.ensures in
     rw (sym c.any.ensures ∙ c.if-not-any.false)
     (c.loop-i.invariant.2 ∙ ap (λ (n : ℕ). move_below q (bits c.args.woken) n s) m)

@@ -1,5 +1,5 @@
 -- `plan_changes::terms_wake` meets its contract. The loop: none of the terms so far fires.
-use Prim.Native.Nat.{◌≤◌, ◌-◌}
+use Prim.Native.Nat.{◌≤◌}
 use mathlib.Core.Path.{◌≡◌}
 use mathlib.Core.Bool.{false}
 use Rattle.events.specs.Cycle.{any_below}
@@ -11,7 +11,3 @@ use Rattle.plan_changes.proofs.terms_wake.Given as goal
 abbrev pub invariant-loop-k : goal.invariant-loop-k
 invariant-loop-k l =
     (l.k ≤ l.count) × (any_below l.k (term_wakes ((plan_of l.plan).terms l.i l.p) l.v (value_of l.old) (value_of l.new)) ≡ false)
-
-abbrev pub decreases-loop-k : goal.decreases-loop-k
-decreases-loop-k l =
-    l.count - l.k

@@ -6,7 +6,7 @@ use Rattle.masks.specs.Masks.{bits, any_mark}
 use Rattle.values.specs.Cells.{value_of}
 use Rattle.plan.specs.Plan.{plan_of}
 use Rattle.plan_changes.specs.Changes.{eight, wake_thread, wake_below, wake}
-use Rattle.plan_changes.proofs.Changes.{eight-most, wake-more}
+use Rattle.plan_changes.proofs.Changes.{eight-most, min-eight, wake-more}
 use Rattle.plan_changes.proofs.wake.Goals as goal
 
 pub returns-then-not-any : goal.returns-then-not-any
@@ -18,7 +18,7 @@ returns-then-not-any c =
 pub loop-i-init : goal.loop-i-init
 unfolding wake_below
 loop-i-init c =
-    (omega arith, rw c.eight_threads-n.ensures (eight-most _), refl)
+    (omega arith, omega (arith, c.min-n.ensures, eight-most c.threads.result, min-eight c.threads.result), refl)
 
 pub wake_thread-marks-requires : goal.wake_thread-marks-requires
 wake_thread-marks-requires c =
@@ -44,8 +44,8 @@ returns c =
     let ps = c.args.places.now in
     let a = value_of c.args.old in
     let b = value_of c.args.new in
-    let e : c.loop-i.i ≡ c.eight_threads-n.result = omega arith in
-    let m = e ∙ c.eight_threads-n.ensures ∙ ap eight c.threads.ensures in
+    let e : c.loop-i.i ≡ c.min-n.result = omega arith in
+    let m = e ∙ c.min-n.ensures ∙ min-eight _ ∙ ap eight c.threads.ensures in
     let u = ap any_mark (sym c.watchers-watchers.ensures) in
     rw (u ∙ sym c.any.ensures ∙ c.if-not-any.false)
     (c.loop-i.invariant.2 ∙ ap (λ (n : ℕ). wake_below q ps c.args.v a b n (bits c.args.woken)) m)

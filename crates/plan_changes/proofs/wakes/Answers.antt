@@ -2,19 +2,20 @@
 use mathlib.Core.Path.{sym, ◌∙◌}
 use Rattle.plan.proofs.Waiting.{wait-fetched}
 use Rattle.plan_changes.specs.Changes.{wakes}
-use Rattle.plan_changes.proofs.Changes.{wakes-none}
+use Rattle.plan_changes.proofs.Changes.{wakes-none, min-eight}
 use Rattle.plan_changes.proofs.wakes.Goals as goal
 
-pub returns-then-not-waits : goal.returns-then-not-waits
-returns-then-not-waits c =
-    sym (wakes-none _ _ _ _ _ _ (sym c.waits.ensures ∙ c.if-not-waits.true))
+pub returns-else-waits : goal.returns-else-waits
+returns-else-waits c =
+    c.if-waits.false ∙ sym (wakes-none _ _ _ _ _ _ (sym c.waits.ensures ∙ c.if-waits.false))
 
-pub returns : goal.returns
+pub returns-then-waits : goal.returns-then-waits
 unfolding wakes
-returns c =
+returns-then-waits c =
     rw (
-      wait-fetched _ _ _ (sym c.waits.ensures ∙ c.if-not-waits.false),
+      wait-fetched _ _ _ (sym c.waits.ensures ∙ c.if-waits.true),
       c.terms_wake.ensures,
-      c.eight-count.ensures,
+      c.min.ensures,
+      min-eight _,
       c.term_count.ensures,
     )

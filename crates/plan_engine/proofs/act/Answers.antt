@@ -1,5 +1,5 @@
 -- `plan_engine::act` meets its contract. Assumes nothing.
-use mathlib.Core.Path.{ap}
+use mathlib.Core.Path.{refl, ap}
 use Rattle.masks.specs.Masks.{bits}
 use Rattle.plan_engine.proofs.Acting.{act-set, act-later, act-go, act-ifnot}
 use borrow.Author.Rules.{rules}
@@ -10,7 +10,7 @@ returns-in-Set c =
     rw c.in-Set.is
     (act-set _ _ _ _ _ _ _ _ _ _ _ _ c.evaluate-c.ensures.cells_after c.evaluate-c.ensures.value
     _ _ c.after.ensures _ _ _ _
-    c.wide.ensures (ap bits c.store-m.ensures.held_value) c.store-m.ensures.ready_after c.go_to-ready.ensures)
+    refl (ap bits c.store-m.ensures.held_value) c.store-m.ensures.ready_after c.go_to-ready.ensures)
 
 pub returns-in-Later : goal.returns-in-Later
 returns-in-Later c =

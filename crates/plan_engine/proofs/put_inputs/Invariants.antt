@@ -1,5 +1,5 @@
 -- `plan_engine::put_inputs` meets its contract. The loop: the inputs so far put.
-use Prim.Native.Nat.{ℕ, ◌≤◌, ◌-◌}
+use Prim.Native.Nat.{◌≤◌}
 use native.Mathlib.Omega.{arith}
 use mathlib.Core.Path.{◌≡◌, refl, sym, ap, ◌∙◌}
 use Rattle.values.specs.Planes.{value_at}
@@ -18,7 +18,3 @@ invariant-loop-n l =
     (l.n ≤ l.inputs)
     × (changing l.cells (bits l.made.due) (bits l.made.woken)
     ≡ put_inputs (plan_of l.plan) l.places (value_at l.value l.unknown) l.n (opened l.initial.cells (bits l.due)))
-
-abbrev pub decreases-loop-n : goal.decreases-loop-n
-decreases-loop-n l =
-    l.inputs - l.n

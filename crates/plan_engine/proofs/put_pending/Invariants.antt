@@ -1,5 +1,5 @@
 -- `plan_engine::put_pending` meets its contract. The loop: the registers so far put.
-use Prim.Native.Nat.{ℕ, ◌≤◌, ◌-◌}
+use Prim.Native.Nat.{◌≤◌}
 use native.Mathlib.Omega.{arith}
 use mathlib.Core.Path.{◌≡◌, refl, sym, ap, ◌∙◌}
 use Rattle.masks.specs.Masks.{bits}
@@ -16,7 +16,3 @@ invariant-loop-n l =
     (l.n ≤ l.registers)
     × (changing l.cells (bits l.made.due) (bits l.made.woken)
     ≡ put_pending (plan_of l.plan) l.places (bits l.held) l.pending l.n (opened l.initial.cells (bits l.due)))
-
-abbrev pub decreases-loop-n : goal.decreases-loop-n
-decreases-loop-n l =
-    l.registers - l.n

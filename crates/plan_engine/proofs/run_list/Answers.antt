@@ -22,7 +22,7 @@ returns-then-t-ne0 c =
     let p = c.loop-i in
     let q = plan_of c.args.plan.now in
     let l = live p.cells p.pending p.places p.m in
-    let e = c.take_choice-t.ensures ∙ ap (λ (c : ℕ). take_choice q p.left c l) c.wide-c.ensures in
+    let e = c.take_choice-t.ensures in
     sym (list-off q p.left l p.i _ _ c.args.choices.now c.loop-i-test.true e c.if-t-ne0.true) ∙ p.invariant.1
 
 pub overflow_sub-left : goal.overflow_sub-left
@@ -31,12 +31,7 @@ overflow_sub-left c =
     let q = plan_of c.args.plan.now in
     let l = live p.cells p.pending p.places p.m in
     let z = sym (ap (λ (t : Taken). t.number) c.take_choice-t.ensures) ∙ c.if-t-ne0.false in
-    let h : p.left ≡ 0 → ⊥ = λ u. choice-room q p.left u c.wide-c.result l z in
-    omega arith
-
-pub overflow_add-i : goal.overflow_add-i
-overflow_add-i c =
-    let g = c.well_formed in
+    let h : p.left ≡ 0 → ⊥ = λ u. choice-room q p.left u _ l z in
     omega arith
 
 pub loop-i-preserved : goal.loop-i-preserved
@@ -44,7 +39,7 @@ loop-i-preserved c =
     let p = c.loop-i in
     let q = plan_of c.args.plan.now in
     let l = live p.cells p.pending p.places p.m in
-    let e = c.take_choice-t.ensures ∙ ap (λ (c : ℕ). take_choice q p.left c l) c.wide-c.ensures in (
+    let e = c.take_choice-t.ensures in (
       omega arith,
       sym (list_on q p.left l p.i _ _ c.args.choices.now c.loop-i-test.true e c.if-t-ne0.false) ∙ p.invariant.1,
     )
@@ -53,5 +48,8 @@ pub returns : goal.returns
 returns c =
     let p = c.loop-i in
     let q = plan_of c.args.plan.now in
+    let e : p.i ≡ length c.args.choices.now = omega arith in
+    let all =
     sym (list-end q p.left (live p.cells p.pending p.places p.m) p.i c.args.choices.now (omega arith))
-    ∙ p.invariant.1
+    ∙ p.invariant.1 in
+    rw e at all

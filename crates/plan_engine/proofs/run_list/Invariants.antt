@@ -1,6 +1,6 @@
 -- `plan_engine::run_list` meets its contract. The loop: the choices so far accepted, and then the run over the rest, are the
 -- whole run.
-use Prim.Native.Nat.{ℕ, ◌≤◌, ◌-◌}
+use Prim.Native.Nat.{◌≤◌}
 use native.Mathlib.Omega.{arith}
 use mathlib.Core.Path.{◌≡◌, sym, ap, ◌∙◌}
 use lib.ListN.{length, drop}
@@ -18,7 +18,3 @@ invariant-loop-i l =
     (l.i ≤ length l.choices)
     × (ahead l.i (run_list (plan_of l.plan) (drop l.i l.choices) l.left (live l.cells l.pending l.places l.m))
     ≡ run_list (plan_of l.plan) l.choices l.room (live l.initial.cells l.initial.pending l.initial.places l.initial.m))
-
-abbrev pub decreases-loop-i : goal.decreases-loop-i
-decreases-loop-i l =
-    length l.choices - l.i

@@ -6,10 +6,10 @@ use Rattle.plan_engine.proofs.Running.{turn_one}
 use borrow.Author.Rules.{rules}
 use Rattle.plan_engine.proofs.take_choice.Goals as goal
 
-pub returns-then-c-ge-PLAIN : goal.returns-then-c-ge-PLAIN
-returns-then-c-ge-PLAIN c =
-    choice-past (plan_of c.args.plan.now) _ _ _ (omega arith) (omega arith) c.if-c-ge-PLAIN.true
+pub returns-then-c-ge-ITEMS : goal.returns-then-c-ge-ITEMS
+returns-then-c-ge-ITEMS c =
+    choice-past (plan_of c.args.plan.now) _ _ _ (omega arith) (omega arith) c.if-c-ge-ITEMS.true
 
 pub returns : goal.returns
 returns c =
-    turn_one _ _ _ _ _ _ _ c.if-c-ge-PLAIN.false c.take_turns-t.ensures
+    turn_one _ _ _ _ _ _ _ c.if-c-ge-ITEMS.false c.take_turns-t.ensures

@@ -26,4 +26,4 @@ returns-then-room-eq0 c =
 pub returns : goal.returns
 returns c =
     commit-all _ _ _ (sym c.any.ensures ∙ c.if-any.false) (sym c.any-2.ensures ∙ c.if-any-2.false) _
-    (sym c.any-3.ensures ∙ c.if-not-any.false) c.if-room-eq0.false c.commit-m.ensures
+    (sym c.any-3.ensures ∙ c.if-not-any.false) c.if-room-eq0.false c.commit-marks.ensures

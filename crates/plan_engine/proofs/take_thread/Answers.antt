@@ -25,5 +25,5 @@ returns-then-room-eq0 c =
 pub returns : goal.returns
 unfolding take_thread take_instruction
 returns c =
-    rw (lt-ltb _ _ c.if-i-ge8.false, sym c.fetch.ensures ∙ c.in-Act.is, c.act-m.ensures)
+    rw (lt-ltb _ _ c.if-i-ge8.false, sym c.fetch.ensures ∙ c.in-Act.is, c.act-marks.ensures)
     (unless-free _ _ _ c.if-room-eq0.false)

@@ -6,7 +6,7 @@ use borrow.Author.Tests.{not-true, not-false}
 use Rattle.plan.specs.Plan.{plan_of}
 use Rattle.plan_engine.specs.Live.{live}
 use Rattle.plan_engine.specs.Taking.{Taken, take_choice}
-use Rattle.plan_engine.specs.Running.{turns}
+use Rattle.plan_engine.specs.Running.{given, turns}
 use Rattle.plan_engine.proofs.Taking.{choice-room}
 use Rattle.plan_engine.proofs.Running.{ahead, turns-whole, turns-on, turns-off, turns-end, turns-quiet}
 use borrow.Author.Rules.{rules}
@@ -22,7 +22,7 @@ returns-then-not-turns_on c =
     let q = plan_of c.args.plan.now in
     let l = live p.cells p.pending p.places p.m in
     let b = sym (c.turns_on.ensures p.cells p.pending p.places) ∙ c.if-not-turns_on.true in
-    sym (turns-quiet q c.args.c p.left l p.i c.args.limit b) ∙ p.invariant.1
+    sym (turns-quiet q (given c.args.c) p.left l p.i c.args.limit b) ∙ p.invariant.1
 
 pub returns-then-t-ne0 : goal.returns-then-t-ne0
 returns-then-t-ne0 c =
@@ -33,7 +33,7 @@ returns-then-t-ne0 c =
     let k = c.turn_choice-k.ensures p.cells p.pending p.places in
     let e = c.take-t.ensures ∙ ap (λ (c : ℕ). take_choice q p.left c l) k in
     let h = c.loop-i-test.true in
-    sym (turns-off q c.args.c p.left l p.i _ _ c.args.limit h b e c.if-t-ne0.true) ∙ p.invariant.1
+    sym (turns-off q (given c.args.c) p.left l p.i _ _ c.args.limit h b e c.if-t-ne0.true) ∙ p.invariant.1
 
 pub overflow_sub-left : goal.overflow_sub-left
 overflow_sub-left c =
@@ -54,7 +54,7 @@ loop-i-preserved c =
     let e = c.take-t.ensures ∙ ap (λ (c : ℕ). take_choice q p.left c l) k in
     let h = c.loop-i-test.true in (
       omega arith,
-      sym (turns-on q c.args.c p.left l p.i _ _ c.args.limit h b e c.if-t-ne0.false) ∙ p.invariant.1,
+      sym (turns-on q (given c.args.c) p.left l p.i _ _ c.args.limit h b e c.if-t-ne0.false) ∙ p.invariant.1,
     )
 
 pub returns : goal.returns
@@ -62,4 +62,6 @@ returns c =
     let p = c.loop-i in
     let a = c.args in
     let l = live p.cells p.pending p.places p.m in
-    sym (turns-end (plan_of a.plan.now) a.c p.left l p.i a.limit (omega arith)) ∙ p.invariant.1
+    let e : p.i ≡ a.limit = omega arith in
+    let all = sym (turns-end (plan_of a.plan.now) (given a.c) p.left l p.i a.limit (omega arith)) ∙ p.invariant.1 in
+    rw e at all

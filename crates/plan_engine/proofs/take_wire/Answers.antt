@@ -18,12 +18,12 @@ unfolding take_wire
 returns-then-room-eq0 c =
     rw (sym c.has.ensures ∙ c.if-not-has.false) (unless-full _ _ _ c.if-room-eq0.true)
 
-pub settle-m-requires : goal.settle-m-requires
-settle-m-requires c =
+pub settle-marks-requires : goal.settle-marks-requires
+settle-marks-requires c =
     mark-below _ _ (sym c.has.ensures ∙ c.if-not-has.false)
 
 pub returns : goal.returns
 unfolding take_wire
 returns c =
-    rw (sym c.has.ensures ∙ c.if-not-has.false, ← c.settle-m.ensures.ready_after, ← ap bits c.settle-m.ensures.held_value)
+    rw (sym c.has.ensures ∙ c.if-not-has.false, ← c.settle-marks.ensures.ready_after, ← ap bits c.settle-marks.ensures.held_value)
     (unless-free _ _ _ c.if-room-eq0.false)

@@ -1,13 +1,15 @@
 -- `plan_engine::turn_choice` meets its contract. Assumes nothing.
 use mathlib.Core.Path.{◌∙◌}
+use native.Mathlib.Nat.{le_refl}
 use Rattle.plan_engine.proofs.Running.{choice-given, choice-plain}
-use borrow.Author.Rules.{rules}
 use Rattle.plan_engine.proofs.turn_choice.Goals as goal
 
-pub returns-then-c-lt-PLAIN : goal.returns-then-c-lt-PLAIN
-returns-then-c-lt-PLAIN c =
-    λ cs ns ps. choice-given _ _ _ c.if-c-lt-PLAIN.true
+pub returns-in-Some : goal.returns-in-Some
+returns-in-Some c =
+    let e = c.in-Some.is in
+    let h = rw e at c.requires in
+    λ cs ns ps. rw e (choice-given _ _ _ h)
 
-pub returns : goal.returns
-returns c =
-    λ cs ns ps. c.plain_choice.ensures cs ns ps ∙ choice-plain _ _ _ c.if-c-lt-PLAIN.false
+pub returns-in-None : goal.returns-in-None
+returns-in-None c =
+    λ cs ns ps. rw c.in-None.is (c.plain_choice.ensures cs ns ps ∙ choice-plain _ _ 65536 (le_refl 65536))

@@ -1,13 +1,15 @@
 -- `plan_engine::turns_on` meets its contract. Assumes nothing.
 use mathlib.Core.Path.{◌∙◌}
+use native.Mathlib.Nat.{le_refl}
 use Rattle.plan_engine.proofs.Running.{turn-given, turn-busy}
-use borrow.Author.Rules.{rules}
 use Rattle.plan_engine.proofs.turns_on.Goals as goal
 
-pub returns-then-c-lt-PLAIN : goal.returns-then-c-lt-PLAIN
-returns-then-c-lt-PLAIN c =
-    λ cs ns ps. turn-given _ _ c.if-c-lt-PLAIN.true
+pub returns-in-Some : goal.returns-in-Some
+returns-in-Some c =
+    let e = c.in-Some.is in
+    let h = rw e at c.requires in
+    λ cs ns ps. rw e (turn-given _ _ h)
 
-pub returns : goal.returns
-returns c =
-    λ cs ns ps. c.busy.ensures cs ns ps ∙ turn-busy _ _ c.if-c-lt-PLAIN.false
+pub returns-in-None : goal.returns-in-None
+returns-in-None c =
+    λ cs ns ps. rw c.in-None.is (c.busy.ensures cs ns ps ∙ turn-busy _ 65536 (le_refl 65536))

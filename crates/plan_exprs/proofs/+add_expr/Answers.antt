@@ -13,7 +13,7 @@ returns-then-at-ge8192 t c =
 
 pub returns-in-2 : goal.returns-in-2
 returns-in-2 t c =
-    rw (c.width_of.ensures, c.widen.ensures)
+    rw c.width.ensures
     (sym (add-variable _ _ _ _ _ _ c.if-depth-eq0.false c.if-at-ge8192.false (sym c.byte_at-field.ensures)
     (sym c.byte_at-map.ensures ∙ c.in-2.is)))
 
@@ -26,14 +26,14 @@ returns-in-12 t c =
 pub returns-in-17 : goal.returns-in-17
 returns-in-17 t c =
     c.emit-in-17.ensures
-    ∙ rw (c.unary_width.ensures, c.widen-in-17-2.ensures, c.widen-in-17.ensures)
+    ∙ rw c.unary_width.ensures
     (sym (add-unary _ _ _ _ _ _ c.if-depth-eq0.false c.if-at-ge8192.false (sym c.byte_at-field.ensures) _ _ c.add_expr-a.ensures
     (sym c.byte_at-map.ensures ∙ c.in-17.is)))
 
 pub returns-in-49 : goal.returns-in-49
 returns-in-49 t c =
     c.emit-in-49.ensures
-    ∙ rw (c.binary_width.ensures, c.widen-in-49-2.ensures, c.widen-in-49.ensures)
+    ∙ rw c.binary_width.ensures
     (sym (add-binary _ _ _ _ _ _ c.if-depth-eq0.false c.if-at-ge8192.false (sym c.byte_at-field.ensures) _ _ c.add_expr-a-in-49.ensures
     _ _ c.add_expr-b.ensures (sym c.byte_at-map.ensures ∙ c.in-49.is)))
 
@@ -47,6 +47,5 @@ pub returns-in_default : goal.returns-in_default
 returns-in_default t c =
     let r = c.in_default.in_default-own.rest in
     c.emit-in_default.ensures
-    ∙ rw c.widen-in_default.ensures
-    (sym (add-unknown _ _ _ _ _ _ c.if-depth-eq0.false c.if-at-ge8192.false (sym c.byte_at-field.ensures) _ (sym c.byte_at-map.ensures)
-    r.0.0.0.0.1 r.0.0.0.1 r.0.0.1 r.0.1 r.1))
+    ∙ sym (add-unknown _ _ _ _ _ _ c.if-depth-eq0.false c.if-at-ge8192.false (sym c.byte_at-field.ensures) _ (sym c.byte_at-map.ensures)
+    r.0.0.0.0.1 r.0.0.0.1 r.0.0.1 r.0.1 r.1)

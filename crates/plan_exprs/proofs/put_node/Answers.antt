@@ -11,4 +11,4 @@ returns-then-n-ge4176 c =
 pub returns : goal.returns
 unfolding put_node
 returns c =
-    rw (c.index-i.ensures, lt-ltb _ _ c.if-n-ge4176.false)
+    rw (lt-ltb _ _ c.if-n-ge4176.false)

@@ -5,12 +5,12 @@ use Rattle.plan_fill.proofs.fill_act.Goals as goal
 pub returns-in-Set : goal.returns-in-Set
 unfolding fill_act
 returns-in-Set c =
-    rw (c.in-Set.is, c.fill_expr.ensures, c.widen.ensures)
+    rw (c.in-Set.is, c.fill_expr.ensures)
 
 pub returns-in-Later : goal.returns-in-Later
 unfolding fill_act
 returns-in-Later c =
-    rw (c.in-Later.is, c.fill_expr-in-Later.ensures, c.widen-in-Later.ensures)
+    rw (c.in-Later.is, c.fill_expr-in-Later.ensures)
 
 pub returns-in-Go : goal.returns-in-Go
 unfolding fill_act
@@ -20,4 +20,4 @@ returns-in-Go c =
 pub returns-in-IfNot : goal.returns-in-IfNot
 unfolding fill_act
 returns-in-IfNot c =
-    rw (c.in-IfNot.is, c.fill_expr-in-IfNot.ensures, c.goal_word.ensures)
+    rw (c.in-IfNot.is, c.fill_expr-in-IfNot.ensures)

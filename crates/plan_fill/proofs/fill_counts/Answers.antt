@@ -5,10 +5,4 @@ use Rattle.plan_fill.proofs.fill_counts.Goals as goal
 pub returns : goal.returns
 unfolding with_counts
 returns c =
-    rw (
-      c.put_four.ensures,
-      c.widen.ensures,
-      c.widen-2.ensures,
-      c.widen-3.ensures,
-      c.widen-4.ensures,
-    )
+    rw c.put_four.ensures

@@ -3,4 +3,4 @@ use Rattle.plan_fill.proofs.fill_go.Goals as goal
 
 pub returns : goal.returns
 returns c =
-    rw (c.put_four.ensures, c.goal_word.ensures)
+    rw c.put_four.ensures

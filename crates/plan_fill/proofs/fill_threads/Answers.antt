@@ -1,8 +1,8 @@
 -- `plan_fill::fill_threads` meets its contract. The loop's invariant: the threads below `i` are filled. Assumes nothing.
 use borrow.Author.Rules.{rules}
 use native.Mathlib.Omega.{arith}
-use Rattle.tables.proofs.Readers.{at_most-most}
-use lib.ListN.{get_or}
+use Rattle.tables.proofs.Readers.{min-at_most}
+use mathlib.Core.Path.{◌∙◌}
 use Rattle.plan_fill.specs.Filling.{filling, fill_thread}
 use Rattle.plan_fill.proofs.Filling.{up_none, up_turn, up-end, thread-filled}
 use Rattle.plan_fill.proofs.fill_threads.Goals as goal
@@ -12,12 +12,6 @@ loop-i-init c =
     let a = c.args in
     (search rules, up_none (fill_thread a.sheet.now a.code.now a.sizes.now) (filling a.first a.plan.now))
 
-pub fill_thread-free-requires : goal.fill_thread-free-requires
-fill_thread-free-requires c = record {
-  i_bound = omega arith;
-  n_bound = omega (arith, at_most-most 256 (get_or c.args.sizes.now c.loop-i.i 0), c.at_most.ensures);
-}
-
 pub loop-i-preserved : goal.loop-i-preserved
 loop-i-preserved c =
     let a = c.args in
@@ -26,7 +20,7 @@ loop-i-preserved c =
       up_turn (fill_thread a.sheet.now a.code.now a.sizes.now) (filling a.first a.plan.now) l.i
           l.invariant.1
           (thread-filled a.sheet.now a.code.now a.sizes.now l.i (filling l.free l.plan)
-          c.at_most.ensures c.fill_thread-free.ensures),
+          (c.min.ensures ∙ min-at_most _ _) c.fill_thread-free.ensures),
     )
 
 pub returns : goal.returns

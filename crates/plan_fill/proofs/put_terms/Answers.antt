@@ -1,6 +1,6 @@
 -- `plan_fill::put_terms` meets its contract. The loop's invariant: the terms below `k` are put. Assumes nothing.
 use borrow.Author.Rules.{rules}
-use mathlib.Core.Path.{◌∙◌}
+use mathlib.Core.Path.{refl}
 use native.Mathlib.Omega.{arith}
 use Rattle.plan_fill.specs.Filling.{filling, put_term}
 use Rattle.plan_fill.proofs.Filling.{up_none, up_turn, up-end, term-put}
@@ -18,8 +18,8 @@ loop-k-preserved c =
       omega arith,
       up_turn (put_term a.t) (filling a.first a.plan.now) l.k l.invariant.1
           (term-put a.t l.k l.free l.plan c.term_at-term.ensures
-          (c.widen.ensures ∙ c.edge_number.ensures)
-          c.widen-in-loop-k.ensures c.put_node.ensures c.more-free.ensures),
+          c.edge_number.ensures
+          refl c.put_node.ensures c.more-free.ensures),
     )
 
 pub loop-k-init : goal.loop-k-init

@@ -1,6 +1,5 @@
 -- `plan_fill::put_widths` meets its contract. The loop's invariant: the widths below `v` are put. Assumes nothing.
 use borrow.Author.Rules.{rules}
-use mathlib.Core.Path.{◌∙◌}
 use native.Mathlib.Omega.{arith}
 use Rattle.plan_fill.specs.Filling.{put_width}
 use Rattle.plan_fill.proofs.Filling.{up_none, up_turn, up-end, width-put}
@@ -16,7 +15,7 @@ loop-v-preserved c =
     let l = c.loop-v in (
       omega arith,
       up_turn (put_width a.sheet.now a.at) a.plan.now l.v l.invariant.1
-          (width-put a.sheet.now a.at l.plan l.v (c.widen.ensures ∙ c.byte_at.ensures)),
+          (width-put a.sheet.now a.at l.plan l.v c.byte_at.ensures),
     )
 
 pub returns : goal.returns

@@ -1,6 +1,8 @@
 -- `plan_fill::watch_threads` meets its contract. The loop's invariant: the threads below `i` are marked. Assumes nothing.
 use borrow.Author.Rules.{rules}
 use native.Mathlib.Omega.{arith}
+use mathlib.Core.Path.{◌∙◌}
+use Rattle.tables.proofs.Readers.{min-at_most}
 use Rattle.plan_fill.specs.Filling.{watch_thread}
 use Rattle.plan_fill.proofs.Filling.{up_none, up_turn, up-end, thread-watched}
 use Rattle.plan_fill.proofs.watch_threads.Goals as goal
@@ -17,7 +19,7 @@ loop-i-preserved c =
       omega arith,
       up_turn (watch_thread a.sheet.now a.code.now a.sizes.now) a.watchers.now l.i l.invariant.1
           (thread-watched a.sheet.now a.code.now a.sizes.now l.i l.watchers
-          c.at_most.ensures c.watch_thread.ensures),
+          (c.min.ensures ∙ min-at_most _ _) c.watch_thread.ensures),
     )
 
 pub returns : goal.returns

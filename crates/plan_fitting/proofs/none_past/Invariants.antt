@@ -17,7 +17,3 @@ test flags n k = not (get_or flags (n + k) false)
 abbrev pub invariant-loop-k : goal.invariant-loop-k
 invariant-loop-k l =
     (l.n ≤ l.k) × (l.k - l.n ≤ 32 - l.n) × (all_below (l.k - l.n) (test l.flags l.n) ≡ true)
-
-abbrev pub decreases-loop-k : goal.decreases-loop-k
-decreases-loop-k l =
-    32 - l.k

@@ -20,13 +20,13 @@ loop-i-init c =
     let p = c.args in
     (c.threads-n.ensures, search rules, all_none (test p.plan.now p.places.now))
 
-pub returns-then-size-wide : goal.returns-then-size-wide
+pub returns-then-size-byte_at : goal.returns-then-size-byte_at
 unfolding places_fit
-returns-then-size-wide c =
+returns-then-size-byte_at c =
     let p = c.args in
     let place = get_or p.places.now c.loop-i.i 0 in
     let size = (plan_of p.plan.now).size c.loop-i.i in
-    let e : size ≤ place = omega (arith, c.size.ensures, c.wide.ensures, c.byte_at.ensures) in
+    let e : size ≤ place = omega (arith, c.size.ensures, c.byte_at.ensures) in
     all-fails (test p.plan.now p.places.now) c.loop-i.i (plan_of p.plan.now).threads (omega arith)
     (le-ltb place size e)
 
@@ -35,7 +35,7 @@ loop-i-preserved c =
     let p = c.args in
     let place = get_or p.places.now c.loop-i.i 0 in
     let size = (plan_of p.plan.now).size c.loop-i.i in
-    let e : place < size = omega (arith, c.size.ensures, c.wide.ensures, c.byte_at.ensures) in (
+    let e : place < size = omega (arith, c.size.ensures, c.byte_at.ensures) in (
       c.loop-i.invariant.0,
       search rules,
       All-more (test p.plan.now p.places.now) c.loop-i.i c.loop-i.invariant.2 (lt-ltb place size e),

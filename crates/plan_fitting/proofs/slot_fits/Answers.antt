@@ -3,17 +3,12 @@ use Rattle.events.specs.Calls.{pending_fits}
 use borrow.Author.Rules.{rules}
 use Rattle.plan_fitting.proofs.slot_fits.Goals as goal
 
-pub fits-requires : goal.fits-requires
+pub returns-then-not-held : goal.returns-then-not-held
 unfolding pending_fits
-fits-requires c =
-    search rules
+returns-then-not-held c =
+    rw c.if-not-held.true
 
-pub returns-then-held : goal.returns-then-held
+pub returns-else-not-held : goal.returns-else-not-held
 unfolding pending_fits
-returns-then-held c =
-    rw c.if-held.true c.fits.ensures
-
-pub returns-else-held : goal.returns-else-held
-unfolding pending_fits
-returns-else-held c =
-    rw c.if-held.false
+returns-else-not-held c =
+    rw c.if-not-held.false c.fits.ensures

@@ -3,7 +3,7 @@ use borrow.Author.Tests.{not-true, not-false}
 use mathlib.Core.Bool.{Bool, true}
 use mathlib.Core.List.{List}
 use mathlib.Core.Path.{◌≡◌}
-use Prim.Native.Nat.{ℕ, ◌≤◌, ◌-◌}
+use Prim.Native.Nat.{ℕ, ◌≤◌}
 use Rattle.values.specs.Values.{fits}
 use Rattle.values.specs.Planes.{value_at}
 use Rattle.events.specs.Cycle.{all_below}
@@ -18,7 +18,3 @@ test plan value unknown v = fits ((plan_of plan).width v) (value_at value unknow
 abbrev pub invariant-loop-v : goal.invariant-loop-v
 invariant-loop-v l =
     (l.v ≤ l.n) × (all_below l.v (test l.plan l.value l.unknown) ≡ true)
-
-abbrev pub decreases-loop-v : goal.decreases-loop-v
-decreases-loop-v l =
-    l.n - l.v

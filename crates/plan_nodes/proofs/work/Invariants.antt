@@ -8,7 +8,3 @@ use Rattle.plan_nodes.proofs.work.Given as goal
 abbrev pub invariant-loop-i : goal.invariant-loop-i
 invariant-loop-i l =
     (l.hi ≤ 4176) × (work_from (node_at l.plan) l.i (l.hi - l.i) l.cells ≡ work_from (node_at l.plan) l.lo (l.hi - l.lo) l.initial.cells)
-
-abbrev pub decreases-loop-i : goal.decreases-loop-i
-decreases-loop-i l =
-    l.hi - l.i

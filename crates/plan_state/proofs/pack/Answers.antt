@@ -10,8 +10,8 @@ returns c =
     rw (
       c.flags-due.ensures,
       c.flags-held.ensures,
-      c.slot_unknowns-unsure.ensures,
-      c.slot_numbers-numbers.ensures,
+      c.unknowns_in-unsure.ensures,
+      c.numbers_in-numbers.ensures,
       c.unknowns_in-unknown.ensures,
       c.numbers_in-value.ensures,
     )

@@ -7,7 +7,7 @@ use borrow.Author.Tests.{not-true, not-false}
 use Rattle.masks.specs.Masks.{bits}
 use Rattle.plan.specs.Plan.{plan_of}
 use Rattle.plan_changes.specs.Changes.{eight}
-use Rattle.plan_changes.proofs.Changes.{eight-most}
+use Rattle.plan_changes.proofs.Changes.{min-eight}
 use Rattle.plan_state.specs.Packing.{ready_below}
 use Rattle.plan_state.proofs.Packing.{ready-none, ready-off, ready_on}
 use borrow.Author.Rules.{rules}
@@ -20,7 +20,7 @@ loop-i-init c =
 
 pub bounds-places-i : goal.bounds-places-i
 bounds-places-i c =
-    omega (arith, c.eight-n.ensures, eight-most c.threads.result)
+    omega (arith, c.min-n.ensures)
 
 pub loop-i-preserved : goal.loop-i-preserved
 loop-i-preserved c =
@@ -39,7 +39,7 @@ pub returns : goal.returns
 returns c =
     let a = c.args in
     let l = c.loop-i in
-    let h : l.i ≡ c.eight-n.result = omega arith in
+    let h : l.i ≡ c.min-n.result = omega arith in
     l.invariant.1
     ∙ ap (λ (n : ℕ). ready_below (plan_of a.plan.now) a.places.now n)
-    (h ∙ c.eight-n.ensures ∙ ap eight c.threads.ensures)
+    (h ∙ c.min-n.ensures ∙ min-eight _ ∙ ap eight c.threads.ensures)

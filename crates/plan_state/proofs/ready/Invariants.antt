@@ -1,7 +1,7 @@
 -- `plan_state::ready` meets its contract. The loop's invariant: the marks so far are those of the threads below `i`. Assumes nothing.
 use mathlib.Core.Path.{◌≡◌, sym, ap, ◌∙◌}
 use mathlib.Core.Logic.{⊎_elim}
-use Prim.Native.Nat.{ℕ, ◌+◌, ◌≤◌, ◌-◌}
+use Prim.Native.Nat.{◌≤◌}
 use native.Mathlib.Omega.{arith}
 use borrow.Author.Tests.{not-true, not-false}
 use Rattle.masks.specs.Masks.{bits}
@@ -16,7 +16,3 @@ use Rattle.plan_state.proofs.ready.Given as goal
 abbrev pub invariant-loop-i : goal.invariant-loop-i
 invariant-loop-i l =
     (l.i ≤ l.n) × (bits l.m ≡ ready_below (plan_of l.plan) l.places l.i)
-
-abbrev pub decreases-loop-i : goal.decreases-loop-i
-decreases-loop-i l =
-    l.n - l.i

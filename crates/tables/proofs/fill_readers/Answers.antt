@@ -3,8 +3,8 @@ use borrow.Author.Rules.{rules}
 use mathlib.Core.Path.{◌≡◌, ap, ◌∙◌}
 use Prim.Native.Nat.{ℕ}
 use native.Mathlib.Omega.{arith}
-use Rattle.tables.specs.Readers.{at_most, readers_below}
-use Rattle.tables.proofs.Readers.{at_most-most, readers-none, readers-turn}
+use Rattle.tables.specs.Readers.{readers_below}
+use Rattle.tables.proofs.Readers.{min-at_most, readers-none, readers-turn}
 use Rattle.tables.proofs.fill_readers.Goals as goal
 
 pub loop-k-init : goal.loop-k-init
@@ -14,11 +14,11 @@ loop-k-init c =
 
 pub offset_bounds-starts-k : goal.offset_bounds-starts-k
 offset_bounds-starts-k c =
-    omega (arith, at_most-most 32 c.wide.result, c.at_most-count.ensures)
+    omega (arith, c.min-count.ensures)
 
 pub bounds-starts-k : goal.bounds-starts-k
 bounds-starts-k c =
-    omega (arith, at_most-most 32 c.wide.result, c.at_most-count.ensures)
+    omega (arith, c.min-count.ensures)
 
 pub loop-k-preserved : goal.loop-k-preserved
 loop-k-preserved c =
@@ -30,7 +30,7 @@ pub returns : goal.returns
 returns c =
     let a = c.args in
     let l = c.loop-k in
-    let e : l.k ≡ c.at_most-count.result = omega arith in
+    let e : l.k ≡ c.min-count.result = omega arith in
     l.invariant.1
     ∙ ap (λ (n : ℕ). readers_below a.sheet.now a.definitions.now a.starts.now n a.readers.now)
-    (e ∙ c.at_most-count.ensures ∙ ap (at_most 32) c.wide.ensures)
+    (e ∙ c.min-count.ensures ∙ min-at_most _ _)

@@ -1,12 +1,8 @@
 -- `tables::term_count` meets its contract. Assumes nothing.
-use mathlib.Core.Path.{sym}
-use Rattle.tables.proofs.Readers.{at_most-in, at_most-cut}
+use mathlib.Core.Path.{◌∙◌}
+use Rattle.tables.proofs.Readers.{min-at_most}
 use Rattle.tables.proofs.term_count.Goals as goal
 
-pub returns-then-count-lt8 : goal.returns-then-count-lt8
-returns-then-count-lt8 c =
-    sym (at_most-in _ _ c.if-count-lt8.true)
-
-pub returns-else-count-lt8 : goal.returns-else-count-lt8
-returns-else-count-lt8 c =
-    sym (at_most-cut _ _ c.if-count-lt8.false)
+pub returns : goal.returns
+returns c =
+    c.min.ensures ∙ min-at_most _ _

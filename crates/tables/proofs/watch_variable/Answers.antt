@@ -1,17 +1,14 @@
 -- `tables::watch_variable` meets its contract. Assumes nothing.
-use mathlib.Core.Path.{sym, ap, ◌∙◌}
-use Prim.Native.Nat.{ℕ}
-use Rattle.tables.specs.Readers.{watch_variable}
+use mathlib.Core.Path.{sym}
 use Rattle.tables.proofs.Readers.{watch_variable-past, watch_variable-in}
 use Rattle.tables.proofs.watch_variable.Goals as goal
 
 pub returns-then-i-ge80 : goal.returns-then-i-ge80
 returns-then-i-ge80 c =
     let a = c.args in
-    sym (watch_variable-past a.v a.watched.now (rw c.wide-i.ensures at c.if-i-ge80.true))
+    sym (watch_variable-past a.v a.watched.now c.if-i-ge80.true)
 
 pub returns : goal.returns
 returns c =
     let a = c.args in
-    sym (watch_variable-in c.wide-i.result a.watched.now c.if-i-ge80.false)
-    ∙ ap (λ (v : ℕ). watch_variable v a.watched.now) c.wide-i.ensures
+    sym (watch_variable-in a.v a.watched.now c.if-i-ge80.false)

@@ -19,8 +19,8 @@ returns-then-is_saved c =
     rw c.state_in-state.ensures
     (over-saved p.sheet.now _ c.read-read.ensures p.bytes.now p.allowances c.if-number-ne0.false t)
 
-pub variable_widths-widths-requires : goal.variable_widths-widths-requires
-variable_widths-widths-requires c =
+pub widths_in-widths-requires : goal.widths_in-widths-requires
+widths_in-widths-requires c =
     let near = widths-near c.args.sheet.now c.read-read.result c.read-read.ensures in
     search (rules, near)
 
@@ -29,8 +29,8 @@ overflow_add-first c =
     let near = widths-near c.args.sheet.now c.read-read.result c.read-read.ensures in
     search (rules, near)
 
-pub register_widths-slots-requires : goal.register_widths-slots-requires
-register_widths-slots-requires c =
+pub widths_in-slots-requires : goal.widths_in-slots-requires
+widths_in-slots-requires c =
     let near = widths-near c.args.sheet.now c.read-read.result c.read-read.ensures in
     search (rules, near)
 
@@ -40,6 +40,6 @@ returns c =
     let t = sym c.is_saved.ensures ∙ c.if-is_saved.false in
     c.bring_older.ensures
     ∙ over-older p.sheet.now _ c.read-read.ensures p.bytes.now p.allowances _ _ c.if-number-ne0.false t
-    c.variable_widths-widths.ensures c.register_widths-slots.ensures
+    c.widths_in-widths.ensures c.widths_in-slots.ensures
 
 -- The widths' place is near the sheet's beginning.

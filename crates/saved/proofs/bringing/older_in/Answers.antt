@@ -8,5 +8,5 @@ pub returns : goal.returns
 unfolding older_in
 returns c =
     state-same _ _ c.older_numbers-value.ensures c.older_marks-unknown.ensures
-    c.older_pending-pending.ensures c.older_unsure-unsure.ensures c.flags_at-held.ensures c.places_at-places.ensures
+    c.older_numbers-pending.ensures c.older_marks-unsure.ensures c.flags_at-held.ensures c.places_at-places.ensures
     c.flags_at-due.ensures refl

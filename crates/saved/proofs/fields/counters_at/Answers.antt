@@ -5,4 +5,4 @@ use Rattle.saved.proofs.fields.counters_at.Goals as goal
 pub returns : goal.returns
 unfolding counters_at
 returns c =
-    rw (c.long_at-time.ensures, c.counts_at-counts.ensures, c.allowances_at-allowances.ensures)
+    rw (c.long_at-time.ensures, c.counts_at-counts.ensures, c.words_at-allowances.ensures)

@@ -7,9 +7,9 @@ use Rattle.saved.proofs.fields.is_form.Goals as goal
 pub returns-then-bytes-size : goal.returns-then-bytes-size
 unfolding is_form
 returns-then-bytes-size c =
-    sym (rw (ne_eqb _ _ c.if-bytes-size.true))
+    rw (eq-eqb _ _ c.if-bytes-size.true, c.byte_at.ensures)
 
-pub returns : goal.returns
+pub returns-else-bytes-size : goal.returns-else-bytes-size
 unfolding is_form
-returns c =
-    rw (eq-eqb _ _ c.if-bytes-size.false, c.byte_at.ensures)
+returns-else-bytes-size c =
+    sym (rw (ne_eqb _ _ c.if-bytes-size.false))

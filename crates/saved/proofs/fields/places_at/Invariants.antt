@@ -1,5 +1,5 @@
 -- `saved::fields::places_at` meets its contract. The loop's invariant: the elements so far are stored. Assumes nothing.
-use Prim.Native.Nat.{◌≤◌, ◌+◌, ◌-◌}
+use Prim.Native.Nat.{◌≤◌, ◌+◌}
 use mathlib.Core.Path.{◌≡◌}
 use lib.Seq.{sets}
 use lib.ListN.{get_or}
@@ -9,7 +9,3 @@ use Rattle.saved.proofs.fields.places_at.Given as goal
 abbrev pub invariant-loop-i : goal.invariant-loop-i
 invariant-loop-i l =
     (l.i ≤ 8) × (l.a ≡ sets l.initial.a 0 (list_of l.i (λ k. get_or l.bytes (l.at + k) 0)))
-
-abbrev pub decreases-loop-i : goal.decreases-loop-i
-decreases-loop-i l =
-    8 - l.i

@@ -6,6 +6,6 @@ use Rattle.saved.proofs.loading.state_in.Goals as goal
 pub returns : goal.returns
 unfolding state_in
 returns c =
-    state-same _ _ c.variable_words-value.ensures c.variable_words-unknown.ensures
-    c.slot_words-pending.ensures c.slot_words-unsure.ensures c.flags_at-held.ensures c.places_at-places.ensures
+    state-same _ _ c.words_at-value.ensures c.words_at-unknown.ensures
+    c.words_at-pending.ensures c.words_at-unsure.ensures c.flags_at-held.ensures c.places_at-places.ensures
     c.flags_at-due.ensures c.counters_at-counters.ensures

@@ -1,5 +1,5 @@
 -- `saved::saving::put_counts` meets its contract. The loop's invariant: the rows so far are put. Assumes nothing.
-use Prim.Native.Nat.{◌≤◌, ◌-◌}
+use Prim.Native.Nat.{◌≤◌}
 use mathlib.Core.Path.{◌≡◌}
 use lib.ListN.{get_or}
 use lib.Seq.{sets}
@@ -10,7 +10,3 @@ use Rattle.saved.proofs.saving.put_counts.Given as goal
 abbrev pub invariant-loop-u : goal.invariant-loop-u
 invariant-loop-u l =
     (l.u ≤ 4) × (l.out ≡ sets l.initial.out 977 (rows l.u (λ k. long_bytes (get_or l.counts k 0))))
-
-abbrev pub decreases-loop-u : goal.decreases-loop-u
-decreases-loop-u l =
-    4 - l.u

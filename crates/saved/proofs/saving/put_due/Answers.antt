@@ -4,7 +4,7 @@ use native.Mathlib.Omega.{arith}
 use borrow.Author.Rules.{rules}
 use Rattle.state.specs.Rows.{rows}
 use Rattle.saved.specs.Saved.{due_bytes}
-use Rattle.saved.proofs.Stores.{due-step}
+use Rattle.saved.proofs.Stores.{byte-flag, due-step}
 use Rattle.saved.proofs.saving.put_due.Goals as goal
 
 pub loop-k-init : goal.loop-k-init
@@ -16,7 +16,7 @@ pub loop-k-preserved : goal.loop-k-preserved
 loop-k-preserved c =
     let l = c.loop-k in
     let a = c.args in
-    (search rules, rw (c.flag_byte.ensures, l.invariant.1) (due-step a.due.now a.out.now l.k))
+    (search rules, rw (byte-flag _, l.invariant.1) (due-step a.due.now a.out.now l.k))
 
 pub returns : goal.returns
 unfolding due_bytes

@@ -1,5 +1,5 @@
 -- `saved::saving::put_places` meets its contract. The loop's invariant: the rows so far are put. Assumes nothing.
-use Prim.Native.Nat.{◌≤◌, ◌-◌}
+use Prim.Native.Nat.{◌≤◌}
 use mathlib.Core.Path.{◌≡◌}
 use lib.Seq.{sets}
 use Rattle.state.specs.Rows.{rows}
@@ -9,7 +9,3 @@ use Rattle.saved.proofs.saving.put_places.Given as goal
 abbrev pub invariant-loop-i : goal.invariant-loop-i
 invariant-loop-i l =
     (l.i ≤ 8) × (l.out ≡ sets l.initial.out 929 (rows l.i (place_row l.places)))
-
-abbrev pub decreases-loop-i : goal.decreases-loop-i
-decreases-loop-i l =
-    8 - l.i

@@ -4,7 +4,7 @@ use native.Mathlib.Omega.{arith}
 use borrow.Author.Rules.{rules}
 use Rattle.state.specs.Rows.{rows}
 use Rattle.saved.specs.Saved.{slot_bytes}
-use Rattle.saved.proofs.Stores.{slots-step}
+use Rattle.saved.proofs.Stores.{byte-flag, slots-step}
 use Rattle.saved.proofs.saving.put_slots.Goals as goal
 
 pub loop-r-init : goal.loop-r-init
@@ -18,7 +18,7 @@ loop-r-preserved c =
     let a = c.args in (
       search rules,
       c.put_word-in-loop-r.ensures
-          ∙ rw (c.put_word.ensures, c.flag_byte.ensures, l.invariant.1)
+          ∙ rw (c.put_word.ensures, byte-flag _, l.invariant.1)
           (slots-step a.held.now a.pending.now a.unsure.now a.out.now l.r),
     )
 

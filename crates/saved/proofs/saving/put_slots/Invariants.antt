@@ -1,5 +1,5 @@
 -- `saved::saving::put_slots` meets its contract. The loop's invariant: the rows so far are put. Assumes nothing.
-use Prim.Native.Nat.{◌≤◌, ◌-◌}
+use Prim.Native.Nat.{◌≤◌}
 use mathlib.Core.Path.{◌≡◌}
 use lib.Seq.{sets}
 use Rattle.state.specs.Rows.{rows}
@@ -9,7 +9,3 @@ use Rattle.saved.proofs.saving.put_slots.Given as goal
 abbrev pub invariant-loop-r : goal.invariant-loop-r
 invariant-loop-r l =
     (l.r ≤ 32) × (l.out ≡ sets l.initial.out 641 (rows l.r (slot_row l.held l.pending l.unsure)))
-
-abbrev pub decreases-loop-r : goal.decreases-loop-r
-decreases-loop-r l =
-    32 - l.r

@@ -1,5 +1,5 @@
 -- `saved::saving::put_values` meets its contract. The loop's invariant: the rows so far are put. Assumes nothing.
-use Prim.Native.Nat.{◌≤◌, ◌-◌}
+use Prim.Native.Nat.{◌≤◌}
 use mathlib.Core.Path.{◌≡◌}
 use lib.Seq.{sets}
 use Rattle.state.specs.Rows.{rows}
@@ -9,7 +9,3 @@ use Rattle.saved.proofs.saving.put_values.Given as goal
 abbrev pub invariant-loop-v : goal.invariant-loop-v
 invariant-loop-v l =
     (l.v ≤ 80) × (l.out ≡ sets l.initial.out 1 (rows l.v (value_row l.value l.unknown)))
-
-abbrev pub decreases-loop-v : goal.decreases-loop-v
-decreases-loop-v l =
-    80 - l.v
