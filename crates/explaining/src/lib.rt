@@ -541,10 +541,8 @@ fn print_points(
         points_at (name_of names.now) sheet.now definitions.now n 1 at (filled text.old pos) }
 {
     let mut p = pos;
-    let mut k = 0;
-    while k < n {
-        k += 1;
-        let w = print_point(sheet, definitions, at, k, names, text, p);
+    for k in 0..n {
+        let w = print_point(sheet, definitions, at, k + 1, names, text, p);
         p = w.pos;
     }
     p
@@ -574,11 +572,9 @@ fn body_at(sheet: &[u8], definitions: &[usize; 8], body: usize, thread: usize) -
     ensures { result ≡ body_at sheet.now definitions.now thread body }
 {
     let mut at = body;
-    let mut i = 0;
-    while i < thread {
+    for _ in 0..thread {
         let w = rules::walk(sheet, definitions, at, 64);
         at = w.next;
-        i += 1;
     }
     at
 }

@@ -13,10 +13,8 @@ use pseudocode::Instruction;
 pub fn put_variables(nodes: &mut [u16; 16384], variables: u16)
     ensures { nodes.new ≡ variables_below variables nodes.old }
 {
-    let mut v: u16 = 0;
-    while v < variables {
+    for v in 0u16..variables {
         emit_node(nodes, v, 0, v, 0, 0);
-        v += 1;
     }
 }
 
@@ -26,10 +24,8 @@ fn put_row(rows: &mut [u16; 1056], r: usize, w: Walked)
     ensures { rows.new ≡ put_row r w rows.old }
 {
     let start = 33 * r;
-    let mut k: usize = 0;
-    while k < 32 {
+    for k in 0..32 {
         rows[start + k] = w.registers[k];
-        k += 1;
     }
     rows[start + 32] = w.place;
 }
@@ -109,10 +105,8 @@ fn walk_thread(
         (filling e nodes.old rows.old) }
 {
     let mut x = e;
-    let mut place: usize = 0;
-    while place < size {
+    for place in 0..size {
         x = walk_from(sheet, code, t, size, place, nodes, rows, x);
-        place += 1;
     }
     x
 }
@@ -144,8 +138,7 @@ pub(crate) fn walk_first(
         later.now threads (filling e nodes.old rows.old) }
 {
     let mut x = e;
-    let mut i: usize = 0;
-    while i < threads {
+    for i in 0..threads {
         let deferred = later[i];
         let written = both(plain[i], deferred);
         let t = Thread {
@@ -156,7 +149,6 @@ pub(crate) fn walk_first(
             deferred,
         };
         x = walk_thread(sheet, code, t, sizes[i], nodes, rows, x);
-        i += 1;
     }
     x
 }

@@ -161,10 +161,8 @@ fn copy_nodes(from: [u16; 16384], to: &mut [u16])
     requires { length to.old ≡ 16384 }
     ensures { to.new ≡ from }
 {
-    let mut i: usize = 0;
-    while i < 16384 {
+    for i in 0..16384 {
         to[i] = from[i];
-        i += 1;
     }
 }
 
@@ -173,10 +171,8 @@ fn copy_rows(from: [u16; 1056], to: &mut [u16])
     requires { length to.old ≡ 1056 }
     ensures { to.new ≡ from }
 {
-    let mut i: usize = 0;
-    while i < 1056 {
+    for i in 0..1056 {
         to[i] = from[i];
-        i += 1;
     }
 }
 

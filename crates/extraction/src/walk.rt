@@ -59,10 +59,8 @@ pub fn own_row(inputs: u8, registers: u8) -> [u16; 32]
     ensures { result ≡ own_at inputs registers }
 {
     let mut row = [0u16; 32];
-    let mut r: usize = 0;
-    while r < 32 {
+    for r in 0..32 {
         row[r] = own_node(inputs, registers, r);
-        r += 1;
     }
     row
 }
@@ -96,10 +94,8 @@ fn land(held: [[u16; 32]; 2], deferred: u32) -> [u16; 32]
     let mut row = held[0];
     let now = held[0];
     let later = held[1];
-    let mut r: usize = 0;
-    while r < 32 {
+    for r in 0..32 {
         row[r] = chosen(deferred, r, now[r], later[r]);
-        r += 1;
     }
     row
 }
@@ -132,12 +128,10 @@ fn join(written: u32, c: u16, a: Walked, b: Walked, nodes: &mut [u16; 16384]) ->
 {
     let mut row = a.registers;
     let mut count = b.count;
-    let mut r: usize = 0;
-    while r < 32 {
+    for r in 0..32 {
         let m = merge(written, c, r, a.registers[r], b.registers[r], nodes, count);
         row[r] = m.node;
         count = m.count;
-        r += 1;
     }
     let n = emit_node(nodes, count, 40, c, a.place, b.place);
     Walked {

@@ -15,55 +15,49 @@ use writing::{put_decimal, put_word};
 pub fn put_hex_error(error: u8, text: &mut [u8; 65536], pos: usize) -> usize
     ensures { filled text.new result ≡ puts (filled text.old pos) (hex_words error) }
 {
-    if error == 1 {
-        return put_word(b"no hexadecimal digit\n", text, pos);
+    match error {
+        1 => put_word(b"no hexadecimal digit\n", text, pos),
+        _ => put_word(b"a digit without its second\n", text, pos),
     }
-    put_word(b"a digit without its second\n", text, pos)
 }
 
 // What is wrong with a line of inputs.
 pub fn put_input_error(error: u8, text: &mut [u8; 65536], pos: usize) -> usize
     ensures { filled text.new result ≡ puts (filled text.old pos) (input_words error) }
 {
-    if error == 2 {
-        return put_word(
+    match error {
+        2 => put_word(
             b"no value: decimal, 0x and hexadecimal, bits as b1x0 or 4'b1x0, or x is allowed\n",
             text,
             pos,
-        );
-    }
-    if error == 3 {
-        return put_word(b"too wide for its input\n", text, pos);
-    }
-    if error == 4 {
-        return put_word(
+        ),
+        3 => put_word(b"too wide for its input\n", text, pos),
+        4 => put_word(
             b"too few values: one for each input but the clock is allowed\n",
             text,
             pos,
-        );
+        ),
+        _ => put_word(
+            b"too many values: one for each input but the clock is allowed, - where there is none\n",
+            text,
+            pos,
+        ),
     }
-    put_word(
-        b"too many values: one for each input but the clock is allowed, - where there is none\n",
-        text,
-        pos,
-    )
 }
 
 // What is wrong with a line of names.
 pub fn put_name_error(error: u8, text: &mut [u8; 65536], pos: usize) -> usize
     ensures { filled text.new result ≡ puts (filled text.old pos) (name_words error) }
 {
-    if error == 2 {
-        return put_word(b"no such variable\n", text, pos);
-    }
-    if error == 3 {
-        return put_word(
+    match error {
+        2 => put_word(b"no such variable\n", text, pos),
+        3 => put_word(
             b"a name that is not allowed: 1 to 31 letters, digits and _, no digit first\n",
             text,
             pos,
-        );
+        ),
+        _ => put_word(b"another variable has this name\n", text, pos),
     }
-    put_word(b"another variable has this name\n", text, pos)
 }
 
 // ---- rules

@@ -64,11 +64,9 @@ pub fn count_nodes(nodes: &[u16; 16384], count: usize, uses: &mut [u8; 4096])
     requires { count ≤ 4096 }
     ensures { uses.new ≡ operand_uses nodes.now uses.old count }
 {
-    let mut n: usize = 0;
-    while n < count {
+    for n in 0..count {
         let cell = cell_at(nodes, n as u16);
         count_operands(cell, uses);
-        n += 1;
     }
 }
 
@@ -77,9 +75,7 @@ pub fn count_entries(rows: &[u16; 1056], count: usize, uses: &mut [u8; 4096])
     requires { count ≤ 1056 }
     ensures { uses.new ≡ entry_uses rows.now uses.old count }
 {
-    let mut k: usize = 0;
-    while k < count {
+    for k in 0..count {
         count_use(rows[k], uses);
-        k += 1;
     }
 }

@@ -70,8 +70,7 @@ pub fn fill_uses(
 )
     ensures { uses.new ≡ uses_of nodes.now rows.now count waits }
 {
-    let none = [0u8; 4096];
-    *uses = none;
+    *uses = [0u8; 4096];
     let n = lesser(count, 4096);
     count_nodes(nodes, n, uses);
     let k = 33 * lesser(waits, 32);

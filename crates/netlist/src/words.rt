@@ -16,8 +16,7 @@ pub fn wide(w: u16) -> usize
 pub fn narrow(w: u16) -> u8
     ensures { result ≡ w % 256 }
 {
-    let b = w % 256;
-    b as u8
+    (w % 256) as u8
 }
 
 // Node `n` of the lent words.

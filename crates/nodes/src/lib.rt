@@ -27,13 +27,6 @@ pub fn wide(w: u16) -> usize
     w as usize
 }
 
-// A word as the low half of a number.
-fn low(w: u16) -> u32
-    ensures { result ≡ w }
-{
-    w as u32
-}
-
 // The word at a place, 0 past the end.
 pub fn word_at(words: &[u16], at: usize) -> u16
     ensures { result ≡ get_or words.now at 0 }
@@ -45,10 +38,7 @@ pub fn word_at(words: &[u16], at: usize) -> u16
 fn operator_of(k: u16, a: u16, b: u16) -> Cell
     ensures { node_of result ≡ operator_of k a b }
 {
-    if k < 11 {
-        return Cell::Blank(0);
-    }
-    if 19 < k {
+    if k < 11 || 19 < k {
         return Cell::Blank(0);
     }
     let op = (k - 10) as u8;
@@ -67,7 +57,7 @@ fn cell_of(k: u16, a: u16, b: u16, c: u16) -> Cell
         0 => Cell::Variable(a),
         1 => Cell::Constant {
             width: a,
-            number: low(b) + 65536 * low(c),
+            number: b as u32 + 65536 * c as u32,
         },
         2 => Cell::Blank(a),
         20 => Cell::Conditional { c: a, a: b, b: c },
@@ -80,7 +70,7 @@ fn cell_of(k: u16, a: u16, b: u16, c: u16) -> Cell
 pub fn cell_at(nodes: &[u16], n: u16) -> Cell
     ensures { node_of result ≡ node_at nodes.now n }
 {
-    let i = 4 * wide(n);
+    let i = 4 * n as usize;
     cell_of(
         word_at(nodes, i),
         word_at(nodes, i + 1),
@@ -93,9 +83,5 @@ pub fn cell_at(nodes: &[u16], n: u16) -> Cell
 pub fn size_at(sizes: &[u8; 4096], n: u16) -> u8
     ensures { result ≡ size_in sizes.now n }
 {
-    let i = wide(n);
-    if 4096 <= i {
-        return 0;
-    }
-    sizes[i]
+    if n < 4096 { sizes[n as usize] } else { 0 }
 }

@@ -48,11 +48,9 @@ fn fill_thread(
         ≡ notes (noted heads.old first) (heads_in sheet.now code.now thread n) }
 {
     let mut k = first;
-    let mut p: usize = 0;
-    while p < n {
+    for p in 0..n {
         let x = pseudocode::fetch(sheet, code, thread, p);
         k = note_wait(x, thread, p, heads, k);
-        p += 1;
     }
     k
 }
@@ -68,13 +66,10 @@ pub fn fill_heads(
     ensures { noted heads.new result ≡ notes (noted heads.old 0)
         (heads_of sheet.now code.now sizes.now threads) }
 {
-    let last = threads as usize;
     let mut k: usize = 0;
-    let mut i: usize = 0;
-    while i < last {
+    for i in 0..threads as usize {
         let n = size_of(sizes, i);
         k = fill_thread(sheet, code, i, n, heads, k);
-        i += 1;
     }
     k
 }

@@ -49,14 +49,11 @@ pub fn put_threads(
     ensures { filled text.new result ≡ puts (filled text.old pos)
         (thread_lines sheet.now code.now sizes.now threads) }
 {
-    let last = threads as usize;
     let mut p = pos;
-    let mut i: usize = 0;
-    while i < last {
+    for i in 0..threads as usize {
         let n = size_of(sizes, i);
         let waits = waits_in(sheet, code, i, n);
         p = put_thread(i, n, waits, text, p);
-        i += 1;
     }
     p
 }

@@ -1,11 +1,12 @@
 -- How many waits the threads have: one turn of each loop, and that the counts fit. Assumes nothing.
-use mathlib.Core.Path.{◌≡◌, refl, ap, ◌∙◌}
+use mathlib.Core.Path.{◌≡◌, refl, sym, ap, ◌∙◌}
 use mathlib.Core.Bool.{Bool, true, false}
 use mathlib.Core.List.{List}
-use Prim.Native.Nat.{ℕ, zero, suc, ◌+◌, ◌≤◌}
+use Prim.Native.Nat.{ℕ, zero, suc, ◌+◌, ◌≤◌, min}
 use native.Mathlib.Nat.{le_refl}
 use native.Mathlib.Numerals.{add-one}
 use native.Mathlib.Omega.{arith}
+use borrow.Author.Tests.{ltb-true, ltb-false}
 use lib.Dec.{ltb}
 use lib.ListN.{get_or}
 use Rattle.values.specs.Values.{pick}
@@ -13,8 +14,22 @@ use Rattle.pseudocode.specs.declared.Instruction.{Instruction}
 use Rattle.pseudocode.specs.declared.Instruction.TheVariants.{Wait, Act}
 use Rattle.pseudocode.specs.Fetching.{fetch_at}
 use Rattle.tables.specs.Readers.{at_most}
-use Rattle.tables.proofs.Readers.{at_most-most}
+use Rattle.tables.proofs.Readers.{at_most-in, at_most-cut, at_most-most}
 use Rattle.rules.specs.Judging.{size_of, wait_of, waits_in, waits_of}
+
+-- What `min` leaves of a count.
+pub at_most-min : (limit n : ℕ) → min n limit ≡ at_most limit n
+at_most-min limit n = by (ltb n limit) refl
+  where
+    by : (t : Bool) → ltb n limit ≡ t → min n limit ≡ at_most limit n
+    by true e =
+        let h = ltb-true n limit e in
+        let m : min n limit ≡ n = omega (arith, h) in
+        m ∙ sym (at_most-in limit n h)
+    by false e =
+        let h = ltb-false n limit e in
+        let m : min n limit ≡ limit = omega (arith, h) in
+        m ∙ sym (at_most-cut limit n h)
 
 pub size_of-most : (sizes : List ℕ) (i : ℕ) → size_of sizes i ≤ 256
 unfolding size_of

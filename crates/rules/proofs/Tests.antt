@@ -1,14 +1,24 @@
--- Tests over numbers below n: one turn of a loop that looks for a number with a property, marks that are set, and some
--- instruction of a code by its place. Assumes nothing.
-use mathlib.Core.Path.{◌≡◌, refl, sym, ap, ◌∙◌}
+-- Tests over numbers below n: one turn of a loop that looks for a number with a property, `any` over them, marks that are set,
+-- and some instruction of a code by its place. Assumes nothing.
+use mathlib.Core.Path.{◌≡◌, refl, sym, ap, ◌∙◌, subst}
 use mathlib.Core.Bool.{Bool, true, false, not, ◌&&◌, ◌||◌, or-true, or-false, or_assoc}
 use mathlib.Core.List.{List, [], ◌∷◌}
 use Prim.Native.Nat.{ℕ, zero, suc, ◌+◌, ◌≤◌, ◌<◌}
 use native.Mathlib.Numerals.{add-one}
+use native.Mathlib.Omega.{arith}
 use borrow.Author.Tests.{eqb-true, eqb-false, ltb-true, ltb-false}
 use lib.Dec.{ltb, eqb}
 use lib.ListN.{length, get_or, set}
 use lib.Seq.{get_or-set_same, get_or-set_other}
+use denote.Param.Members.{Mut}
+use Rattle.std.specs.declared.option.Option.{Option}
+use Rattle.std.specs.Iterator.{YieldsThen}
+use Rattle.std.specs.List.{FoldsTo, range_with_len, AllWithin, HoldsAt}
+use Rattle.std.specs.Fn.{Called}
+use Rattle.std.specs.Option.{MatchOption}
+use Rattle.std.specs.Bool.{MatchBool}
+use Rattle.std.proofs.lemmas.List.FromFn.{length-range_with_len, get_or-range_with_len}
+use Rattle.std.proofs.lemmas.Iterator.{YieldsList, cases_from_any}
 use Rattle.sheet.specs.Expression.{Expr}
 use Rattle.pseudocode.specs.Translation.{Instr, go}
 use Rattle.masks.specs.Masks.{any_mark, first}
@@ -17,7 +27,7 @@ use Rattle.events.specs.Cycle.{any_below}
 use Rattle.events.proofs.Cycle.{absurd-bool, any-below, some_below, below_none}
 use Rattle.nextstate.specs.Rules.{any_instr}
 
--- ---- a loop over the numbers below n: none so far, one found, none at the end
+-- ---- a loop over the numbers below n: none so far
 
 module _ (f : ℕ → Bool) where
   pub any-start : any_below 0 f ≡ false
@@ -28,11 +38,33 @@ module _ (f : ℕ → Bool) where
   unfolding any_below
   any-turn k e h g = rw (add-one k, e) (sym h ∙ g)
 
-  pub any_found : (n k : ℕ) {b : Bool} → k < n → b ≡ f k → b ≡ true → true ≡ any_below n f
-  any_found n k l h g = sym (any-below f n k l (sym h ∙ g))
+-- ---- what `any` gives over the numbers below n, where the closure gives f of each
 
-  pub any-end : (n k : ℕ) → any_below k f ≡ false → n ≡ k → false ≡ any_below n f
-  any-end n k e h = rw h (sym e)
+module _ {S F : Type 0} {steps : S → Option ℕ → S → Type 0} {g : Mut F (ℕ × Unit {0}) Bool} (f : ℕ → Bool) (n : ℕ) {s : S} (u : S) {p : F} where
+  pub any_in-range : (r : Bool)
+      → (xs : List ℕ) × (o : Option ℕ) × (j : F) × YieldsThen steps s xs o u × FoldsTo (λ p x q. Called g p (x, tt) false q) p xs j
+      × MatchOption o (r ≡ false) (λ x. (r ≡ true) × ((h : F) × Called g j (x, tt) true h))
+      → YieldsList steps (λ x. x) s (range_with_len 0 n)
+      → ((k : ℕ) (q : F) → Called g p (k, tt) true q → f k ≡ true) → ((k : ℕ) (q : F) → Called g p (k, tt) false q → (q ≡ p) × (f k ≡ false))
+      → r ≡ any_below n f
+  any_in-range r d y hit miss = by r (cases_from_any u p r (λ k. f k ≡ true) (λ k. f k ≡ false) d y hit miss)
+    where
+      all : List ℕ
+      all = range_with_len 0 n
+
+      long : length all ≡ n
+      long = length-range_with_len 0 n
+
+      place : (k : ℕ) → k < n → get_or all k 0 ≡ k
+      place k l = omega (arith, get_or-range_with_len 0 n k 0 l)
+
+      by : (r : Bool) → MatchBool r ((k : ℕ) × (k < length all) × HoldsAt (λ k. f k ≡ true) all k) (AllWithin (λ k. f k ≡ false) all 0 (length all))
+          → r ≡ any_below n f
+      by true h =
+          let l : h.0 < n = omega (arith, long, h.1) in
+          sym (any-below f n h.0 l (subst (λ (k : ℕ). f k ≡ true) (place h.0 l) (h.2 0)))
+      by false h =
+          sym (below_none f n (λ k l. subst (λ (k : ℕ). f k ≡ false) (place k l) (h k 0 (omega arith) (omega (arith, long)))))
 
 -- The first of the numbers below suc n, and the rest.
 pub any-front : (f : ℕ → Bool) (n : ℕ) → any_below (suc n) f ≡ (f 0 || any_below n (λ k. f (suc k)))

@@ -23,7 +23,7 @@ use Rattle.events.specs.Cycle.{any_below}
 use Rattle.nextstate.specs.Rules.{starts_waiting, surely_waits, loops_wait}
 use Rattle.rules.specs.declared.Waiting.{Waiting}
 use Rattle.rules.proofs.Tests.{any-front}
-use Rattle.rules.specs.Walking.{running, waits, in_sequence, in_if, in_if_else, in_while, in_forever, walk_form, walk_at, starts_running_from, runs_away_from}
+use Rattle.rules.specs.Walking.{running, waits, in_sequence, in_if, in_if_else, in_while, in_forever, walk_form, walk_at, some_from, starts_running_from, runs_away_from}
 
 -- ---- no level left, no byte left, no map
 
@@ -91,40 +91,34 @@ module _ (s ds : List ℕ) (p d : ℕ) (deep : d ≡ 0 → ⊥) (near : p < 8192
   unfolding walk_form form_map
   at-wait m n w h = by_form a_wait m (h ∙ ap (λ (k : ℕ). waits (p + 2 + 2 * k)) (w ∙ n))
 
--- ---- the loops over the threads, so many of them left
+-- ---- the loop over the threads, so many of them left
+
+module _ (f : Waiting → Bool) (s ds : List ℕ) where
+  pub some-end : (n p : ℕ) → n ≡ 0 → some_from f s ds n p ≡ false
+  unfolding some_from
+  some-end n p e = rw e refl
+
+  pub some-found : (n p : ℕ) {w : Waiting} → (n ≡ 0 → ⊥) → w ≡ walk_at 64 s ds p → f w ≡ true → some_from f s ds n p ≡ true
+  unfolding some_from
+  some-found zero p h e k = absurd (h refl)
+  some-found (suc n) p h e k = rw (ap f (sym e) ∙ k)
+
+  pub some-turn : (n p : ℕ) {w : Waiting} → (n ≡ 0 → ⊥) → w ≡ walk_at 64 s ds p → f w ≡ false
+      → some_from f s ds n p ≡ some_from f s ds (n - 1) w.next
+  unfolding some_from
+  some-turn zero p h e k = absurd (h refl)
+  some-turn (suc n) p h e k = rw (ap f (sym e) ∙ k, sub-one) (ap (λ (w : Waiting). some_from f s ds n w.next) (sym e))
 
 module _ (s ds : List ℕ) where
-  pub starts-end : (n p : ℕ) → n ≡ 0 → starts_running_from s ds n p ≡ false
-  unfolding starts_running_from
-  starts-end n p e = rw e refl
+  pub some-starts : (n p : ℕ) → some_from (λ w. not w.starts) s ds n p ≡ starts_running_from s ds n p
+  unfolding some_from starts_running_from
+  some-starts zero p = refl
+  some-starts (suc n) p = let w = walk_at 64 s ds p in ap (λ t. not w.starts || t) (some-starts n w.next)
 
-  pub starts-found : (n p : ℕ) {w : Waiting} → (n ≡ 0 → ⊥) → w ≡ walk_at 64 s ds p → w.starts ≡ false → starts_running_from s ds n p ≡ true
-  unfolding starts_running_from
-  starts-found zero p h e f = absurd (h refl)
-  starts-found (suc n) p h e f = rw (ap (λ (w : Waiting). w.starts) (sym e) ∙ f)
-
-  pub starts-turn : (n p : ℕ) {w : Waiting} → (n ≡ 0 → ⊥) → w ≡ walk_at 64 s ds p → w.starts ≡ true
-      → starts_running_from s ds n p ≡ starts_running_from s ds (n - 1) w.next
-  unfolding starts_running_from
-  starts-turn zero p h e f = absurd (h refl)
-  starts-turn (suc n) p h e f =
-      rw (ap (λ (w : Waiting). w.starts) (sym e) ∙ f, sub-one) (ap (λ (w : Waiting). starts_running_from s ds n w.next) (sym e))
-
-  pub away-end : (n p : ℕ) → n ≡ 0 → runs_away_from s ds n p ≡ false
-  unfolding runs_away_from
-  away-end n p e = rw e refl
-
-  pub away-found : (n p : ℕ) {w : Waiting} → (n ≡ 0 → ⊥) → w ≡ walk_at 64 s ds p → (w.surely && w.loops) ≡ false → runs_away_from s ds n p ≡ true
-  unfolding runs_away_from
-  away-found zero p h e f = absurd (h refl)
-  away-found (suc n) p h e f = rw (ap (λ (w : Waiting). w.surely && w.loops) (sym e) ∙ f)
-
-  pub away-turn : (n p : ℕ) {w : Waiting} → (n ≡ 0 → ⊥) → w ≡ walk_at 64 s ds p → (w.surely && w.loops) ≡ true
-      → runs_away_from s ds n p ≡ runs_away_from s ds (n - 1) w.next
-  unfolding runs_away_from
-  away-turn zero p h e f = absurd (h refl)
-  away-turn (suc n) p h e f =
-      rw (ap (λ (w : Waiting). w.surely && w.loops) (sym e) ∙ f, sub-one) (ap (λ (w : Waiting). runs_away_from s ds n w.next) (sym e))
+  pub some-away : (n p : ℕ) → some_from (λ w. not (w.surely && w.loops)) s ds n p ≡ runs_away_from s ds n p
+  unfolding some_from runs_away_from
+  some-away zero p = refl
+  some-away (suc n) p = let w = walk_at 64 s ds p in ap (λ t. not (w.surely && w.loops) || t) (some-away n w.next)
 
 -- ---- a statement that was read
 

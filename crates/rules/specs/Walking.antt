@@ -55,6 +55,11 @@ walk_at (suc d) s ds p = pick (ltb p 8192) (walk_form (walk_at d s ds) s ds p (f
 
 -- ---- n threads, one after the other, the first at p. "Depth at most 64".
 
+-- A test on how a thread's statement waits holds of one of them.
+unfoldable pub some_from : (Waiting → Bool) → List ℕ → List ℕ → ℕ → ℕ → Bool
+some_from f s ds zero p = false
+some_from f s ds (suc n) p = let w = walk_at 64 s ds p in f w || some_from f s ds n w.next
+
 -- 16: "a thread that doesn't start with a wait"
 unfoldable pub starts_running_from : List ℕ → List ℕ → ℕ → ℕ → Bool
 starts_running_from s ds zero p = false

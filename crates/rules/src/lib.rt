@@ -3,12 +3,12 @@
 // Each function equals its definition in specs/ for bytes and tables of any contents.
 #![tactic(auto)]
 
-ghost use Rattle.std.specs.Prelude.{◌≡◌, not, ◌&&◌, ◌||◌};
+ghost use Rattle.std.specs.Prelude.{◌≡◌, Bool, not, ◌&&◌};
 ghost use Rattle.masks.specs.Masks.{bits};
 ghost use Rattle.nextstate.specs.Rules.{is_posedge};
 ghost use Rattle.tables.specs.Readers.{at_most};
 ghost use Rattle.rules.specs.Reading.{mark_instr, mark_thread, reading_below};
-ghost use Rattle.rules.specs.Walking.{running, waits, in_sequence, in_if, in_if_else, in_while, in_forever, walk_at, starts_running_from, runs_away_from};
+ghost use Rattle.rules.specs.Walking.{running, waits, in_sequence, in_if, in_if_else, in_while, in_forever, walk_at, some_from, starts_running_from, runs_away_from};
 ghost use Rattle.rules.specs.Judging.{marked, entry, size_of, writes_at, other_writes, written_again, writes_too, written_twice, two_writers_at};
 ghost use Rattle.rules.specs.Judging.{written_by, written_both, both_ways_at, read_elsewhere_at, shared_by, shared_at, plainly_shared_at};
 ghost use Rattle.rules.specs.Judging.{other_wait_of, other_wait_in, other_wait_below, clock_read_at, upward_at, reads_above, reads_upward_at};
@@ -36,28 +36,15 @@ pub struct Waiting {
     pub loops: bool,
 }
 
-// A byte as a place.
-fn wide(b: u8) -> usize
-    ensures { result ≡ b }
-{
-    b as usize
-}
-
-// A count, or the limit where it is more.
-fn at_most(limit: usize, n: usize) -> usize
-    ensures { result ≡ at_most limit n }
-{
-    if n < limit { n } else { limit }
-}
-
 // The number of the register that is variable `t`; 32 for an input.
 fn register_of(inputs: u8, t: u8) -> usize
     ensures { result ≡ register_of inputs t }
 {
     if t < inputs {
-        return 32;
+        32
+    } else {
+        (t - inputs) as usize
     }
-    wide(t - inputs)
 }
 
 // The register that an instruction writes by plain assignment, 32 where it writes none.
@@ -97,12 +84,10 @@ fn thread_writes(sheet: &[u8], code: &[u16; 4096], inputs: u8, thread: usize, n:
 {
     let mut plain: u32 = 0;
     let mut later: u32 = 0;
-    let mut p: usize = 0;
-    while p < n {
+    for p in 0..n {
         let i = pseudocode::fetch(sheet, code, thread, p);
         plain = masks::with(plain, set_register(inputs, i));
         later = masks::with(later, later_register(inputs, i));
-        p += 1;
     }
     Written { plain, later }
 }
@@ -121,14 +106,12 @@ pub fn writers(
     ensures plain_after { plain.new ≡ plain_below sheet.now code.now sizes.now inputs (at_most 8 threads) plain.old }
     ensures later_after { later.new ≡ later_below sheet.now code.now sizes.now inputs (at_most 8 threads) later.old }
 {
-    let count = at_most(8, wide(threads));
-    let mut i: usize = 0;
-    while i < count {
-        let n = at_most(256, sizes[i]);
+    let count = (threads as usize).min(8);
+    for i in 0..count {
+        let n = sizes[i].min(256);
         let w = thread_writes(sheet, code, inputs, i, n);
         plain[i] = w.plain;
         later[i] = w.later;
-        i += 1;
     }
 }
 
@@ -170,8 +153,7 @@ fn mark_thread(
 )
     ensures { reading.new ≡ mark_thread sheet.now definitions.now code.now thread n reading.old }
 {
-    let mut p: usize = 0;
-    while p < n {
+    for p in 0..n {
         mark_instr(
             sheet,
             definitions,
@@ -179,7 +161,6 @@ fn mark_thread(
             thread,
             reading,
         );
-        p += 1;
     }
 }
 
@@ -194,12 +175,10 @@ pub fn thread_readers(
 )
     ensures { reading.new ≡ reading_below sheet.now definitions.now code.now sizes.now (at_most 8 threads) reading.old }
 {
-    let count = at_most(8, wide(threads));
-    let mut i: usize = 0;
-    while i < count {
-        let n = at_most(256, sizes[i]);
+    let count = (threads as usize).min(8);
+    for i in 0..count {
+        let n = sizes[i].min(256);
         mark_thread(sheet, definitions, code, i, n, reading);
-        i += 1;
     }
 }
 
@@ -207,154 +186,91 @@ pub fn thread_readers(
 pub fn marked(table: &[u32; 8], i: usize, r: usize) -> bool
     ensures { result ≡ marked table.now i r }
 {
-    if 8 <= i {
-        return false;
-    }
-    masks::has(table[i], r)
+    i < 8 && masks::has(table[i], r)
 }
 
 // The marks of a variable.
 pub fn entry(table: &[u32; 80], v: usize) -> u32
     ensures { result ≡ entry table.now v }
 {
-    if 80 <= v {
-        return 0;
-    }
-    table[v]
+    if v < 80 { table[v] } else { 0 }
 }
 
 // How many instructions of a thread are looked at.
 pub fn size_of(sizes: &[usize; 8], i: usize) -> usize
     ensures { result ≡ size_of sizes.now i }
 {
-    if 8 <= i {
-        return 0;
-    }
-    at_most(256, sizes[i])
+    if i < 8 { sizes[i].min(256) } else { 0 }
 }
 
 // Do both hold?
 pub fn both(a: bool, b: bool) -> bool
     ensures { result ≡ (a && b) }
 {
-    if a {
-        return b;
-    }
-    false
-}
-
-// Does one of the two hold?
-fn one_of(a: bool, b: bool) -> bool
-    ensures { result ≡ (a || b) }
-{
-    if a {
-        return true;
-    }
-    b
+    a && b
 }
 
 // Does thread `i` write register `r`?
 pub fn writes(plain: &[u32; 8], later: &[u32; 8], i: usize, r: usize) -> bool
     ensures { result ≡ writes_at plain.now later.now i r }
 {
-    one_of(marked(plain, i, r), marked(later, i, r))
+    marked(plain, i, r) || marked(later, i, r)
 }
 
 // Is `j` a thread other than `i` that writes register `r`?
 pub fn other_writes(plain: &[u32; 8], later: &[u32; 8], i: usize, r: usize, j: usize) -> bool
     ensures { result ≡ other_writes plain.now later.now i r j }
 {
-    if i == j {
-        return false;
-    }
-    writes(plain, later, j, r)
+    i != j && writes(plain, later, j, r)
 }
 
 // Does a thread other than `i` write register `r`?
 fn written_again(plain: &[u32; 8], later: &[u32; 8], threads: usize, i: usize, r: usize) -> bool
     ensures { result ≡ written_again plain.now later.now threads i r }
 {
-    let mut j: usize = 0;
-    while j < threads {
-        if other_writes(plain, later, i, r, j) {
-            return true;
-        }
-        j += 1;
-    }
-    false
+    (0..threads).any(|j| other_writes(plain, later, i, r, j))
 }
 
 // Do thread `i` and another one write register `r`?
 fn writes_too(plain: &[u32; 8], later: &[u32; 8], threads: usize, r: usize, i: usize) -> bool
     ensures { result ≡ writes_too plain.now later.now threads r i }
 {
-    if writes(plain, later, i, r) {
-        return written_again(plain, later, threads, i, r);
-    }
-    false
+    writes(plain, later, i, r) && written_again(plain, later, threads, i, r)
 }
 
 // Do two threads write register `r`?
 pub fn written_twice(plain: &[u32; 8], later: &[u32; 8], threads: usize, r: usize) -> bool
     ensures { result ≡ written_twice plain.now later.now threads r }
 {
-    let mut i: usize = 0;
-    while i < threads {
-        if writes_too(plain, later, threads, r, i) {
-            return true;
-        }
-        i += 1;
-    }
-    false
+    (0..threads).any(|i| writes_too(plain, later, threads, r, i))
 }
 
 // Number 12: two threads write one register.
 pub fn two_writers(plain: &[u32; 8], later: &[u32; 8], threads: usize, registers: usize) -> bool
     ensures { result ≡ two_writers_at plain.now later.now threads registers }
 {
-    let mut r: usize = 0;
-    while r < registers {
-        if written_twice(plain, later, threads, r) {
-            return true;
-        }
-        r += 1;
-    }
-    false
+    (0..registers).any(|r| written_twice(plain, later, threads, r))
 }
 
 // Is register `r` marked at some thread?
 fn written_by(table: &[u32; 8], threads: usize, r: usize) -> bool
     ensures { result ≡ written_by table.now threads r }
 {
-    let mut i: usize = 0;
-    while i < threads {
-        if marked(table, i, r) {
-            return true;
-        }
-        i += 1;
-    }
-    false
+    (0..threads).any(|i| marked(table, i, r))
 }
 
 // Is register `r` written by plain and by later assignment?
 pub fn written_both(plain: &[u32; 8], later: &[u32; 8], threads: usize, r: usize) -> bool
     ensures { result ≡ written_both plain.now later.now threads r }
 {
-    both(written_by(plain, threads, r), written_by(later, threads, r))
+    written_by(plain, threads, r) && written_by(later, threads, r)
 }
 
 // Number 13: a register is written both ways.
 pub fn both_ways(plain: &[u32; 8], later: &[u32; 8], threads: usize, registers: usize) -> bool
     ensures { result ≡ both_ways_at plain.now later.now threads registers }
 {
-    let mut r: usize = 0;
-    while r < registers {
-        if written_both(plain, later, threads, r) {
-            return true;
-        }
-        r += 1;
-    }
-    false
+    (0..registers).any(|r| written_both(plain, later, threads, r))
 }
 
 // Is variable `v` read by a thread other than `i` or by a wire?
@@ -362,7 +278,7 @@ fn read_elsewhere(reading: &[u32; 80], readers: &[u32; 80], i: usize, v: usize) 
     ensures { result ≡ read_elsewhere_at reading.now readers.now i v }
 {
     let others = masks::without(entry(reading, v), i);
-    one_of(masks::any(others), masks::any(entry(readers, v)))
+    masks::any(others) || masks::any(entry(readers, v))
 }
 
 // Does thread `i` write register `r` plainly, with variable `v` read elsewhere?
@@ -376,10 +292,7 @@ pub fn shared_by(
 ) -> bool
     ensures { result ≡ shared_by plain.now reading.now readers.now r v i }
 {
-    if marked(plain, i, r) {
-        return read_elsewhere(reading, readers, i, v);
-    }
-    false
+    marked(plain, i, r) && read_elsewhere(reading, readers, i, v)
 }
 
 // Does some thread write register `r` plainly, with variable `v` read elsewhere?
@@ -393,14 +306,7 @@ pub fn shared(
 ) -> bool
     ensures { result ≡ shared_at plain.now reading.now readers.now threads r v }
 {
-    let mut i: usize = 0;
-    while i < threads {
-        if shared_by(plain, reading, readers, r, v, i) {
-            return true;
-        }
-        i += 1;
-    }
-    false
+    (0..threads).any(|i| shared_by(plain, reading, readers, r, v, i))
 }
 
 // Number 14: a register that is written by plain assignment is read by another thread or a wire.
@@ -415,26 +321,14 @@ pub fn plainly_shared(
     ensures { result ≡ plainly_shared_at plain.now reading.now readers.now threads inputs registers }
 {
     let first = inputs as usize;
-    let count = registers as usize;
-    let mut r: usize = 0;
-    while r < count {
-        if shared(plain, reading, readers, threads, r, first + r) {
-            return true;
-        }
-        r += 1;
-    }
-    false
+    (0..registers as usize).any(|r| shared(plain, reading, readers, threads, r, first + r))
 }
 
 // Is an edge other than the posedge?
 fn other_edge(e: Edge) -> bool
     ensures { result ≡ not (is_posedge e) }
 {
-    match e {
-        Edge::Change => true,
-        Edge::Posedge => false,
-        Edge::Negedge => true,
-    }
+    matches!(e, Edge::Change | Edge::Negedge)
 }
 
 // Is an instruction a wait other than that for the single posedge of input 0?
@@ -444,43 +338,24 @@ pub fn other_wait_of(i: Instruction) -> bool
     let Instruction::Wait(t) = i else {
         return false;
     };
-    if t.count != 1 {
+    if t.count != 1 || t.t0.variable != 0 {
         return true;
     }
-    let first = t.t0;
-    if first.variable != 0 {
-        return true;
-    }
-    let edge = first.edge;
-    other_edge(edge)
+    other_edge(t.t0.edge)
 }
 
 // Is one of a thread's first instructions such a wait?
 pub fn other_wait_in(sheet: &[u8], code: &[u16; 4096], thread: usize, n: usize) -> bool
     ensures { result ≡ other_wait_in sheet.now code.now thread n }
 {
-    let mut p: usize = 0;
-    while p < n {
-        if other_wait_of(pseudocode::fetch(sheet, code, thread, p)) {
-            return true;
-        }
-        p += 1;
-    }
-    false
+    (0..n).any(|p| other_wait_of(pseudocode::fetch(sheet, code, thread, p)))
 }
 
 // Number 15: there is a wait other than the single posedge of input 0.
 pub fn other_wait(sheet: &[u8], code: &[u16; 4096], sizes: &[usize; 8], threads: usize) -> bool
     ensures { result ≡ other_wait_below sheet.now code.now sizes.now threads }
 {
-    let mut i: usize = 0;
-    while i < threads {
-        if other_wait_in(sheet, code, i, size_of(sizes, i)) {
-            return true;
-        }
-        i += 1;
-    }
-    false
+    (0..threads).any(|i| other_wait_in(sheet, code, i, size_of(sizes, i)))
 }
 
 // A statement that doesn't wait, up to a place.
@@ -500,10 +375,9 @@ fn waits(next: usize) -> Waiting
     ensures { result ≡ waits next }
 {
     Waiting {
-        next,
         starts: true,
         surely: true,
-        loops: true,
+        ..running(next)
     }
 }
 
@@ -514,8 +388,8 @@ fn in_sequence(a: Waiting, b: Waiting) -> Waiting
     Waiting {
         next: b.next,
         starts: a.starts,
-        surely: one_of(a.surely, b.surely),
-        loops: both(a.loops, b.loops),
+        surely: a.surely || b.surely,
+        loops: a.loops && b.loops,
     }
 }
 
@@ -524,10 +398,9 @@ fn in_if(a: Waiting) -> Waiting
     ensures { result ≡ in_if a }
 {
     Waiting {
-        next: a.next,
         starts: false,
         surely: false,
-        loops: a.loops,
+        ..a
     }
 }
 
@@ -538,8 +411,8 @@ fn in_if_else(a: Waiting, b: Waiting) -> Waiting
     Waiting {
         next: b.next,
         starts: false,
-        surely: both(a.surely, b.surely),
-        loops: both(a.loops, b.loops),
+        surely: a.surely && b.surely,
+        loops: a.loops && b.loops,
     }
 }
 
@@ -548,10 +421,10 @@ fn in_while(a: Waiting) -> Waiting
     ensures { result ≡ in_while a }
 {
     Waiting {
-        next: a.next,
         starts: false,
         surely: false,
-        loops: both(a.surely, a.loops),
+        loops: a.surely && a.loops,
+        ..a
     }
 }
 
@@ -560,10 +433,9 @@ fn in_forever(a: Waiting) -> Waiting
     ensures { result ≡ in_forever a }
 {
     Waiting {
-        next: a.next,
-        starts: a.starts,
         surely: true,
-        loops: both(a.surely, a.loops),
+        loops: a.surely && a.loops,
+        ..a
     }
 }
 
@@ -571,14 +443,10 @@ fn in_forever(a: Waiting) -> Waiting
 pub fn walk(sheet: &[u8], definitions: &[usize; 8], at: usize, depth: u8) -> Waiting
     ensures { result ≡ walk_at depth sheet.now definitions.now at }
 {
-    if depth == 0 {
+    if depth == 0 || 8192 <= at {
         return running(at);
     }
-    if 8192 <= at {
-        return running(at);
-    }
-    let map = byte_at(sheet, at);
-    match map {
+    match byte_at(sheet, at) {
         0x00 => running(at + 1),
         0x03 => running(pseudocode::skip_expr(sheet, definitions, at + 2, 16)),
         0x23 => running(pseudocode::skip_expr(sheet, definitions, at + 2, 16)),
@@ -600,60 +468,66 @@ pub fn walk(sheet: &[u8], definitions: &[usize; 8], at: usize, depth: u8) -> Wai
             in_while(walk(sheet, definitions, e, depth - 1))
         }
         0x44 => in_forever(walk(sheet, definitions, at + 1, depth - 1)),
-        0x10 => waits(at + 2 + 2 * wide(byte_at(sheet, at + 1))),
+        0x10 => waits(at + 2 + 2 * byte_at(sheet, at + 1) as usize),
         _ => running(at),
     }
+}
+
+// Does a test hold of how one of so many statements waits, which stand one after the other from a place on?
+fn some_body<F: Fn(Waiting) -> bool>(
+    sheet: &[u8],
+    definitions: &[usize; 8],
+    threads: u8,
+    body: usize,
+    holds: F,
+) -> bool
+    requires { F.IsAlwaysCallable holds }
+    ensures { (f : Waiting → Bool) → ((w : Waiting) (b : Bool) → F.post holds w b → b ≡ f w)
+        → result ≡ some_from f sheet.now definitions.now threads body }
+{
+    let mut next = body;
+    for _ in 0..threads {
+        let w = walk(sheet, definitions, next, 64);
+        if holds(w) {
+            return true;
+        }
+        next = w.next;
+    }
+    false
 }
 
 // Number 16: a thread doesn't start with a wait. So many threads stand from a place on.
 pub fn starts_running(sheet: &[u8], definitions: &[usize; 8], threads: u8, body: usize) -> bool
     ensures { result ≡ starts_running_from sheet.now definitions.now threads body }
 {
-    let mut left = threads;
-    let mut next = body;
-    while 0 < left {
-        let w = walk(sheet, definitions, next, 64);
-        if !w.starts {
-            return true;
-        }
-        next = w.next;
-        left -= 1;
-    }
-    false
+    some_body(sheet, definitions, threads, body, |w| !w.starts)
 }
 
 // Number 17: the body of a loop or of a thread doesn't surely wait. So many threads stand from a place on.
 pub fn runs_away(sheet: &[u8], definitions: &[usize; 8], threads: u8, body: usize) -> bool
     ensures { result ≡ runs_away_from sheet.now definitions.now threads body }
 {
-    let mut left = threads;
-    let mut next = body;
-    while 0 < left {
-        let w = walk(sheet, definitions, next, 64);
-        if !both(w.surely, w.loops) {
-            return true;
-        }
-        next = w.next;
-        left -= 1;
-    }
-    false
+    some_body(
+        sheet,
+        definitions,
+        threads,
+        body,
+        |w| !(w.surely && w.loops),
+    )
 }
 
 // Number 18: the clock is read in an expression.
 pub fn clock_read(reading: &[u32; 80], readers: &[u32; 80]) -> bool
     ensures { result ≡ clock_read_at reading.now readers.now }
 {
-    one_of(masks::any(reading[0]), masks::any(readers[0]))
+    masks::any(reading[0]) || masks::any(readers[0])
 }
 
 // Is variable `v`, wire `j`, read by wire `k`, which is no higher?
 pub fn upward(readers: &[u32; 80], k: usize, v: usize, j: usize) -> bool
     ensures { result ≡ upward_at readers.now k v j }
 {
-    if k <= j {
-        return masks::has(entry(readers, v), k);
-    }
-    false
+    k <= j && masks::has(entry(readers, v), k)
 }
 
 // Does wire `k` read itself or a higher wire?
@@ -661,40 +535,24 @@ pub fn reads_above(readers: &[u32; 80], inputs: u8, registers: u8, wires: u8, k:
     ensures { result ≡ reads_above readers.now inputs registers wires k }
 {
     let first = inputs as usize + registers as usize;
-    let count = wires as usize;
-    let mut j: usize = 0;
-    while j < count {
-        if upward(readers, k, first + j, j) {
-            return true;
-        }
-        j += 1;
-    }
-    false
+    (0..wires as usize).any(|j| upward(readers, k, first + j, j))
 }
 
 // Number 19: a wire reads itself or a higher wire.
 pub fn reads_upward(readers: &[u32; 80], inputs: u8, registers: u8, wires: u8) -> bool
     ensures { result ≡ reads_upward_at readers.now inputs registers wires }
 {
-    let count = wires as usize;
-    let mut k: usize = 0;
-    while k < count {
-        if reads_above(readers, inputs, registers, wires, k) {
-            return true;
-        }
-        k += 1;
-    }
-    false
+    (0..wires as usize).any(|k| reads_above(readers, inputs, registers, wires, k))
 }
 
 // One for a wait.
 fn wait_of(i: Instruction) -> usize
     ensures { result ≡ wait_of i }
 {
-    let Instruction::Wait(_) = i else {
-        return 0;
-    };
-    1
+    match i {
+        Instruction::Wait(_) => 1,
+        Instruction::Act(_) => 0,
+    }
 }
 
 // How many of a thread's first instructions are waits.
@@ -702,10 +560,8 @@ pub fn waits_in(sheet: &[u8], code: &[u16; 4096], thread: usize, n: usize) -> us
     ensures { result ≡ waits_in sheet.now code.now thread n }
 {
     let mut count: usize = 0;
-    let mut p: usize = 0;
-    while p < n {
+    for p in 0..n {
         count += wait_of(pseudocode::fetch(sheet, code, thread, p));
-        p += 1;
     }
     count
 }
@@ -716,10 +572,8 @@ pub fn waits_of(sheet: &[u8], code: &[u16; 4096], sizes: &[usize; 8], threads: u
 {
     let last = threads as usize;
     let mut count: usize = 0;
-    let mut i: usize = 0;
-    while i < last {
+    for i in 0..last {
         count += waits_in(sheet, code, i, size_of(sizes, i));
-        i += 1;
     }
     count
 }

@@ -66,10 +66,8 @@ fn walk_places(
         (filling e nodes.old rows.old) }
 {
     let mut x = e;
-    let mut place: usize = 0;
-    while place < places {
+    for place in 0..places {
         x = filling::walk_from(sheet, code, t, size, place, nodes, rows, x);
-        place += 1;
     }
     x
 }
@@ -177,12 +175,10 @@ fn first_coded(
     requires { n ≤ 256 }
     ensures { result ≡ lowest n (by_code sheet.now layout code.now sizes.now plain.now later.now test) }
 {
-    let mut k: usize = 0;
-    while k < n {
+    for k in 0..n {
         if by_code(sheet, layout, code, sizes, plain, later, test, k) {
             return k;
         }
-        k += 1;
     }
     n
 }

@@ -10,11 +10,9 @@ fn body_at(sheet: &[u8], definitions: &[usize; 8], body: usize, i: usize) -> usi
     ensures { result ≡ body_at sheet.now definitions.now body i }
 {
     let mut next = body;
-    let mut j: usize = 0;
-    while j < i {
+    for _ in 0..i {
         let w = rules::walk(sheet, definitions, next, 64);
         next = w.next;
-        j += 1;
     }
     next
 }
@@ -40,12 +38,10 @@ pub fn first_body(
 ) -> usize
     ensures { result ≡ lowest n (by_body sheet.now definitions.now body test) }
 {
-    let mut k: usize = 0;
-    while k < n {
+    for k in 0..n {
         if by_body(sheet, definitions, body, test, k) {
             return k;
         }
-        k += 1;
     }
     n
 }

@@ -66,12 +66,10 @@ pub fn first_marked(
     ensures value { result ≡ lowest n (by_marks layout readers.now plain.now later.now reading.now test) }
     ensures upper_bound { result ≤ n }
 {
-    let mut k: usize = 0;
-    while k < n {
+    for k in 0..n {
         if by_marks(layout, readers, plain, later, reading, test, k) {
             return k;
         }
-        k += 1;
     }
     n
 }

@@ -7,20 +7,20 @@ use Rattle.explaining.specs.Walking.{body_at}
 use Rattle.explaining.proofs.Walking.{body-turn, body_end}
 use Rattle.explaining.proofs.body_at.Goals as goal
 
-pub loop-i-init : goal.loop-i-init
-loop-i-init c =
+pub loop-init : goal.loop-init
+loop-init c =
     let a = c.args in
     let whole : a.thread - 0 ≡ a.thread = omega arith in
     (search rules, ap (λ n. body_at a.sheet.now a.definitions.now n a.body) whole)
 
-pub loop-i-preserved : goal.loop-i-preserved
-loop-i-preserved c =
+pub loop-preserved : goal.loop-preserved
+loop-preserved c =
     let a = c.args in
-    let l = c.loop-i in
-    (search rules, body-turn a.sheet.now a.definitions.now a.thread l.i l.at c.loop-i-test.true c.walk-w.ensures ∙ l.invariant.1)
+    let l = c.loop in
+    (search rules, body-turn a.sheet.now a.definitions.now a.thread l.counter l.at c.loop-test.true c.walk-w.ensures ∙ l.invariant.1)
 
 pub returns : goal.returns
 returns c =
     let a = c.args in
-    let l = c.loop-i in
-    body_end a.sheet.now a.definitions.now a.thread l.i l.at c.loop-i-test.false ∙ l.invariant.1
+    let l = c.loop in
+    body_end a.sheet.now a.definitions.now a.thread l.counter l.at c.loop-test.false ∙ l.invariant.1

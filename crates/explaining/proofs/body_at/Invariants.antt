@@ -4,10 +4,6 @@ use mathlib.Core.Path.{◌≡◌}
 use Rattle.explaining.specs.Walking.{body_at}
 use Rattle.explaining.proofs.body_at.Given as goal
 
-abbrev pub invariant-loop-i : goal.invariant-loop-i
-invariant-loop-i l =
-    (l.i ≤ l.thread) × (body_at l.sheet l.definitions (l.thread - l.i) l.at ≡ body_at l.sheet l.definitions l.thread l.body)
-
-abbrev pub decreases-loop-i : goal.decreases-loop-i
-decreases-loop-i l =
-    l.thread - l.i
+abbrev pub invariant-loop : goal.invariant-loop
+invariant-loop l =
+    (l.counter ≤ l.thread) × (body_at l.sheet l.definitions (l.thread - l.counter) l.at ≡ body_at l.sheet l.definitions l.thread l.body)

@@ -10,7 +10,3 @@ abbrev pub invariant-loop-k : goal.invariant-loop-k
 invariant-loop-k l =
     (l.k ≤ l.n)
     × (points_at (name_of l.names) l.sheet l.definitions (l.n - l.k) (l.k + 1) l.at (filled l.text l.p) ≡ points_at (name_of l.names) l.sheet l.definitions l.n 1 l.at (filled l.initial.text l.pos))
-
-abbrev pub decreases-loop-k : goal.decreases-loop-k
-decreases-loop-k l =
-    l.n - l.k

@@ -1,16 +1,16 @@
--- `findings::put_hex_error` meets its contract, row by row. Assumes nothing.
-use borrow.Author.Rules.{rules}
-use borrow.Author.Tests.{eq-eqb, ne_eqb}
+-- `findings::put_hex_error` meets its contract. Assumes nothing.
+use borrow.Author.Tests.{ne_eqb}
 use Rattle.writing.specs.Ascii.{ascii}
 use Rattle.findings.specs.Findings.{hex_words}
 use Rattle.findings.proofs.put_hex_error.Goals as goal
 
-pub returns-then-error-eq1 : goal.returns-then-error-eq1
+pub returns-in-1 : goal.returns-in-1
 unfolding ascii hex_words
-returns-then-error-eq1 c =
-    rw (eq-eqb _ _ c.if-error-eq1.true) c.put_word.ensures
+returns-in-1 c =
+    rw c.in-1.is c.put_word.ensures
 
-pub returns : goal.returns
+pub returns-in_default : goal.returns-in_default
 unfolding ascii hex_words
-returns c =
-    rw (ne_eqb _ _ c.if-error-eq1.false) c.put_word-2.ensures
+returns-in_default c =
+    let r = c.in_default.in_default-own.rest in
+    rw (ne_eqb _ _ r.1) c.put_word-in_default.ensures

@@ -1,35 +1,26 @@
--- `findings::put_input_error` meets its contract, row by row. Assumes nothing.
-use borrow.Author.Rules.{rules}
-use borrow.Author.Tests.{eq-eqb, ne_eqb}
+-- `findings::put_input_error` meets its contract. Assumes nothing.
+use borrow.Author.Tests.{ne_eqb}
 use Rattle.writing.specs.Ascii.{ascii}
 use Rattle.findings.specs.Findings.{input_words}
 use Rattle.findings.proofs.put_input_error.Goals as goal
 
-pub returns-then-error-eq2 : goal.returns-then-error-eq2
+pub returns-in-2 : goal.returns-in-2
 unfolding ascii input_words
-returns-then-error-eq2 c =
-    rw (eq-eqb _ _ c.if-error-eq2.true) c.put_word.ensures
+returns-in-2 c =
+    rw c.in-2.is c.put_word.ensures
 
-pub returns-then-error-eq3 : goal.returns-then-error-eq3
+pub returns-in-3 : goal.returns-in-3
 unfolding ascii input_words
-returns-then-error-eq3 c =
-    rw (ne_eqb _ _ c.if-error-eq2.false, eq-eqb _ _ c.if-error-eq3.true)
-    c.put_word-then-error-eq3.ensures
+returns-in-3 c =
+    rw c.in-3.is c.put_word-in-3.ensures
 
-pub returns-then-error-eq4 : goal.returns-then-error-eq4
+pub returns-in-4 : goal.returns-in-4
 unfolding ascii input_words
-returns-then-error-eq4 c =
-    rw (
-      ne_eqb _ _ c.if-error-eq2.false,
-      ne_eqb _ _ c.if-error-eq3.false,
-      eq-eqb _ _ c.if-error-eq4.true,
-    ) c.put_word-then-error-eq4.ensures
+returns-in-4 c =
+    rw c.in-4.is c.put_word-in-4.ensures
 
-pub returns : goal.returns
+pub returns-in_default : goal.returns-in_default
 unfolding ascii input_words
-returns c =
-    rw (
-      ne_eqb _ _ c.if-error-eq2.false,
-      ne_eqb _ _ c.if-error-eq3.false,
-      ne_eqb _ _ c.if-error-eq4.false,
-    ) c.put_word-2.ensures
+returns-in_default c =
+    let r = c.in_default.in_default-own.rest in
+    rw (ne_eqb _ _ r.0.0.1, ne_eqb _ _ r.0.1, ne_eqb _ _ r.1) c.put_word-in_default.ensures

@@ -1,23 +1,21 @@
--- `findings::put_name_error` meets its contract, row by row. Assumes nothing.
-use borrow.Author.Rules.{rules}
-use borrow.Author.Tests.{eq-eqb, ne_eqb}
+-- `findings::put_name_error` meets its contract. Assumes nothing.
+use borrow.Author.Tests.{ne_eqb}
 use Rattle.writing.specs.Ascii.{ascii}
 use Rattle.findings.specs.Findings.{name_words}
 use Rattle.findings.proofs.put_name_error.Goals as goal
 
-pub returns-then-error-eq2 : goal.returns-then-error-eq2
+pub returns-in-2 : goal.returns-in-2
 unfolding ascii name_words
-returns-then-error-eq2 c =
-    rw (eq-eqb _ _ c.if-error-eq2.true) c.put_word.ensures
+returns-in-2 c =
+    rw c.in-2.is c.put_word.ensures
 
-pub returns-then-error-eq3 : goal.returns-then-error-eq3
+pub returns-in-3 : goal.returns-in-3
 unfolding ascii name_words
-returns-then-error-eq3 c =
-    rw (ne_eqb _ _ c.if-error-eq2.false, eq-eqb _ _ c.if-error-eq3.true)
-    c.put_word-then-error-eq3.ensures
+returns-in-3 c =
+    rw c.in-3.is c.put_word-in-3.ensures
 
-pub returns : goal.returns
+pub returns-in_default : goal.returns-in_default
 unfolding ascii name_words
-returns c =
-    rw (ne_eqb _ _ c.if-error-eq2.false, ne_eqb _ _ c.if-error-eq3.false)
-    c.put_word-2.ensures
+returns-in_default c =
+    let r = c.in_default.in_default-own.rest in
+    rw (ne_eqb _ _ r.0.1, ne_eqb _ _ r.1) c.put_word-in_default.ensures

@@ -14,7 +14,7 @@ returns-in-0 c =
 pub returns-in-1 : goal.returns-in-1
 unfolding node_of node_from
 returns-in-1 c =
-    rw (c.in-1.is, c.low.ensures, c.low-in-1.ensures)
+    rw c.in-1.is
 
 pub returns-in-2 : goal.returns-in-2
 unfolding node_of node_from

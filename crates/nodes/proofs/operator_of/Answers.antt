@@ -1,5 +1,5 @@
 -- `nodes::operator_of` meets its contract, by the kind. Assumes nothing.
-use borrow.Author.Rules.{rules}
+use mathlib.Core.Logic.{inl, inr}
 use native.Mathlib.Omega.{arith}
 use Rattle.nodes.specs.Cells.{node_of}
 use Rattle.nodes.proofs.Cells.{operator-low, operator-high, operator-unary, operator-binary}
@@ -8,13 +8,10 @@ use Rattle.nodes.proofs.operator_of.Goals as goal
 pub returns-then-k-lt11 : goal.returns-then-k-lt11
 unfolding node_of
 returns-then-k-lt11 c =
-    operator-low c.args.k c.args.a c.args.b c.if-k-lt11.true
-
-pub returns-then-k-gt19 : goal.returns-then-k-gt19
-unfolding node_of
-returns-then-k-gt19 c =
-    let given_args = c.args in
-    operator-high given_args.k given_args.a given_args.b c.if-k-gt19.true
+    elim c.then-k-lt11.either [
+      | inl h ↦ operator-low c.args.k c.args.a c.args.b h
+      | inr h ↦ operator-high c.args.k c.args.a c.args.b h.1
+    ]
 
 pub returns-then-k-le12 : goal.returns-then-k-le12
 unfolding node_of

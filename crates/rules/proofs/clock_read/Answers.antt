@@ -1,10 +1,14 @@
 -- `rules::clock_read` meets its contract. Assumes nothing.
-use mathlib.Core.Path.{◌∙◌}
-use mathlib.Core.Bool.{◌||◌}
+use mathlib.Core.Path.{sym, ◌∙◌}
 use Rattle.rules.specs.Judging.{clock_read_at}
 use Rattle.rules.proofs.clock_read.Goals as goal
 
-pub returns : goal.returns
+pub returns-then-any : goal.returns-then-any
 unfolding clock_read_at
-returns c =
-    c.one_of.ensures ∙ λ i. (c.any.ensures i || c.any-2.ensures i)
+returns-then-any c =
+    rw (sym c.any.ensures ∙ c.if-any.true) c.if-any.true
+
+pub returns-else-any : goal.returns-else-any
+unfolding clock_read_at
+returns-else-any c =
+    rw (sym c.any.ensures ∙ c.if-any.false) c.any-else-any.ensures

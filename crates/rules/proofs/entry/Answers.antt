@@ -3,12 +3,12 @@ use borrow.Author.Tests.{lt-ltb, le-ltb}
 use Rattle.rules.specs.Judging.{entry}
 use Rattle.rules.proofs.entry.Goals as goal
 
-pub returns-then-v-ge80 : goal.returns-then-v-ge80
+pub returns-then-v-lt80 : goal.returns-then-v-lt80
 unfolding entry
-returns-then-v-ge80 c =
-    simp (le-ltb _ _ c.if-v-ge80.true)
+returns-then-v-lt80 c =
+    simp (lt-ltb _ _ c.if-v-lt80.true)
 
-pub returns : goal.returns
+pub returns-else-v-lt80 : goal.returns-else-v-lt80
 unfolding entry
-returns c =
-    simp (lt-ltb _ _ c.if-v-ge80.false)
+returns-else-v-lt80 c =
+    simp (le-ltb _ _ c.if-v-lt80.false)

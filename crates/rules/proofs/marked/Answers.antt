@@ -1,14 +1,16 @@
 -- `rules::marked` meets its contract. Assumes nothing.
+use mathlib.Core.Path.{refl, ◌∙◌}
 use borrow.Author.Tests.{lt-ltb, le-ltb}
 use Rattle.rules.specs.Judging.{marked}
 use Rattle.rules.proofs.marked.Goals as goal
 
-pub returns-then-i-ge8 : goal.returns-then-i-ge8
+pub returns-then-i-lt8 : goal.returns-then-i-lt8
 unfolding marked
-returns-then-i-ge8 c =
-    simp (le-ltb _ _ c.if-i-ge8.true)
+returns-then-i-lt8 c =
+    rw (lt-ltb _ _ c.if-i-lt8.true) c.has.ensures
 
-pub returns : goal.returns
+pub returns-else-i-lt8 : goal.returns-else-i-lt8
 unfolding marked
-returns c =
-    rw (lt-ltb _ _ c.if-i-ge8.false) c.has.ensures
+returns-else-i-lt8 c =
+    let e = le-ltb _ _ c.if-i-lt8.false in
+    e ∙ rw e refl

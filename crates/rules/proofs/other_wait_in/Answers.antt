@@ -1,25 +1,17 @@
--- `rules::other_wait_in` meets its contract. The loop's invariant: no instruction below `p` is such a wait. Assumes nothing.
-use borrow.Author.Rules.{rules}
-use mathlib.Core.Path.{ap, ◌∙◌}
+-- `rules::other_wait_in` meets its contract. Assumes nothing.
+use mathlib.Core.Path.{refl}
 use native.Mathlib.Omega.{arith}
-use Rattle.rules.specs.Judging.{other_wait_of, other_wait_in}
-use Rattle.rules.proofs.Tests.{any-start, any-turn, any_found, any-end}
+use borrow.Author.Rules.{rules}
+use Rattle.std.proofs.lemmas.Iterator.{YieldsList-from_range}
+use Prim.Native.Nat.{ℕ}
+use Rattle.pseudocode.specs.Fetching.{fetch_at}
+use Rattle.rules.specs.Judging.{other_wait_in, other_wait_of}
+use Rattle.rules.proofs.Tests.{any_in-range}
 use Rattle.rules.proofs.other_wait_in.Goals as goal
-
-pub loop-p-init : goal.loop-p-init
-loop-p-init c =
-    (search rules, any-start _)
-
-pub returns-then-other_wait_of : goal.returns-then-other_wait_of
-unfolding other_wait_in
-returns-then-other_wait_of c =
-    any_found _ _ _ c.loop-p-test.true (c.other_wait_of.ensures ∙ ap other_wait_of c.fetch.ensures) c.if-other_wait_of.true
-
-pub loop-p-preserved : goal.loop-p-preserved
-loop-p-preserved c =
-    (omega arith, any-turn _ _ c.loop-p.invariant.1 (c.other_wait_of.ensures ∙ ap other_wait_of c.fetch.ensures) c.if-other_wait_of.false)
 
 pub returns : goal.returns
 unfolding other_wait_in
 returns c =
-    any-end _ c.args.n c.loop-p.p c.loop-p.invariant.1 (omega arith)
+    let a = c.args in
+    any_in-range (λ (p : ℕ). other_wait_of (fetch_at a.sheet.now a.code.now a.thread p)) a.n _ _ c.any.ensures.ran (YieldsList-from_range 0 _ _ refl (omega arith))
+    (λ k q e. search rules) (λ k q e. (search rules, search rules))

@@ -1,4 +1,5 @@
 -- `rules::other_wait_of` meets its contract. Assumes nothing.
+use mathlib.Core.Logic.{inl, inr}
 use Rattle.rules.specs.Judging.{other_wait_of}
 use Rattle.rules.proofs.Awaited.{other-count, other-variable, other_edge}
 use Rattle.rules.proofs.other_wait_of.Goals as goal
@@ -10,12 +11,11 @@ returns-in_default c =
 
 pub returns-then-t-ne1 : goal.returns-then-t-ne1
 returns-then-t-ne1 c =
-    other-count c.in-Wait.is c.if-t-ne1.true
-
-pub returns-then-first-ne0 : goal.returns-then-first-ne0
-returns-then-first-ne0 c =
-    other-variable c.in-Wait.is c.if-t-ne1.false c.if-first-ne0.true
+    elim c.then-t-ne1.either [
+      | inl h ↦ other-count c.in-Wait.is h
+      | inr h ↦ other-variable c.in-Wait.is h.0 h.1
+    ]
 
 pub returns : goal.returns
 returns c =
-    other_edge c.in-Wait.is c.if-t-ne1.false c.if-first-ne0.false c.other_edge.ensures
+    other_edge c.in-Wait.is c.if-t-ne1.false c.if-t-ne0.false c.other_edge.ensures

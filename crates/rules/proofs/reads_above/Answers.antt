@@ -1,24 +1,16 @@
--- `rules::reads_above` meets its contract. The loop's invariant: wire `k` reads no wire below `j` that is `k` or higher. Assumes nothing.
-use borrow.Author.Rules.{rules}
+-- `rules::reads_above` meets its contract. Assumes nothing.
+use mathlib.Core.Path.{refl}
 use native.Mathlib.Omega.{arith}
-use Rattle.rules.specs.Judging.{reads_above}
-use Rattle.rules.proofs.Tests.{any-start, any-turn, any_found, any-end}
+use borrow.Author.Rules.{rules}
+use Rattle.std.proofs.lemmas.Iterator.{YieldsList-from_range}
+use Prim.Native.Nat.{ℕ, ◌+◌}
+use Rattle.rules.specs.Judging.{reads_above, upward_at}
+use Rattle.rules.proofs.Tests.{any_in-range}
 use Rattle.rules.proofs.reads_above.Goals as goal
-
-pub loop-j-init : goal.loop-j-init
-loop-j-init c =
-    (search rules, any-start _)
-
-pub returns-then-upward : goal.returns-then-upward
-unfolding reads_above
-returns-then-upward c =
-    any_found _ _ _ c.loop-j-test.true c.upward.ensures c.if-upward.true
-
-pub loop-j-preserved : goal.loop-j-preserved
-loop-j-preserved c =
-    (omega arith, any-turn _ _ c.loop-j.invariant.1 c.upward.ensures c.if-upward.false)
 
 pub returns : goal.returns
 unfolding reads_above
 returns c =
-    any-end _ c.args.wires c.loop-j.j c.loop-j.invariant.1 (omega arith)
+    let a = c.args in
+    any_in-range (λ (j : ℕ). upward_at a.readers.now a.k (a.inputs + a.registers + j) j) a.wires _ _ c.any.ensures.ran (YieldsList-from_range 0 _ _ refl (omega arith))
+    (λ k q e. search rules) (λ k q e. (search rules, search rules))

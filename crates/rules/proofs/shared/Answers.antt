@@ -1,24 +1,15 @@
--- `rules::shared` meets its contract. The loop's invariant: no thread below `i` writes the register plainly and shares it. Assumes nothing.
-use borrow.Author.Rules.{rules}
+-- `rules::shared` meets its contract. Assumes nothing.
+use mathlib.Core.Path.{refl}
 use native.Mathlib.Omega.{arith}
-use Rattle.rules.specs.Judging.{shared_at}
-use Rattle.rules.proofs.Tests.{any-start, any-turn, any_found, any-end}
+use borrow.Author.Rules.{rules}
+use Rattle.std.proofs.lemmas.Iterator.{YieldsList-from_range}
+use Rattle.rules.specs.Judging.{shared_at, shared_by}
+use Rattle.rules.proofs.Tests.{any_in-range}
 use Rattle.rules.proofs.shared.Goals as goal
-
-pub loop-i-init : goal.loop-i-init
-loop-i-init c =
-    (search rules, any-start _)
-
-pub returns-then-shared_by : goal.returns-then-shared_by
-unfolding shared_at
-returns-then-shared_by c =
-    any_found _ _ _ c.loop-i-test.true c.shared_by.ensures c.if-shared_by.true
-
-pub loop-i-preserved : goal.loop-i-preserved
-loop-i-preserved c =
-    (omega arith, any-turn _ _ c.loop-i.invariant.1 c.shared_by.ensures c.if-shared_by.false)
 
 pub returns : goal.returns
 unfolding shared_at
 returns c =
-    any-end _ c.args.threads c.loop-i.i c.loop-i.invariant.1 (omega arith)
+    let a = c.args in
+    any_in-range (shared_by a.plain.now a.reading.now a.readers.now a.r a.v) a.threads _ _ c.any.ensures.ran (YieldsList-from_range 0 _ _ refl (omega arith))
+    (λ k q e. search rules) (λ k q e. (search rules, search rules))

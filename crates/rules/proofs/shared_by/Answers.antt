@@ -8,7 +8,7 @@ unfolding shared_by
 returns-then-marked c =
     rw (sym c.marked.ensures ∙ c.if-marked.true) c.read_elsewhere.ensures
 
-pub returns : goal.returns
+pub returns-else-marked : goal.returns-else-marked
 unfolding shared_by
-returns c =
-    rw (sym c.marked.ensures ∙ c.if-marked.false)
+returns-else-marked c =
+    rw (sym c.marked.ensures ∙ c.if-marked.false) c.if-marked.false

@@ -1,25 +1,12 @@
--- `rules::starts_running` meets its contract. The loop's invariant: what is left of the threads decides. Assumes nothing.
-use mathlib.Core.Path.{refl, sym, ◌∙◌}
-use native.Mathlib.Omega.{arith}
-use borrow.Author.Tests.{not-true, not-false}
-use Rattle.rules.proofs.Walking.{starts-end, starts-found, starts-turn}
+-- `rules::starts_running` meets its contract. Assumes nothing.
+use mathlib.Core.Path.{◌∙◌}
+use mathlib.Core.Bool.{not}
+use borrow.Author.Rules.{rules}
+use Rattle.rules.specs.declared.Waiting.{Waiting}
+use Rattle.rules.proofs.Walking.{some-starts}
 use Rattle.rules.proofs.starts_running.Goals as goal
-
-pub loop-left-init : goal.loop-left-init
-loop-left-init c =
-    refl
-
-pub returns-then-not-w : goal.returns-then-not-w
-returns-then-not-w c =
-    let l = c.loop-left in
-    sym (l.invariant ∙ starts-found c.args.sheet.now c.args.definitions.now l.left l.next (λ e. omega arith) c.walk-w.ensures (not-true c.walk-w.result.starts c.if-not-w.true))
-
-pub loop-left-preserved : goal.loop-left-preserved
-loop-left-preserved c =
-    let l = c.loop-left in
-    l.invariant ∙ starts-turn c.args.sheet.now c.args.definitions.now l.left l.next (λ e. omega arith) c.walk-w.ensures (not-false c.walk-w.result.starts c.if-not-w.false)
 
 pub returns : goal.returns
 returns c =
-    let l = c.loop-left in
-    sym (l.invariant ∙ starts-end c.args.sheet.now c.args.definitions.now l.left l.next (omega arith))
+    let a = c.args in
+    c.some_body.ensures (λ (w : Waiting). not w.starts) (λ w b e. search rules) ∙ some-starts a.sheet.now a.definitions.now a.threads a.body

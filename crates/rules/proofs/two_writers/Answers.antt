@@ -1,24 +1,15 @@
--- `rules::two_writers` meets its contract. The loop's invariant: no register below `r` is written by two threads. Assumes nothing.
-use borrow.Author.Rules.{rules}
+-- `rules::two_writers` meets its contract. Assumes nothing.
+use mathlib.Core.Path.{refl}
 use native.Mathlib.Omega.{arith}
-use Rattle.rules.specs.Judging.{two_writers_at}
-use Rattle.rules.proofs.Tests.{any-start, any-turn, any_found, any-end}
+use borrow.Author.Rules.{rules}
+use Rattle.std.proofs.lemmas.Iterator.{YieldsList-from_range}
+use Rattle.rules.specs.Judging.{two_writers_at, written_twice}
+use Rattle.rules.proofs.Tests.{any_in-range}
 use Rattle.rules.proofs.two_writers.Goals as goal
-
-pub loop-r-init : goal.loop-r-init
-loop-r-init c =
-    (search rules, any-start _)
-
-pub returns-then-written_twice : goal.returns-then-written_twice
-unfolding two_writers_at
-returns-then-written_twice c =
-    any_found _ _ _ c.loop-r-test.true c.written_twice.ensures c.if-written_twice.true
-
-pub loop-r-preserved : goal.loop-r-preserved
-loop-r-preserved c =
-    (omega arith, any-turn _ _ c.loop-r.invariant.1 c.written_twice.ensures c.if-written_twice.false)
 
 pub returns : goal.returns
 unfolding two_writers_at
 returns c =
-    any-end _ c.args.registers c.loop-r.r c.loop-r.invariant.1 (omega arith)
+    let a = c.args in
+    any_in-range (written_twice a.plain.now a.later.now a.threads) a.registers _ _ c.any.ensures.ran (YieldsList-from_range 0 _ _ refl (omega arith))
+    (λ k q e. search rules) (λ k q e. (search rules, search rules))

@@ -1,5 +1,5 @@
 -- `rules::upward` meets its contract. Assumes nothing.
-use mathlib.Core.Path.{ap, ◌∙◌}
+use mathlib.Core.Path.{refl, ap, ◌∙◌}
 use mathlib.Core.Bool.{false}
 use Prim.Native.Nat.{ℕ}
 use borrow.Author.Tests.{le-leb, lt-leb}
@@ -13,7 +13,8 @@ unfolding upward_at
 returns-then-k-j c =
     rw (le-leb _ _ c.if-k-j.true) (c.has.ensures ∙ ap (λ (w : ℕ). get_or (bits w) c.args.k false) c.entry.ensures)
 
-pub returns : goal.returns
+pub returns-else-k-j : goal.returns-else-k-j
 unfolding upward_at
-returns c =
-    rw (lt-leb _ _ c.if-k-j.false)
+returns-else-k-j c =
+    let e = lt-leb _ _ c.if-k-j.false in
+    e ∙ rw e refl

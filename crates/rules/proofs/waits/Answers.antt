@@ -1,9 +1,9 @@
 -- `rules::waits` meets its contract. Assumes nothing.
 use mathlib.Core.Path.{refl}
-use Rattle.rules.specs.Walking.{waits}
+use Rattle.rules.specs.Walking.{running, waits}
 use Rattle.rules.proofs.waits.Goals as goal
 
 pub returns : goal.returns
-unfolding waits
+unfolding running waits
 returns c =
-    refl
+    rw c.running.ensures refl

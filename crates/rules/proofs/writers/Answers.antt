@@ -3,9 +3,8 @@ use borrow.Author.Rules.{rules}
 use mathlib.Core.Path.{◌≡◌, ap, ◌∙◌}
 use Prim.Native.Nat.{ℕ}
 use native.Mathlib.Omega.{arith}
-use Rattle.tables.specs.Readers.{at_most}
-use Rattle.tables.proofs.Readers.{at_most-most}
 use Rattle.rules.specs.Writers.{set_register, later_register, plain_below, later_below}
+use Rattle.rules.proofs.Counting.{at_most-min}
 use Rattle.rules.proofs.Writing.{masks-none, masks-turn}
 use Rattle.rules.proofs.writers.Goals as goal
 
@@ -17,36 +16,12 @@ loop-i-init c =
       masks-none (later_register a.inputs) a.sheet.now a.code.now a.sizes.now a.later.now,
     )
 
-pub offset_bounds-sizes-i : goal.offset_bounds-sizes-i
-offset_bounds-sizes-i c =
-    omega (arith, at_most-most 8 c.wide.result, c.at_most-count.ensures)
-
-pub bounds-sizes-i : goal.bounds-sizes-i
-bounds-sizes-i c =
-    omega (arith, at_most-most 8 c.wide.result, c.at_most-count.ensures)
-
-pub offset_bounds-plain-i : goal.offset_bounds-plain-i
-offset_bounds-plain-i c =
-    omega (arith, at_most-most 8 c.wide.result, c.at_most-count.ensures)
-
-pub bounds-plain-i : goal.bounds-plain-i
-bounds-plain-i c =
-    omega (arith, at_most-most 8 c.wide.result, c.at_most-count.ensures)
-
-pub offset_bounds-later-i : goal.offset_bounds-later-i
-offset_bounds-later-i c =
-    omega (arith, at_most-most 8 c.wide.result, c.at_most-count.ensures)
-
-pub bounds-later-i : goal.bounds-later-i
-bounds-later-i c =
-    omega (arith, at_most-most 8 c.wide.result, c.at_most-count.ensures)
-
 pub loop-i-preserved : goal.loop-i-preserved
 loop-i-preserved c =
     let a = c.args in
     let l = c.loop-i in
-    let n = c.at_most-n.result in
-    let g = c.at_most-n.ensures in
+    let n = c.min-n.result in
+    let g = c.min-n.ensures ∙ at_most-min 256 _ in
     let w = c.thread_writes-w.ensures in (
       omega arith,
       masks-turn (set_register a.inputs) a.sheet.now a.code.now a.sizes.now l.i a.plain.now n l.invariant.1 g (search rules) w.plain_value,
@@ -57,8 +32,8 @@ pub returns : goal.returns
 returns c =
     let a = c.args in
     let l = c.loop-i in
-    let e : l.i ≡ c.at_most-count.result = omega arith in
-    let n = e ∙ c.at_most-count.ensures ∙ ap (at_most 8) c.wide.ensures in record {
+    let e : l.i ≡ c.min-count.result = omega arith in
+    let n = e ∙ c.min-count.ensures ∙ at_most-min 8 a.threads in record {
       plain_after = l.invariant.1 ∙ ap (λ (n : ℕ). plain_below a.sheet.now a.code.now a.sizes.now a.inputs n a.plain.now) n;
       later_after = l.invariant.2 ∙ ap (λ (n : ℕ). later_below a.sheet.now a.code.now a.sizes.now a.inputs n a.later.now) n;
     }

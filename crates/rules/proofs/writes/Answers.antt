@@ -1,10 +1,14 @@
 -- `rules::writes` meets its contract. Assumes nothing.
-use mathlib.Core.Path.{◌∙◌}
-use mathlib.Core.Bool.{◌||◌}
+use mathlib.Core.Path.{sym, ◌∙◌}
 use Rattle.rules.specs.Judging.{writes_at}
 use Rattle.rules.proofs.writes.Goals as goal
 
-pub returns : goal.returns
+pub returns-then-marked : goal.returns-then-marked
 unfolding writes_at
-returns c =
-    c.one_of.ensures ∙ λ i. (c.marked.ensures i || c.marked-2.ensures i)
+returns-then-marked c =
+    rw (sym c.marked.ensures ∙ c.if-marked.true) c.if-marked.true
+
+pub returns-else-marked : goal.returns-else-marked
+unfolding writes_at
+returns-else-marked c =
+    rw (sym c.marked.ensures ∙ c.if-marked.false) c.marked-else-marked.ensures

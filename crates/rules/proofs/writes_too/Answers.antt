@@ -8,7 +8,7 @@ unfolding writes_too
 returns-then-writes c =
     rw (sym c.writes.ensures ∙ c.if-writes.true) c.written_again.ensures
 
-pub returns : goal.returns
+pub returns-else-writes : goal.returns-else-writes
 unfolding writes_too
-returns c =
-    rw (sym c.writes.ensures ∙ c.if-writes.false)
+returns-else-writes c =
+    rw (sym c.writes.ensures ∙ c.if-writes.false) c.if-writes.false

@@ -1,24 +1,15 @@
--- `rules::written_twice` meets its contract. The loop's invariant: no thread below `i` writes the register with another. Assumes nothing.
-use borrow.Author.Rules.{rules}
+-- `rules::written_twice` meets its contract. Assumes nothing.
+use mathlib.Core.Path.{refl}
 use native.Mathlib.Omega.{arith}
-use Rattle.rules.specs.Judging.{written_twice}
-use Rattle.rules.proofs.Tests.{any-start, any-turn, any_found, any-end}
+use borrow.Author.Rules.{rules}
+use Rattle.std.proofs.lemmas.Iterator.{YieldsList-from_range}
+use Rattle.rules.specs.Judging.{written_twice, writes_too}
+use Rattle.rules.proofs.Tests.{any_in-range}
 use Rattle.rules.proofs.written_twice.Goals as goal
-
-pub loop-i-init : goal.loop-i-init
-loop-i-init c =
-    (search rules, any-start _)
-
-pub returns-then-writes_too : goal.returns-then-writes_too
-unfolding written_twice
-returns-then-writes_too c =
-    any_found _ _ _ c.loop-i-test.true c.writes_too.ensures c.if-writes_too.true
-
-pub loop-i-preserved : goal.loop-i-preserved
-loop-i-preserved c =
-    (omega arith, any-turn _ _ c.loop-i.invariant.1 c.writes_too.ensures c.if-writes_too.false)
 
 pub returns : goal.returns
 unfolding written_twice
 returns c =
-    any-end _ c.args.threads c.loop-i.i c.loop-i.invariant.1 (omega arith)
+    let a = c.args in
+    any_in-range (writes_too a.plain.now a.later.now a.threads a.r) a.threads _ _ c.any.ensures.ran (YieldsList-from_range 0 _ _ refl (omega arith))
+    (λ k q e. search rules) (λ k q e. (search rules, search rules))

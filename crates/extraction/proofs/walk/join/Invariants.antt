@@ -1,6 +1,6 @@
 -- `walk::join` meets its contract. The loop's invariant: the registers below `r` are merged. Assumes nothing.
 use mathlib.Core.Path.{◌≡◌, ap, ◌∙◌}
-use Prim.Native.Nat.{ℕ, ◌-◌, ◌≤◌}
+use Prim.Native.Nat.{◌≤◌}
 use native.Mathlib.Omega.{arith}
 use Rattle.extraction.specs.Walking.{walking, walked, merge_below}
 use Rattle.extraction.proofs.Walking.{merge_none, merge-turn, join-path}
@@ -10,7 +10,3 @@ use Rattle.extraction.proofs.walk.join.Given as goal
 abbrev pub invariant-loop-r : goal.invariant-loop-r
 invariant-loop-r l =
     (l.r ≤ 32) × (walking (walked l.count 0 l.row) l.nodes ≡ merge_below l.written l.c l.a l.b l.r l.initial.nodes)
-
-abbrev pub decreases-loop-r : goal.decreases-loop-r
-decreases-loop-r l =
-    32 - l.r

@@ -1,6 +1,6 @@
 -- `walk::own_row` meets its contract. The loop's invariant: the registers below `r` have their own variables. Assumes nothing.
 use mathlib.Core.Path.{◌≡◌, ap, ◌∙◌}
-use Prim.Native.Nat.{ℕ, ◌-◌, ◌≤◌}
+use Prim.Native.Nat.{◌≤◌}
 use native.Mathlib.Omega.{arith}
 use lib.ListN.{replicate}
 use Rattle.extraction.specs.Walking.{fill_below, own_node, own_at}
@@ -11,7 +11,3 @@ use Rattle.extraction.proofs.walk.own_row.Given as goal
 abbrev pub invariant-loop-r : goal.invariant-loop-r
 invariant-loop-r l =
     (l.r ≤ 32) × (l.row ≡ fill_below (own_node l.inputs l.registers) l.r (replicate 32 0))
-
-abbrev pub decreases-loop-r : goal.decreases-loop-r
-decreases-loop-r l =
-    32 - l.r

@@ -1,6 +1,6 @@
 -- `netlist::counting::count_nodes` meets its contract. The loop: the uses by the nodes so far are counted. Assumes nothing.
 use mathlib.Core.Path.{◌≡◌, ◌∙◌, ap}
-use Prim.Native.Nat.{ℕ, ◌≤◌, ◌-◌}
+use Prim.Native.Nat.{◌≤◌}
 use native.Mathlib.Omega.{arith}
 use Rattle.netlist.specs.Uses.{operand_uses}
 use Rattle.netlist.proofs.Uses.{operands-none, operands-turn}
@@ -10,7 +10,3 @@ use Rattle.netlist.proofs.counting.count_nodes.Given as goal
 abbrev pub invariant-loop-n : goal.invariant-loop-n
 invariant-loop-n l =
     (l.n ≤ l.count) × (l.uses ≡ operand_uses l.nodes l.initial.uses l.n)
-
-abbrev pub decreases-loop-n : goal.decreases-loop-n
-decreases-loop-n l =
-    l.count - l.n

@@ -1,7 +1,7 @@
 -- `masked::first_marked` meets its contract. The loop's invariant: the test holds of no number below `k`. Assumes nothing.
 use mathlib.Core.Path.{◌≡◌}
 use mathlib.Core.Bool.{false}
-use Prim.Native.Nat.{◌-◌, ◌≤◌}
+use Prim.Native.Nat.{◌≤◌}
 use native.Mathlib.Omega.{arith}
 use Rattle.events.specs.Cycle.{any_below}
 use Rattle.rules.proofs.Tests.{any-start, any-turn}
@@ -13,7 +13,3 @@ use Rattle.witness.proofs.masked.first_marked.Given as goal
 abbrev pub invariant-loop-k : goal.invariant-loop-k
 invariant-loop-k l =
     (l.k ≤ l.n) × (any_below l.k (by_marks l.layout l.readers l.plain l.later l.reading l.test) ≡ false)
-
-abbrev pub decreases-loop-k : goal.decreases-loop-k
-decreases-loop-k l =
-    l.n - l.k
