@@ -72,10 +72,10 @@ module _ (q : Plan) (us rs : List ℕ) (mask : ℕ) (ls : List Bool) (row : ℕ)
 -- A place of a thread, as a turn of its loop finds it.
 module _ (q : Plan) (us rs : List ℕ) (mask : ℕ) (ls : List Bool) (i : ℕ) where
   pub wait-found :
-      (first p : ℕ) {row b : ℕ} {w r t : Bool} → row ≡ first + waits_to q i p → b ≡ p → w ≡ q.waits i b →
+      (first p : ℕ) {row : ℕ} {w r t : Bool} → row ≡ first + waits_to q i p → w ≡ q.waits i p →
       r ≡ (not w || row_fits_on q us rs mask ls row) → r ≡ t →
       (not (q.waits i p) || row_fits_on q us rs mask ls (first + waits_to q i p)) ≡ t
-  wait-found first p e o k h z = rw (← e, ← o, ← k, ← h) z
+  wait-found first p e k h z = rw (← e, ← k, ← h) z
 
 -- A thread, as a turn of the loop over threads finds it.
 module _ (q : Plan) (us rs ns : List ℕ) (i : ℕ) where

@@ -5,7 +5,7 @@ ghost use Rattle.plan.specs.Plan.{plan_of};
 ghost use Rattle.nodes.specs.Cells.{node_of, size_in, is_width, arms_fit, fits_at};
 ghost use Rattle.clock_check.specs.Judging.{variables_in, width_on, nodes_fit_below, width_table, Rest};
 
-use nodes::{Cell, cell_at, size_at, wide, word_at};
+use nodes::{Cell, cell_at, size_at, word_at};
 use plan::PlanTable;
 
 // Is it a width?
@@ -19,67 +19,50 @@ fn is_width(w: u16) -> bool
 fn constant_fits(w: u16, n: u32) -> bool
     ensures { result ≡ (is_width w && ltb n (2 ^ w)) }
 {
-    if w < 1 {
-        return false;
-    }
-    if 32 < w {
-        return false;
-    }
-    values::below(w as u8, n)
+    is_width(w) && values::below(w as u8, n)
 }
 
 // Are two nodes before node `n`, and of one width?
+#[tactic(auto, unfolding(nodes::specs::Cells::arms_fit))]
 fn arms_fit(sizes: &[u8; 4096], n: u16, a: u16, b: u16) -> bool
     ensures { result ≡ arms_fit n (size_in sizes.now) a b }
 {
-    if n <= a {
-        return false;
-    }
-    if n <= b {
-        return false;
-    }
-    size_at(sizes, a) == size_at(sizes, b)
+    a < n && b < n && size_at(sizes, a) == size_at(sizes, b)
 }
 
 // Is node `n` in order, where there are so many variables and the nodes before it have these widths?
+#[tactic(auto, unfolding(nodes::specs::Cells::node_of, nodes::specs::Cells::fits_at))]
 fn node_fits(variables: usize, sizes: &[u8; 4096], n: u16, cell: Cell) -> bool
     ensures { result ≡ fits_at variables n (size_in sizes.now) (node_of cell) }
 {
     match cell {
-        Cell::Variable(v) => wide(v) < variables,
+        Cell::Variable(v) => (v as usize) < variables,
         Cell::Constant { width, number } => constant_fits(width, number),
         Cell::Blank(width) => is_width(width),
-        Cell::Unary { op: _, a } => a < n,
-        Cell::Binary { op: _, a, b } => arms_fit(sizes, n, a, b),
-        Cell::Conditional { c, a, b } => c < n && arms_fit(sizes, n, a, b),
-        Cell::Branch { c, a, b } => c < n && arms_fit(sizes, n, a, b),
+        Cell::Unary { a, .. } => a < n,
+        Cell::Binary { a, b, .. } => arms_fit(sizes, n, a, b),
+        Cell::Conditional { c, a, b } | Cell::Branch { c, a, b } => {
+            c < n && arms_fit(sizes, n, a, b)
+        }
     }
 }
 
-// A width in a byte.
-fn narrow(w: u16) -> u8
-    ensures { result ≡ w % 256 }
-{
-    let b = w % 256;
-    b as u8
-}
-
 // The width of a node, the nodes before it having these widths.
+#[tactic(auto, unfolding(nodes::specs::Cells::node_of, crate::specs::Judging::width_on))]
 fn node_width(plan: &PlanTable, sizes: &[u8; 4096], cell: Cell) -> u8
     ensures { result ≡ width_on (plan_of plan.now) (size_in sizes.now) (node_of cell) }
 {
     match cell {
-        Cell::Variable(v) => plan::width(plan, wide(v)),
-        Cell::Constant { width, number: _ } => narrow(width),
-        Cell::Blank(width) => narrow(width),
+        Cell::Variable(v) => plan::width(plan, v as usize),
+        Cell::Constant { width, .. } | Cell::Blank(width) => (width % 256) as u8,
         Cell::Unary { op, a } => values::unary_width(op, size_at(sizes, a)),
-        Cell::Binary { op, a, b: _ } => values::binary_width(op, size_at(sizes, a)),
-        Cell::Conditional { c: _, a, b: _ } => size_at(sizes, a),
-        Cell::Branch { c: _, a, b: _ } => size_at(sizes, a),
+        Cell::Binary { op, a, .. } => values::binary_width(op, size_at(sizes, a)),
+        Cell::Conditional { a, .. } | Cell::Branch { a, .. } => size_at(sizes, a),
     }
 }
 
 // How many variables there are.
+#[tactic(auto, unfolding(crate::specs::Judging::variables_in))]
 fn variables_in(plan: &PlanTable) -> usize
     ensures { result ≡ variables_in (plan_of plan.now) }
 {
@@ -92,7 +75,7 @@ fn variables_in(plan: &PlanTable) -> usize
 fn is_zero(nodes: &[u16], n: u16) -> bool
     ensures { result ≡ (eqb (get_or nodes.now (4 * n) 0) 0 && eqb (get_or nodes.now (4 * n + 1) 0) 0) }
 {
-    let i = 4 * wide(n);
+    let i = 4 * n as usize;
     word_at(nodes, i) == 0 && word_at(nodes, i + 1) == 0
 }
 
@@ -100,14 +83,12 @@ fn is_zero(nodes: &[u16], n: u16) -> bool
 pub fn used_nodes(nodes: &[u16]) -> u16
     ensures { Rest nodes.now result }
 {
-    let mut n: u16 = 4096;
-    while 0 < n {
-        if !is_zero(nodes, n - 1) {
-            return n;
+    for n in (0..4096u16).rev() {
+        if !is_zero(nodes, n) {
+            return n + 1;
         }
-        n -= 1;
     }
-    n
+    0
 }
 
 // ---- all nodes
@@ -117,10 +98,8 @@ fn fill_rest(width: u8, from: u16, sizes: &mut [u8; 4096])
     requires { from ≤ 4096 }
     ensures { sizes.new ≡ sets sizes.old from (replicate (4096 - from) width) }
 {
-    let mut n = from;
-    while n < 4096 {
+    for n in from..4096 {
         sizes[n as usize] = width;
-        n += 1;
     }
 }
 
@@ -133,14 +112,12 @@ pub fn nodes_fit(plan: &PlanTable, nodes: &[u16], used: u16, sizes: &mut [u8; 40
 {
     *sizes = [0; 4096];
     let variables = variables_in(plan);
-    let mut n: u16 = 0;
-    while n < used {
+    for n in 0u16..used {
         let cell = cell_at(nodes, n);
         if !node_fits(variables, sizes, n, cell) {
             return false;
         }
         sizes[n as usize] = node_width(plan, sizes, cell);
-        n += 1;
     }
     if 4096 <= used {
         return true;

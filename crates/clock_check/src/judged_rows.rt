@@ -2,7 +2,6 @@
 ghost use Rattle.std.specs.Prelude.{◌≡◌, false, not, ◌&&◌, ◌||◌, ◌≤◌, ◌<◌, ltb, replicate};
 ghost use Rattle.state.specs.Rows.{all_below};
 ghost use Rattle.plan.specs.Plan.{plan_of};
-ghost use Rattle.nextstate.specs.Rules.{one};
 ghost use Rattle.clock_nodes.specs.Rows.{entry_at};
 ghost use Rattle.clock_steps.specs.Numbers.{waits_in};
 ghost use Rattle.nodes.specs.Cells.{node_of, marks_in, lands_at};
@@ -10,7 +9,7 @@ ghost use Rattle.clock_check.specs.Judging.{wait_of, lands_below, register_fits_
 ghost use Rattle.clock_check.specs.Judging.{thread_fits_on, rows_fit_on, Rest};
 
 use clock_steps::at_most;
-use nodes::{Cell, cell_at, size_at, wide, word_at};
+use nodes::{Cell, cell_at, size_at, word_at};
 use plan::PlanTable;
 
 // ---- nodes that stand for a wait
@@ -27,31 +26,26 @@ fn waits_at(plan: &PlanTable, i: usize, p: u32) -> bool
 }
 
 // Is node `a` before node `n`, and marked?
+#[tactic(auto, unfolding(nodes::specs::Cells::marks_in))]
 fn marked(marks: &[bool; 4096], n: u16, a: u16) -> bool
     ensures { result ≡ (ltb a n && marks_in marks.now a) }
 {
-    let i = wide(a);
-    if n <= a {
-        return false;
-    }
-    if 4096 <= i {
-        return false;
-    }
-    marks[i]
+    a < n && a < 4096 && marks[a as usize]
 }
 
 // Does node `n` stand for a wait of thread `i`, the nodes before it being marked?
+#[tactic(auto, unfolding(nodes::specs::Cells::node_of, nodes::specs::Cells::lands_at))]
 fn lands(plan: &PlanTable, i: usize, marks: &[bool; 4096], n: u16, cell: Cell) -> bool
     ensures { result ≡ lands_at (wait_of (plan_of plan.now) i) n (marks_in marks.now) (node_of cell) }
 {
     match cell {
-        Cell::Variable(_) => false,
         Cell::Constant { width, number } => width == 8 && waits_at(plan, i, number),
-        Cell::Blank(_) => false,
-        Cell::Unary { op: _, a: _ } => false,
-        Cell::Binary { op: _, a: _, b: _ } => false,
-        Cell::Conditional { c: _, a: _, b: _ } => false,
-        Cell::Branch { c: _, a, b } => marked(marks, n, a) && marked(marks, n, b),
+        Cell::Branch { a, b, .. } => marked(marks, n, a) && marked(marks, n, b),
+        Cell::Variable(_)
+        | Cell::Blank(_)
+        | Cell::Unary { .. }
+        | Cell::Binary { .. }
+        | Cell::Conditional { .. } => false,
     }
 }
 
@@ -61,11 +55,8 @@ fn land(plan: &PlanTable, nodes: &[u16], used: u16, i: usize, marks: &mut [bool;
     requires marks_value { marks.old ≡ replicate 4096 false }
     ensures { marks.new ≡ lands_below (wait_of (plan_of plan.now) i) nodes.now 4096 }
 {
-    let mut n: u16 = 0;
-    while n < used {
-        let m = lands(plan, i, marks, n, cell_at(nodes, n));
-        marks[n as usize] = m;
-        n += 1;
+    for n in 0u16..used {
+        marks[n as usize] = lands(plan, i, marks, n, cell_at(nodes, n));
     }
 }
 
@@ -76,7 +67,7 @@ fn entry_at(rows: &[u16], row: u16, c: usize) -> u16
     requires { c < 256 }
     ensures { result ≡ entry_at rows.now row c }
 {
-    word_at(rows, 33 * wide(row) + c)
+    word_at(rows, 33 * row as usize + c)
 }
 
 // Is the entry of register `r` a node, and of the register's width?
@@ -103,11 +94,7 @@ fn entry_fits(
     requires { r < 256 }
     ensures { result ≡ entry_fits_on (plan_of plan.now) sizes.now rows.now written row r }
 {
-    if masks::has(written, r) {
-        register_fits(plan, sizes, rows, row, r)
-    } else {
-        true
-    }
+    !masks::has(written, r) || register_fits(plan, sizes, rows, row, r)
 }
 
 // Are the entries of the registers that are written in order?
@@ -116,12 +103,10 @@ fn registers_fit(plan: &PlanTable, sizes: &[u8; 4096], rows: &[u16], written: u3
         (entry_fits_on (plan_of plan.now) sizes.now rows.now written row) }
 {
     let n = plan::registers(plan);
-    let mut r: usize = 0;
-    while r < n {
+    for r in 0..n {
         if !entry_fits(plan, sizes, rows, written, row, r) {
             return false;
         }
-        r += 1;
     }
     true
 }
@@ -140,7 +125,7 @@ fn row_fits(
     if !registers_fit(plan, sizes, rows, written, row) {
         return false;
     }
-    let n = wide(entry_at(rows, row, 32));
+    let n = entry_at(rows, row, 32) as usize;
     if 4096 <= n {
         return false;
     }
@@ -160,30 +145,10 @@ fn wait_fits(
     ensures { result ≡ (not waits
         || row_fits_on (plan_of plan.now) sizes.now rows.now written marks.now row) }
 {
-    if waits {
-        row_fits(plan, sizes, rows, written, marks, row)
-    } else {
-        true
-    }
+    !waits || row_fits(plan, sizes, rows, written, marks, row)
 }
 
 // ---- the rows of a thread's waits
-
-// A place below 256 as a byte.
-fn byte(p: usize) -> u8
-    requires { p < 256 }
-    ensures { result ≡ p }
-{
-    p as u8
-}
-
-// 1 where a test holds, else 0.
-fn one(t: bool) -> u16
-    ensures value { result ≡ one t }
-    ensures upper_bound { result ≤ 1 }
-{
-    if t { 1 } else { 0 }
-}
 
 // Are the rows of thread `i`'s waits in order, of which the first is number `first`?
 fn thread_fits(
@@ -200,14 +165,12 @@ fn thread_fits(
 {
     let n = at_most(256, plan::size(plan, i));
     let mut row = first;
-    let mut p: usize = 0;
-    while p < n {
-        let waits = plan::waits(plan, i, byte(p));
+    for p in 0..n {
+        let waits = plan::waits(plan, i, p as u8);
         if !wait_fits(plan, sizes, rows, written, marks, row, waits) {
             return false;
         }
-        row += one(waits);
-        p += 1;
+        row += u16::from(waits);
     }
     true
 }
@@ -219,10 +182,8 @@ fn waits_in(plan: &PlanTable, i: usize) -> u16
 {
     let n = at_most(256, plan::size(plan, i));
     let mut k: u16 = 0;
-    let mut p: usize = 0;
-    while p < n {
-        k += one(plan::waits(plan, i, byte(p)));
-        p += 1;
+    for p in 0..n {
+        k += u16::from(plan::waits(plan, i, p as u8));
     }
     k
 }
@@ -262,13 +223,11 @@ pub fn rows_fit(
 {
     let threads = at_most(8, plan::threads(plan));
     let mut first: u16 = 0;
-    let mut i: usize = 0;
-    while i < threads {
+    for i in 0..threads {
         if !thread_rows_fit(plan, sizes, nodes, rows, used, written[i], i, first) {
             return false;
         }
         first += waits_in(plan, i);
-        i += 1;
     }
     true
 }

@@ -1,6 +1,5 @@
 -- The loop over the entries of the rows, for the highest node: what it has shown once it has passed the first j. Assumes nothing.
-use mathlib.Core.Path.{◌≡◌, refl, sym}
-use mathlib.Core.Bool.{Bool, true, false}
+use mathlib.Core.Path.{◌≡◌, refl, sym, ◌∙◌}
 use mathlib.Core.List.{List}
 use Prim.Native.Nat.{ℕ, zero, suc, ◌+◌, ◌≤◌, ◌<◌}
 use native.Mathlib.Decide.{dec_lt}
@@ -8,6 +7,8 @@ use native.Mathlib.Numerals.{add-one}
 use native.Mathlib.Omega.{arith}
 use borrow.Author.Tests.{lt-ltb, le-ltb}
 use lib.ListN.{length, get_or, get_or-eq_default}
+use Rattle.std.specs.Prelude.{max}
+use Rattle.std.proofs.Math.Nat.{max-eq_left, max-eq_right}
 use Rattle.events.proofs.Cycle.{Below, at-end, before, below_suc}
 use Rattle.clock_nodes.specs.Reach.{furthest, reach_below, reach, Counted}
 
@@ -18,13 +19,20 @@ module _ (n e : ℕ) where
   unfolding furthest
   no_node h = rw (le-ltb e 4096 h)
 
-  pub node-within : e < 4096 → e < n → n ≡ furthest n e
+  node-within : e < 4096 → e < n → n ≡ furthest n e
   unfolding furthest
   node-within h l = rw (lt-ltb e 4096 h, lt-ltb e n l)
 
-  pub node-further : e < 4096 → n ≤ e → e + 1 ≡ furthest n e
+  node-further : e < 4096 → n ≤ e → e + 1 ≡ furthest n e
   unfolding furthest
   node-further h l = rw (lt-ltb e 4096 h, le-ltb e n l)
+
+  pub node-max : e < 4096 → max n (e + 1) ≡ furthest n e
+  node-max h = by (dec_lt e n)
+    where
+      by : Dec (e < n) → max n (e + 1) ≡ furthest n e
+      by (yes l) = max-eq_left (omega arith) ∙ node-within h l
+      by (no l) = max-eq_right (omega arith) ∙ node-further h (omega arith)
 
   -- What it says of the entry and of n.
   far : (n ≤ furthest n e) × (e < 4096 → e < furthest n e) × (n ≤ 4096 → furthest n e ≤ 4096)

@@ -3,26 +3,29 @@ use mathlib.Core.Path.{◌≡◌, refl, sym, ◌∙◌}
 use mathlib.Core.Bool.{Bool, false}
 use mathlib.Core.List.{List}
 use Prim.Native.Nat.{ℕ, ◌+◌, ◌*◌, ◌<◌, ◌≤◌}
+use native.Mathlib.Decide.{dec_lt}
 use native.Mathlib.Numerals.{add-one}
+use native.Mathlib.Omega.{arith}
 use borrow.Author.Tests.{lt-ltb, le-ltb, eq-eqb, ne_eqb, le-leb, lt-leb}
-use lib.ListN.{get_or, set}
+use lib.Dec.{ltb}
+use lib.ListN.{length, get_or, set, get_or-eq_default}
+use Rattle.std.specs.Prelude.{min, max}
+use Rattle.std.proofs.Math.Nat.{min-eq_left, min-eq_right, max-eq_left, max-eq_right}
+use Rattle.values.specs.Values.{pick}
 use Rattle.masks.specs.Masks.{bits}
 use Rattle.clock_nodes.specs.Copying.{cell_in, copy_node, copy_to, copy_all, low_in, least, lower, low_node, lows_to, low_all}
 use Rattle.clock_nodes.specs.Rows.{entry_at, put_entries, low_by, low_to, higher, high_by, high_to, fill_row}
 
--- ---- node n of the words, at place i; w is its kind
+-- ---- node n of the words; w is its kind
 
-module _ (ns : List ℕ) (n : ℕ) {i w : ℕ} (e : i ≡ n) (k : w ≡ get_or ns (4 * i) 0) where
-  kind : w ≡ get_or ns (4 * n) 0
-  kind = rw (← e) k
-
-  pub cell-variable : {x : ℕ} → w ≡ 0 → x ≡ get_or ns (4 * i + 1) 0 → x ≡ cell_in ns n
+module _ (ns : List ℕ) (n : ℕ) {w : ℕ} (k : w ≡ get_or ns (4 * n) 0) where
+  pub cell-variable : {x : ℕ} → w ≡ 0 → x ≡ get_or ns (4 * n + 1) 0 → x ≡ cell_in ns n
   unfolding cell_in
-  cell-variable z h = rw (eq-eqb (get_or ns (4 * n) 0) 0 (sym kind ∙ z), ← e) h
+  cell-variable z h = rw (eq-eqb (get_or ns (4 * n) 0) 0 (sym k ∙ z)) h
 
   pub cell-node : (w ≡ 0 → ⊥) → 80 + n ≡ cell_in ns n
   unfolding cell_in
-  cell-node z = rw (ne_eqb (get_or ns (4 * n) 0) 0 (λ q. z (kind ∙ q)))
+  cell-node z = rw (ne_eqb (get_or ns (4 * n) 0) 0 (λ q. z (k ∙ q)))
 
 -- ---- copy_to, copy_all
 
@@ -46,30 +49,33 @@ module _ (ns us : List ℕ) where
 
 -- ---- low_in
 
-module _ (ls : List ℕ) {i n : ℕ} (e : i ≡ n) where
-  pub low-past : 4096 ≤ i → 0 ≡ low_in ls n
+module _ (ls : List ℕ) (n : ℕ) (h : length ls ≡ 4096) where
+  pub low-or : get_or ls n 0 ≡ low_in ls n
   unfolding low_in
-  low-past h = rw (← e, le-ltb i 4096 h)
-
-  pub low-here : i < 4096 → get_or ls i 0 ≡ low_in ls n
-  unfolding low_in
-  low-here h = rw (← e, lt-ltb i 4096 h)
+  low-or = by (dec_lt n 4096)
+    where
+      by : Dec (n < 4096) → get_or ls n 0 ≡ pick (ltb n 4096) (get_or ls n 0) 0
+      by (yes l) = rw (lt-ltb n 4096 l)
+      by (no l) = rw (le-ltb n 4096 (omega arith)) (get_or-eq_default ls 0 {n = n} (omega arith))
 
 -- ---- lower
 
-module _ (ns ls : List ℕ) (n x : ℕ) {i w : ℕ} (e : i ≡ n) (k : w ≡ get_or ns (4 * i) 0) where
+least-min : (a b : ℕ) → min a b ≡ least a b
+unfolding least
+least-min a b = by (dec_lt a b)
+  where
+    by : Dec (a < b) → min a b ≡ pick (ltb a b) a b
+    by (yes l) = rw (lt-ltb a b l) (min-eq_left (omega arith))
+    by (no l) = rw (le-ltb a b (omega arith)) (min-eq_right (omega arith))
+
+module _ (ns ls : List ℕ) (n x : ℕ) {w : ℕ} (k : w ≡ get_or ns (4 * n) 0) where
   pub lower-variable : w ≡ 0 → x ≡ lower ns ls n x
   unfolding lower
-  lower-variable z = rw (eq-eqb (get_or ns (4 * n) 0) 0 (sym (kind ns n e k) ∙ z))
+  lower-variable z = rw (eq-eqb (get_or ns (4 * n) 0) 0 (sym k ∙ z))
 
-  module _ (z : w ≡ 0 → ⊥) {l : ℕ} (m : l ≡ low_in ls n) where
-    pub lower-less : l < x → l ≡ lower ns ls n x
-    unfolding lower least
-    lower-less h = rw (ne_eqb (get_or ns (4 * n) 0) 0 (λ q. z (kind ns n e k ∙ q)), ← m, lt-ltb l x h)
-
-    pub lower-more : x ≤ l → x ≡ lower ns ls n x
-    unfolding lower least
-    lower-more h = rw (ne_eqb (get_or ns (4 * n) 0) 0 (λ q. z (kind ns n e k ∙ q)), ← m, le-ltb l x h)
+  pub lower-node : {l y : ℕ} → (w ≡ 0 → ⊥) → l ≡ low_in ls n → y ≡ min l x → y ≡ lower ns ls n x
+  unfolding lower
+  lower-node z m h = rw (ne_eqb (get_or ns (4 * n) 0) 0 (λ q. z (k ∙ q)), ← m, ← least-min _ x) h
 
 -- ---- lows_to, low_all
 
@@ -116,19 +122,21 @@ module _ (ns ls rs : List ℕ) (row : ℕ) (written : List Bool) where
   unfolding low_to
   low-more r p q m h = rw (add-one r, ← p, ← q, ← m) h
 
-module _ (ns : List ℕ) (n x : ℕ) {i w : ℕ} (e : i ≡ n) (k : w ≡ get_or ns (4 * i) 0) where
+higher-of : (x u : ℕ) → max x u ≡ pick (ltb x u) u x
+higher-of x u = by (dec_lt x u)
+  where
+    by : Dec (x < u) → max x u ≡ pick (ltb x u) u x
+    by (yes l) = rw (lt-ltb x u l) (max-eq_right (omega arith))
+    by (no l) = rw (le-ltb x u (omega arith)) (max-eq_left (omega arith))
+
+module _ (ns : List ℕ) (n x : ℕ) {w : ℕ} (k : w ≡ get_or ns (4 * n) 0) where
   pub higher-variable : w ≡ 0 → x ≡ higher ns n x
   unfolding higher
-  higher-variable z = rw (eq-eqb (get_or ns (4 * n) 0) 0 (sym (kind ns n e k) ∙ z))
+  higher-variable z = rw (eq-eqb (get_or ns (4 * n) 0) 0 (sym k ∙ z))
 
-  module _ (z : w ≡ 0 → ⊥) {u : ℕ} (m : u ≡ 81 + n) where
-    pub higher-less : x < u → u ≡ higher ns n x
-    unfolding higher
-    higher-less h = rw (ne_eqb (get_or ns (4 * n) 0) 0 (λ q. z (kind ns n e k ∙ q)), ← m, lt-ltb x u h)
-
-    pub higher-more : u ≤ x → x ≡ higher ns n x
-    unfolding higher
-    higher-more h = rw (ne_eqb (get_or ns (4 * n) 0) 0 (λ q. z (kind ns n e k ∙ q)), ← m, le-ltb x u h)
+  pub higher-node : {y : ℕ} → (w ≡ 0 → ⊥) → y ≡ max x (81 + n) → y ≡ higher ns n x
+  unfolding higher
+  higher-node z h = rw (ne_eqb (get_or ns (4 * n) 0) 0 (λ q. z (k ∙ q)), ← higher-of x (81 + n)) h
 
 module _ (ns rs : List ℕ) (row : ℕ) (written : List Bool) where
   pub high-none : {e x : ℕ} → e ≡ entry_at rs row 32 → x ≡ higher ns e 0 → x ≡ high_to ns rs row written 0
@@ -147,8 +155,8 @@ module _ (ns ls rs : List ℕ) (row mask : ℕ) (us : List ℕ) where
   row-past h = rw (le-ltb row 32 h)
 
   pub row_here :
-      {ts : List ℕ} {x y z : ℕ} → row < 32 → ts ≡ put_entries ns rs row 33 us → x ≡ low_to ns ls rs row (bits mask) 32 →
-      y ≡ high_to ns rs row (bits mask) 32 → z ≡ 80 + x →
-      set (set (set ts (36 * row + 33) z) (36 * row + 34) y) (36 * row + 35) mask ≡ fill_row ns ls rs row mask us
+      {ts : List ℕ} {x y : ℕ} → row < 32 → ts ≡ put_entries ns rs row 33 us → x ≡ low_to ns ls rs row (bits mask) 32 →
+      y ≡ high_to ns rs row (bits mask) 32 →
+      set (set (set ts (36 * row + 33) (80 + x)) (36 * row + 34) y) (36 * row + 35) mask ≡ fill_row ns ls rs row mask us
   unfolding fill_row
-  row_here h p q r e = rw (lt-ltb row 32 h, ← p, ← q, ← r, e)
+  row_here h p q r = rw (lt-ltb row 32 h, ← p, ← q, ← r)

@@ -1,6 +1,6 @@
 -- The rows of lent tables, copied: the cells of a row's entries, and the range of cells that are worked out for it. Defined for words of
 -- any contents.
-use Rattle.std.specs.Prelude.{Bool, true, false, List, ℕ, zero, suc, ◌+◌, ◌*◌, ltb, get_or, set}
+use Rattle.std.specs.Prelude.{Bool, false, List, ℕ, zero, suc, ◌+◌, ◌*◌, ltb, get_or, set}
 use Rattle.values.specs.Values.{pick, ◌is◌then◌else◌}
 use Rattle.masks.specs.Masks.{bits}
 use Rattle.clock_nodes.specs.Copying.{cell_in, lower}

@@ -19,40 +19,18 @@ pub type Lows = [u16; 4096];
 // the mask of the registers that are written.
 pub type RowTable = [u32; 1152];
 
-// A word as a place.
-fn wide(w: u16) -> usize
-    ensures { result ≡ w }
-{
-    w as usize
-}
-
-// A word as a longer one.
-fn long(w: u16) -> u32
-    ensures { result ≡ w }
-{
-    w as u32
-}
-
-// A byte as a word.
-fn widen(b: u8) -> u32
-    ensures { result ≡ b }
-{
-    b as u32
-}
-
 // The word at a place, 0 past the end.
 fn word_at(words: &[u16], at: usize) -> u16
     ensures { result ≡ get_or words.now at 0 }
 {
-    if at < words.len() { words[at] } else { 0 }
+    words.get(at).copied().unwrap_or(0)
 }
 
 // The width of node `n`, 0 past the last.
 fn size_at(sizes: &[u8], n: u16) -> u32
     ensures { result ≡ get_or sizes.now n 0 }
 {
-    let i = wide(n);
-    if i < sizes.len() { widen(sizes[i]) } else { 0 }
+    sizes.get(n as usize).copied().unwrap_or(0) as u32
 }
 
 // ---- how many nodes the rows reach
@@ -61,10 +39,7 @@ fn size_at(sizes: &[u8], n: u16) -> u32
 fn further(n: u16, entry: u16) -> u16
     ensures { result ≡ furthest n entry }
 {
-    if 4096 <= entry {
-        return n;
-    }
-    if entry < n { n } else { entry + 1 }
+    if entry < 4096 { n.max(entry + 1) } else { n }
 }
 
 // How many nodes the rows reach.
@@ -72,10 +47,8 @@ pub fn reach(rows: &[u16]) -> u16
     ensures { result ≡ reach rows.now }
 {
     let mut n: u16 = 1;
-    let mut j: usize = 0;
-    while j < rows.len() {
-        n = further(n, rows[j]);
-        j += 1;
+    for &entry in rows {
+        n = further(n, entry);
     }
     n
 }
@@ -86,25 +59,25 @@ pub fn reach(rows: &[u16]) -> u16
 fn cell_in(nodes: &[u16], n: u16) -> u32
     ensures { result ≡ cell_in nodes.now n }
 {
-    let i = 4 * wide(n);
+    let i = 4 * n as usize;
     if word_at(nodes, i) == 0 {
-        return long(word_at(nodes, i + 1));
+        return word_at(nodes, i + 1) as u32;
     }
-    80 + long(n)
+    80 + n as u32
 }
 
 // The three words of a node of kind `k`.
 fn first_of(nodes: &[u16], k: u16, a: u16) -> u32
     ensures { result ≡ first_of nodes.now k a }
 {
-    if k == 0 { long(a) } else { cell_in(nodes, a) }
+    if k == 0 { a as u32 } else { cell_in(nodes, a) }
 }
 
 fn second_of(nodes: &[u16], k: u16, b: u16, c: u16) -> u32
     ensures { result ≡ second_of nodes.now k b c }
 {
     if k == 1 {
-        return long(b) + 65536 * long(c);
+        return b as u32 + 65536 * c as u32;
     }
     cell_in(nodes, b)
 }
@@ -113,7 +86,7 @@ fn third_of(nodes: &[u16], sizes: &[u8], k: u16, a: u16, c: u16) -> u32
     ensures { result ≡ third_of nodes.now sizes.now k a c }
 {
     if k == 2 {
-        return long(a);
+        return a as u32;
     }
     if k < 20 {
         return size_at(sizes, a);
@@ -125,7 +98,7 @@ fn third_of(nodes: &[u16], sizes: &[u8], k: u16, a: u16, c: u16) -> u32
 fn copy_node(nodes: &[u16], sizes: &[u8], n: u16, plan: &mut PlanTable)
     ensures { plan.new ≡ copy_node nodes.now sizes.now n plan.old }
 {
-    let i = 4 * wide(n);
+    let i = 4 * n as usize;
     let k = word_at(nodes, i);
     let a = word_at(nodes, i + 1);
     let b = word_at(nodes, i + 2);
@@ -133,7 +106,7 @@ fn copy_node(nodes: &[u16], sizes: &[u8], n: u16, plan: &mut PlanTable)
     let x = first_of(nodes, k, a);
     let y = second_of(nodes, k, b, c);
     let z = third_of(nodes, sizes, k, a, c);
-    plan_exprs::put_node(plan, 80 + long(n), long(k), x, y, z);
+    plan_exprs::put_node(plan, 80 + n as u32, k as u32, x, y, z);
 }
 
 // Copies the first `count` nodes; nothing where there are not so many.
@@ -143,10 +116,8 @@ pub fn copy_nodes(nodes: &[u16], sizes: &[u8], count: u16, plan: &mut PlanTable)
     if 4096 < count {
         return;
     }
-    let mut n: u16 = 0;
-    while n < count {
+    for n in 0u16..count {
         copy_node(nodes, sizes, n, plan);
-        n += 1;
     }
 }
 
@@ -156,22 +127,17 @@ pub fn copy_nodes(nodes: &[u16], sizes: &[u8], count: u16, plan: &mut PlanTable)
 fn low_in(lows: &Lows, n: u16) -> u16
     ensures { result ≡ low_in lows.now n }
 {
-    let i = wide(n);
-    if 4096 <= i {
-        return 0;
-    }
-    lows[i]
+    word_at(lows, n as usize)
 }
 
 // The lower of node `x` and the lowest that node `n` needs, if that isn't a variable.
 fn lower(nodes: &[u16], lows: &Lows, n: u16, x: u16) -> u16
     ensures { result ≡ lower nodes.now lows.now n x }
 {
-    if word_at(nodes, 4 * wide(n)) == 0 {
+    if word_at(nodes, 4 * n as usize) == 0 {
         return x;
     }
-    let l = low_in(lows, n);
-    if l < x { l } else { x }
+    low_in(lows, n).min(x)
 }
 
 // The lowest of node `x` and those that its operands need, by its kind `k`.
@@ -197,13 +163,12 @@ fn low_node(nodes: &[u16], n: u16, lows: &mut Lows)
     requires { n < 4096 }
     ensures { lows.new ≡ low_node nodes.now n lows.old }
 {
-    let i = 4 * wide(n);
+    let i = 4 * n as usize;
     let k = word_at(nodes, i);
     let a = word_at(nodes, i + 1);
     let b = word_at(nodes, i + 2);
     let c = word_at(nodes, i + 3);
-    let x = lowest(nodes, lows, n, k, a, b, c);
-    lows[wide(n)] = x;
+    lows[n as usize] = lowest(nodes, lows, n, k, a, b, c);
 }
 
 // Notes the lowest nodes that the first `count` nodes need; nothing where there are not so many.
@@ -213,10 +178,8 @@ pub fn low_nodes(nodes: &[u16], count: u16, lows: &mut Lows)
     if 4096 < count {
         return;
     }
-    let mut n: u16 = 0;
-    while n < count {
+    for n in 0u16..count {
         low_node(nodes, n, lows);
-        n += 1;
     }
 }
 
@@ -236,10 +199,8 @@ fn put_entries(nodes: &[u16], rows: &[u16], row: usize, table: &mut RowTable)
     requires { row < 32 }
     ensures { table.new ≡ put_entries nodes.now rows.now row 33 table.old }
 {
-    let mut c: usize = 0;
-    while c < 33 {
+    for c in 0..33 {
         table[36 * row + c] = cell_in(nodes, entry_at(rows, row, c));
-        c += 1;
     }
 }
 
@@ -260,8 +221,7 @@ fn low_row(nodes: &[u16], lows: &Lows, rows: &[u16], row: usize, written: u32) -
     ensures { result ≡ low_to nodes.now lows.now rows.now row (bits written) 32 }
 {
     let mut x = lower(nodes, lows, entry_at(rows, row, 32), 4096);
-    let mut r: usize = 0;
-    while r < 32 {
+    for r in 0..32 {
         x = low_by(
             nodes,
             lows,
@@ -269,7 +229,6 @@ fn low_row(nodes: &[u16], lows: &Lows, rows: &[u16], row: usize, written: u32) -
             entry_at(rows, row, r),
             x,
         );
-        r += 1;
     }
     x
 }
@@ -278,11 +237,10 @@ fn low_row(nodes: &[u16], lows: &Lows, rows: &[u16], row: usize, written: u32) -
 fn higher(nodes: &[u16], n: u16, x: u32) -> u32
     ensures { result ≡ higher nodes.now n x }
 {
-    if word_at(nodes, 4 * wide(n)) == 0 {
+    if word_at(nodes, 4 * n as usize) == 0 {
         return x;
     }
-    let end = 81 + long(n);
-    if x < end { end } else { x }
+    x.max(81 + n as u32)
 }
 
 // The higher of a cell and the one after an entry's, if it counts.
@@ -298,10 +256,8 @@ fn high_row(nodes: &[u16], rows: &[u16], row: usize, written: u32) -> u32
     ensures { result ≡ high_to nodes.now rows.now row (bits written) 32 }
 {
     let mut x = higher(nodes, entry_at(rows, row, 32), 0);
-    let mut r: usize = 0;
-    while r < 32 {
+    for r in 0..32 {
         x = high_by(nodes, masks::has(written, r), entry_at(rows, row, r), x);
-        r += 1;
     }
     x
 }
@@ -324,7 +280,7 @@ pub fn fill_row(
     put_entries(nodes, rows, row, table);
     let lo = low_row(nodes, lows, rows, row, written);
     let hi = high_row(nodes, rows, row, written);
-    table[36 * row + 33] = 80 + long(lo);
+    table[36 * row + 33] = 80 + lo as u32;
     table[36 * row + 34] = hi;
     table[36 * row + 35] = written;
 }

@@ -23,7 +23,7 @@ use Rattle.clock_run.specs.Running.{marks_to, answer_on, turn_on, settled_on, cl
 use Rattle.clock_run.specs.declared.Rounds.{Rounds}
 use Rattle.clock_run.specs.Traces.{word_of, put_words, row_word, put_both, TurnTraced, turn_traced, high_on, trace_turn, traced}
 use Rattle.clock_run.specs.Traces.{taken_on, trace_from, trace_rows, trace_on}
-use Rattle.clock_run.specs.Rounds.{last_on, ended_at, row_at, row_fits, row_on, rounds_from, rounds_on, cycles_on}
+use Rattle.clock_run.specs.Rounds.{last_on, ended_at, row_at, row_fits, row_on, rounds_from, rounds_on}
 
 -- ---- upper_of
 

@@ -3,8 +3,7 @@
 // of any contents.
 #![tactic(auto)]
 
-ghost use Rattle.std.specs.Prelude.{◌≡◌, ◌+◌, ◌*◌, ◌/◌, ◌≤◌, ◌<◌, length, get_or};
-ghost use Rattle.values.specs.Planes.{value_at};
+ghost use Rattle.std.specs.Prelude.{◌≡◌, ◌+◌, ◌*◌, ◌/◌, ◌≤◌, ◌<◌, length};
 ghost use Rattle.plan.specs.Plan.{plan_of};
 ghost use Rattle.nextstate.specs.CycleRun.{refused};
 ghost use Rattle.clock_steps.specs.Taking.{stand};
@@ -18,33 +17,8 @@ use clock_steps::{RowNumbers, at_most, put_cell, rise, settle};
 use events::Inputs;
 use nextstate::{Clocked, Registers};
 use plan::{Cells, PlanTable};
-use values::Value;
-
-// A byte as a place.
-fn wide(b: u8) -> usize
-    ensures { result ≡ b }
-{
-    b as usize
-}
 
 // ---- 31 and 25
-
-// The number at a place of a plane, 0 past its end.
-fn plane_at(plane: &[u32], v: usize) -> u32
-    ensures { result ≡ get_or plane.now v 0 }
-{
-    if v < plane.len() { plane[v] } else { 0 }
-}
-
-// The value in slot `v` of two planes that are lent apart.
-fn item_at(value: &[u32], unknown: &[u32], v: usize) -> Value
-    ensures { result ≡ value_at value.now unknown.now v }
-{
-    Value {
-        number: plane_at(value, v),
-        unknown: plane_at(unknown, v),
-    }
-}
 
 // Do `n` values from a place on fit the widths of the variables from `from` on?
 fn values_fit(
@@ -59,24 +33,23 @@ fn values_fit(
     requires n_bound_2 { at + n ≤ 18446744073709551615 }
     ensures { result ≡ values_fit (plan_of plan.now) from value.now unknown.now at n }
 {
-    let mut v: usize = 0;
-    while v < n {
-        if !values::fits(plan::width(plan, from + v), item_at(value, unknown, at + v)) {
+    for v in 0..n {
+        if !values::fits(
+            plan::width(plan, from + v),
+            values::value_at(value, unknown, at + v),
+        ) {
             return false;
         }
-        v += 1;
     }
     true
 }
 
 // Is a number a place of thread `i`, and a wait?
+#[tactic(auto, unfolding(crate::specs::Running::waits_at))]
 fn waits_at(plan: &PlanTable, i: usize, p: u8) -> bool
     ensures { result ≡ waits_at (plan_of plan.now) i p }
 {
-    if plan::size(plan, i) <= wide(p) {
-        return false;
-    }
-    plan::waits(plan, i, p)
+    (p as usize) < plan::size(plan, i) && plan::waits(plan, i, p)
 }
 
 // Does each thread wait?
@@ -84,12 +57,10 @@ fn places_wait(plan: &PlanTable, places: &[u8; 8]) -> bool
     ensures { result ≡ places_wait (plan_of plan.now) places.now }
 {
     let n = at_most(8, plan::threads(plan));
-    let mut i: usize = 0;
-    while i < n {
+    for i in 0..n {
         if !waits_at(plan, i, places[i]) {
             return false;
         }
-        i += 1;
     }
     true
 }
@@ -112,24 +83,19 @@ fn registers_fit(plan: &PlanTable, before: Registers) -> bool
 {
     let first = plan::inputs(plan);
     let n = plan::registers(plan);
-    let value = before.value;
-    let unknown = before.unknown;
-    if !values_fit(plan, first, n, &value, &unknown, 0) {
-        return false;
-    }
-    places_wait(plan, &before.places)
+    values_fit(plan, first, n, &before.value, &before.unknown, 0)
+        && places_wait(plan, &before.places)
 }
 
 // 25: are the inputs as many as the plan's, and do they fit their widths?
 fn inputs_fit(plan: &PlanTable, given: Inputs) -> bool
     ensures { result ≡ inputs_fit_on (plan_of plan.now) given }
 {
-    if wide(given.count) + 1 != plan::inputs(plan) {
+    let count = given.count as usize;
+    if count + 1 != plan::inputs(plan) {
         return false;
     }
-    let value = given.value;
-    let unknown = given.unknown;
-    values_fit(plan, 1, upper(plan), &value, &unknown, 0)
+    values_fit(plan, 1, upper(plan), &given.value, &given.unknown, 0)
 }
 
 // ---- values into cells
@@ -144,11 +110,9 @@ fn put_values(first: usize, n: usize, value: &[u32], unknown: &[u32], at: usize,
     requires n_bound_2 { at + n ≤ 18446744073709551615 }
     ensures { cells.new ≡ put_values value.now unknown.now first at n cells.old }
 {
-    let mut v: usize = 0;
-    while v < n {
-        let a = values::store(item_at(value, unknown, at + v));
+    for v in 0..n {
+        let a = values::store(values::value_at(value, unknown, at + v));
         put_cell(cells, first + v, a);
-        v += 1;
     }
 }
 
@@ -158,9 +122,7 @@ fn hand(plan: &PlanTable, before: Registers, cells: &mut Cells)
 {
     let first = plan::inputs(plan);
     let n = at_most(32, plan::registers(plan));
-    let value = before.value;
-    let unknown = before.unknown;
-    put_values(first, n, &value, &unknown, 0, cells);
+    put_values(first, n, &before.value, &before.unknown, 0, cells);
     put_cell(cells, 0, 1);
 }
 
@@ -179,11 +141,9 @@ fn take_values(
     ensures value_after { value.new ≡ numbers_to cells.now first n value.old }
     ensures unknown_after { unknown.new ≡ marks_to cells.now first n unknown.old }
 {
-    let mut r: usize = 0;
-    while r < n {
+    for r in 0..n {
         value[r] = values::number_of(values::load(cells[first + r]));
         unknown[r] = values::marks_of(values::load(cells[first + r]));
-        r += 1;
     }
 }
 
@@ -211,21 +171,21 @@ fn answer(plan: &PlanTable, before: Registers, cells: &Cells, places: [u8; 8]) -
 }
 
 // A refusal hands back the registers and places that it got, and wires all x.
+#[tactic(auto, unfolding(nextstate::specs::CycleRun::refused, values::specs::Values::ones))]
 fn refused(number: u8, before: Registers) -> Clocked
     ensures { result ≡ refused number before }
 {
+    // variables: an array of a field has no proof straight in a literal
     let value = before.value;
     let unknown = before.unknown;
     let places = before.places;
-    let wire = [0u32; 32];
-    let unsure = [4294967295u32; 32];
     Clocked {
         number,
         value,
         unknown,
         places,
-        wire,
-        unsure,
+        wire: [0u32; 32],
+        unsure: [4294967295u32; 32],
     }
 }
 
@@ -252,10 +212,8 @@ pub fn cycle(
     }
     let mut cells = [BLANK; 4176];
     let mut places = before.places;
-    let value = given.value;
-    let unknown = given.unknown;
     hand(plan, before, &mut cells);
-    put_values(1, upper(plan), &value, &unknown, 0, &mut cells);
+    put_values(1, upper(plan), &given.value, &given.unknown, 0, &mut cells);
     settle(plan, &mut cells);
     rise(plan, lent, table, numbers, &mut cells, &mut places);
     settle(plan, &mut cells);
@@ -273,6 +231,7 @@ pub struct Rounds {
 }
 
 // Where the cycles end.
+#[tactic(auto, unfolding(crate::specs::Rounds::ended_at))]
 fn ended(cycles: usize, number: u8, last: Clocked) -> Rounds
     ensures { result ≡ ended_at cycles number last }
 {
@@ -336,8 +295,7 @@ fn run_rows(
     let mut cells = [BLANK; 4176];
     let mut places = before.places;
     hand(plan, before, &mut cells);
-    let mut r: usize = 0;
-    while r < rows {
+    for r in 0..rows {
         let at = 16 * r + 1;
         if !values_fit(plan, 1, n, value, unknown, at) {
             let last = last_of(plan, before, r, &mut cells, places);
@@ -345,10 +303,9 @@ fn run_rows(
         }
         put_values(1, n, value, unknown, at, &mut cells);
         turn(plan, lent, table, numbers, &mut cells, &mut places);
-        r += 1;
     }
-    let last = last_of(plan, before, r, &mut cells, places);
-    ended(r, 0, last)
+    let last = last_of(plan, before, rows, &mut cells, places);
+    ended(rows, 0, last)
 }
 
 // Many cycles by tables that are filled: whole rows of 16 inputs, each with its marks; a cycle for each row, from what the last one
@@ -377,13 +334,6 @@ pub fn cycles(
 
 // ---- traces: two rows of 88 words a cycle, the cells of 80 variables and the eight places
 
-// A byte as a long word.
-fn long(b: u8) -> u64
-    ensures { result ≡ b }
-{
-    b as u64
-}
-
 // Word `k` of a row: the clock as given, the variables below `end`, x past them, then the places.
 fn word_of(end: usize, clock: u64, cells: &Cells, places: &[u8; 8], k: usize) -> u64
     requires { k < 88 }
@@ -393,7 +343,7 @@ fn word_of(end: usize, clock: u64, cells: &Cells, places: &[u8; 8], k: usize) ->
         return clock;
     }
     if 80 <= k {
-        return long(places[k - 80]);
+        return places[k - 80] as u64;
     }
     if k < end {
         return values::store(values::load(cells[k]));
@@ -407,10 +357,8 @@ fn put_row(end: usize, clock: u64, cells: &Cells, places: &[u8; 8], at: usize, o
     ensures { out.new
         ≡ put_words (word_of end clock cells.now places.now) at 88 out.old }
 {
-    let mut k: usize = 0;
-    while k < 88 {
+    for k in 0..88 {
         out[at + k] = word_of(end, clock, cells, places, k);
-        k += 1;
     }
 }
 
@@ -475,8 +423,7 @@ fn trace_rows(
     let mut cells = [BLANK; 4176];
     let mut places = before.places;
     hand(plan, before, &mut cells);
-    let mut r: usize = 0;
-    while r < rows {
+    for r in 0..rows {
         let at = 16 * r + 1;
         if !values_fit(plan, 1, n, value, unknown, at) {
             let last = taken_of(plan, before, r, &cells, places);
@@ -493,10 +440,9 @@ fn trace_rows(
             176 * r,
             out,
         );
-        r += 1;
     }
-    let last = taken_of(plan, before, r, &cells, places);
-    ended(r, 0, last)
+    let last = taken_of(plan, before, rows, &cells, places);
+    ended(rows, 0, last)
 }
 
 // Many cycles as `cycles` runs them, and two rows of 88 words for each: row 2c once the wires have settled on cycle c's inputs, with the

@@ -1,13 +1,12 @@
 -- The claim of specs/Claims, shown. Assumes nothing.
-use mathlib.Core.Path.{◌≡◌, ap, ◌∙◌}
+use mathlib.Core.Path.{◌≡◌}
 use mathlib.Core.List.{List}
-use Prim.Native.Nat.{ℕ, ◌≤◌, ◌<◌}
+use Prim.Native.Nat.{ℕ, ◌≤◌}
 use native.Mathlib.Omega.{arith}
 use borrow.Author.Tests.{le-leb}
-use lib.ListN.{length, get_or}
+use lib.ListN.{length}
 use Rattle.sheet.specs.Expression.{Expr}
 use Rattle.sheet.specs.Module.{Module}
-use Rattle.events.specs.Cycle.{code_of, instr_at, is_wait}
 use Rattle.plan.specs.Plan as plan
 use Rattle.nextstate.specs.Book.{row_of}
 use Rattle.nextstate.specs.CycleRun.{tables_in}
@@ -17,7 +16,7 @@ use Rattle.clock_nodes.proofs.Ranges.{Copies}
 use Rattle.clock_nodes.specs.Reach.{Counted}
 use Rattle.clock_steps.specs.Claims.{Wired, Coded, Lent, Room, RiseIsTheBooks}
 use Rattle.clock_steps.specs.Numbers.{number_rows, fill_rows}
-use Rattle.clock_steps.proofs.Rows.{RowIs, row-filled}
+use Rattle.clock_steps.proofs.Rows.{row-filled}
 use Rattle.clock_steps.proofs.RowNumbers.{row_inside, row_small, row_from, rows_is, thread-waits, threads-is, number-row}
 use Rattle.clock_steps.proofs.Entries.{nodes-fit}
 use Rattle.clock_steps.proofs.Rising.{Filled, rise-same}

@@ -1,11 +1,12 @@
 -- What each turn of the numbering owes, on plain values. Assumes nothing.
 use mathlib.Core.Path.{◌≡◌, refl, ap, ◌∙◌}
-use mathlib.Core.Bool.{Bool}
+use mathlib.Core.Bool.{Bool, true, false}
 use mathlib.Core.List.{List}
 use Prim.Native.Nat.{ℕ, suc, ◌+◌, ◌-◌, ◌*◌, ◌%◌, ◌≤◌}
 use native.Mathlib.Numerals.{add-one}
 use native.Mathlib.Omega.{arith}
 use lib.ListN.{get_or, set}
+use Rattle.std.specs.Int.{from_bool}
 use Rattle.plan.specs.Plan.{Plan}
 use Rattle.nextstate.specs.Rules.{one}
 use Rattle.clock_nodes.specs.Rows.{fill_row}
@@ -13,17 +14,28 @@ use Rattle.clock_steps.specs.Taking.{at_most}
 use Rattle.clock_steps.specs.Numbers.{waits_to, waits_in, number_to, number_thread, rows_to, numbers_to, number_rows}
 use Rattle.clock_steps.specs.Numbers.{fill_from, fill_below, fill_rows}
 
+-- ---- 1 where a test holds
+
+pub from-one : (t : Bool) → from_bool t ≡ one t
+unfolding one
+from-one true = refl
+from-one false = refl
+
+pub from-small : (t : Bool) → from_bool t ≤ 1
+from-small true = omega arith
+from-small false = omega arith
+
 module _ (q : Plan) (i first : ℕ) where
   pub waits-none : first ≡ first + waits_to q i 0
   unfolding waits_to
   waits-none = omega arith
 
   pub waits-more :
-      (p : ℕ) {b : ℕ} {t : Bool} {k u : ℕ} → k ≡ first + waits_to q i p → b ≡ p → t ≡ q.waits i b → u ≡ one t →
+      (p : ℕ) {t : Bool} {k u : ℕ} → k ≡ first + waits_to q i p → t ≡ q.waits i p → u ≡ from_bool t →
       k + u ≡ first + waits_to q i (p + 1)
   unfolding waits_to
-  waits-more p e o w r =
-      let x = r ∙ ap one (w ∙ ap (q.waits i) o) in
+  waits-more p {t} e w r =
+      let x = r ∙ from-one t ∙ ap one w in
       rw (add-one p) (omega (arith, e, x))
 
   pub number-none : (ns : List ℕ) → ns ≡ number_to q i first 0 ns
@@ -31,10 +43,10 @@ module _ (q : Plan) (i first : ℕ) where
   number-none ns = refl
 
   pub number_more :
-      (p : ℕ) (ns : List ℕ) {ms : List ℕ} {k b : ℕ} → ms ≡ number_to q i first p ns → k ≡ first + waits_to q i p → b ≡ k % 256 →
-      set ms (256 * i + p) b ≡ number_to q i first (p + 1) ns
+      (p : ℕ) (ns : List ℕ) {ms : List ℕ} {k : ℕ} → ms ≡ number_to q i first p ns → k ≡ first + waits_to q i p →
+      set ms (256 * i + p) (k % 256) ≡ number_to q i first (p + 1) ns
   unfolding number_to
-  number_more p ns e w r = rw (add-one p, ← e, ← w, ← r)
+  number_more p ns e w = rw (add-one p, ← e, ← w)
 
   pub number-all : (n : ℕ) (ns : List ℕ) {ms : List ℕ} {s p : ℕ} → s ≡ q.size i → n ≡ at_most 256 s → p ≡ n → ms
       ≡ number_to q i first p ns →
@@ -80,13 +92,13 @@ module _ (ns ls rs : List ℕ) where
       rw e
 
   pub fill_more :
-      (mask first k : ℕ) (ts : List ℕ) {us vs : List ℕ} {row : ℕ} → first ≤ k → us ≡ fill_from ns ls rs mask first (k - first) ts →
-      row ≡ k → vs ≡ fill_row ns ls rs row mask us → vs ≡ fill_from ns ls rs mask first (k + 1 - first) ts
+      (mask first k : ℕ) (ts : List ℕ) {us vs : List ℕ} → first ≤ k → us ≡ fill_from ns ls rs mask first (k - first) ts →
+      vs ≡ fill_row ns ls rs k mask us → vs ≡ fill_from ns ls rs mask first (k + 1 - first) ts
   unfolding fill_from
-  fill_more mask first k ts h e r s =
+  fill_more mask first k ts h e s =
       let n : k + 1 - first ≡ suc (k - first) = omega arith in
       let o : first + (k - first) ≡ k = omega arith in
-      rw (n, o, ← e) (s ∙ rw r)
+      rw (n, o, ← e) s
 
   module _ (q : Plan) (written : List ℕ) where
     pub below_none : (ts : List ℕ) → ts ≡ fill_below ns ls rs q written 0 ts

@@ -18,7 +18,7 @@ use Rattle.sheet.specs.Expression.{Expr}
 use Rattle.sheet.specs.Module.{Module}
 use Rattle.masks.specs.Masks.{bits}
 use Rattle.events.specs.Cycle.{variables, code_of, instr_at, is_wait, any_below}
-use Rattle.events.proofs.Cycle.{absurd-bool, Below, at-end, before, below_suc, below_none}
+use Rattle.events.proofs.Cycle.{Below, at-end, before, below_suc, below_none}
 use Rattle.values.specs.Cells.{small, cell_of, value_of, cell_at}
 use Rattle.values.proofs.Cells.{value_cell, at_small, at_same}
 use Rattle.plan.specs.Plan.{Node, Plan}
@@ -30,13 +30,13 @@ use Rattle.nextstate.specs.Book as book
 use Rattle.nextstate.specs.Book.{Book, row_of, entry, worth, taken, next_place}
 use Rattle.nextstate.specs.CycleRun.{tables_in}
 use Rattle.clock_nodes.specs.Copying.{cell_in, lows_to}
-use Rattle.clock_nodes.specs.Rows.{row_place, entry_at, low_to, high_to}
+use Rattle.clock_nodes.specs.Rows.{entry_at, low_to, high_to}
 use Rattle.clock_nodes.proofs.Ranges.{Copies, Done, range-done, book-worth, row_low, row-low-place, row-high, row-high-place, row-most}
 use Rattle.clock_nodes.specs.Reach.{Counted}
 use Rattle.clock_steps.specs.Claims.{Wired, Coded, Lent, Stands, Waiting, Risen}
 use Rattle.clock_steps.specs.Taking.{row_in, entry_cell, work_row, take_registers, Taking, taking, place_of, take_row, take_thread}
 use Rattle.clock_steps.specs.Taking.{take_below}
-use Rattle.clock_steps.specs.Taking.{load_to, store_to, Stand, stand, at_most, rise}
+use Rattle.clock_steps.specs.Taking.{load_to, store_to, Stand, stand, rise}
 use Rattle.clock_steps.proofs.Turns.{risen}
 use Rattle.clock_steps.proofs.Rows.{RowIs}
 use Rattle.clock_steps.proofs.RowNumbers.{most-same, threads-is}

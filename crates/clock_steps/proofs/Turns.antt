@@ -1,10 +1,16 @@
 -- What each branch and each turn of a loop owes, on plain values. Assumes nothing.
 use mathlib.Core.Path.{◌≡◌, refl, sym, ap, ◌∙◌}
 use mathlib.Core.List.{List}
-use Prim.Native.Nat.{ℕ, ◌+◌, ◌<◌, ◌≤◌}
+use Prim.Native.Nat.{ℕ, ◌+◌, ◌<◌}
+use native.Mathlib.Decide.{dec_lt}
 use native.Mathlib.Numerals.{add-one}
+use native.Mathlib.Omega.{arith}
 use borrow.Author.Tests.{lt-ltb, le-ltb}
+use lib.Dec.{ltb}
 use lib.ListN.{get_or, set, replicate}
+use Rattle.std.specs.Prelude.{min}
+use Rattle.std.proofs.Math.Nat.{min-eq_left, min-eq_right}
+use Rattle.values.specs.Values.{pick}
 use Rattle.plan.specs.Sections.{slot_of}
 use Rattle.plan.specs.Plan.{Node, Plan}
 use Rattle.clock_steps.specs.Settling.{put_cell, settle_wire, settle_to, settle}
@@ -76,13 +82,13 @@ store-more news first r cs p e = rw (add-one r, ← p) e
 
 -- ---- at_most
 
-pub most-less : (most n : ℕ) → n < most → n ≡ at_most most n
+pub most-min : (most n : ℕ) → min n most ≡ at_most most n
 unfolding at_most
-most-less most n h = rw (lt-ltb n most h)
-
-pub most-more : (most n : ℕ) → most ≤ n → most ≡ at_most most n
-unfolding at_most
-most-more most n h = rw (le-ltb n most h)
+most-min most n = by (dec_lt n most)
+  where
+    by : Dec (n < most) → min n most ≡ pick (ltb n most) n most
+    by (yes l) = rw (lt-ltb n most l) (min-eq_left (omega arith))
+    by (no l) = rw (le-ltb n most (omega arith)) (min-eq_right (omega arith))
 
 -- ---- rise
 

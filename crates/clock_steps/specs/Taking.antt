@@ -1,6 +1,6 @@
 -- The rise of the clock on a plane of cells: "each thread's written registers and its place take the values of the nodes in its place's
 -- row, all worked out on the values before". Defined for tables, cells and places of any contents.
-use Rattle.std.specs.Prelude.{Bool, false, List, ℕ, zero, suc, ◌+◌, ◌*◌, ◌%◌, ltb, get_or, set, replicate}
+use Rattle.std.specs.Prelude.{false, List, ℕ, zero, suc, ◌+◌, ◌*◌, ◌%◌, ltb, get_or, set, replicate}
 use Rattle.values.specs.Values.{pick}
 use Rattle.values.specs.Planes.{number_of}
 use Rattle.masks.specs.Masks.{bits}

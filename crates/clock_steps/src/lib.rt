@@ -7,7 +7,6 @@ ghost use Rattle.values.specs.Planes.{number_of};
 ghost use Rattle.values.specs.Cells.{value_of};
 ghost use Rattle.plan.specs.Sections.{slot_of};
 ghost use Rattle.plan.specs.Plan.{plan_of};
-ghost use Rattle.nextstate.specs.Rules.{one};
 ghost use Rattle.clock_steps.specs.Numbers.{waits_in, number_thread, number_rows, fill_from, fill_rows};
 ghost use Rattle.clock_steps.specs.Settling.{put_cell, settle_wire, settle};
 ghost use Rattle.clock_steps.specs.Taking.{row_in, work_row, take_register, take_registers, taking, take_thread, take_below, load_to};
@@ -18,20 +17,6 @@ use plan::{Cells, PlanTable};
 
 // For each thread and place the row of its wait: 256 places to a thread.
 pub type RowNumbers = [u8; 2048];
-
-// A byte as a place.
-fn wide(b: u8) -> usize
-    ensures { result ≡ b }
-{
-    b as usize
-}
-
-// A word as a place.
-fn place(w: u32) -> usize
-    ensures { result ≡ w }
-{
-    w as usize
-}
 
 // ---- wires
 
@@ -47,10 +32,9 @@ fn slot(n: usize) -> usize
 pub fn put_cell(cells: &mut Cells, v: usize, c: u64)
     ensures { cells.new ≡ put_cell v c cells.old }
 {
-    if 80 <= v {
-        return;
+    if v < 80 {
+        cells[v] = c;
     }
-    cells[v] = c;
 }
 
 // Works out a wire's expression, whose value goes into the wire's cell.
@@ -72,10 +56,8 @@ pub fn settle(plan: &PlanTable, cells: &mut Cells)
     ensures { cells.new ≡ settle (plan_of plan.now) cells.old }
 {
     let wires = plan::wires(plan);
-    let mut k: usize = 0;
-    while k < wires {
+    for k in 0..wires {
         settle_wire(plan, k, cells);
-        k += 1;
     }
 }
 
@@ -87,7 +69,7 @@ fn row_in(numbers: &RowNumbers, i: usize, p: u8) -> usize
     ensures value { result ≡ row_in numbers.now i p }
     ensures upper_bound { result < 32 }
 {
-    wide(numbers[256 * i + wide(p)]) % 32
+    numbers[256 * i + p as usize] as usize % 32
 }
 
 // Works out the nodes of a row.
@@ -95,8 +77,8 @@ fn work_row(lent: &PlanTable, table: &RowTable, row: usize, cells: &mut Cells)
     requires { row < 32 }
     ensures { cells.new ≡ work_row (plan_of lent.now).node table.now row cells.old }
 {
-    let lo = place(table[36 * row + 33]);
-    let hi = place(table[36 * row + 34]);
+    let lo = table[36 * row + 33] as usize;
+    let hi = table[36 * row + 34] as usize;
     plan_nodes::work(lent, lo, hi, cells);
 }
 
@@ -117,10 +99,8 @@ fn take_registers(table: &RowTable, row: usize, count: usize, cells: &Cells, new
     requires count_bound { count ≤ 32 }
     ensures { news.new ≡ take_registers table.now row cells.now count news.old }
 {
-    let mut r: usize = 0;
-    while r < count {
+    for r in 0..count {
         take_register(table, row, r, cells, news);
-        r += 1;
     }
 }
 
@@ -128,8 +108,7 @@ fn take_registers(table: &RowTable, row: usize, count: usize, cells: &Cells, new
 fn place_of(c: u64) -> u8
     ensures { result ≡ number_of (value_of c) % 256 }
 {
-    let p = values::number_of(values::load(c)) % 256;
-    p as u8
+    (values::number_of(values::load(c)) % 256) as u8
 }
 
 // Works out the row of thread `i`'s wait, and takes its registers and its place.
@@ -172,10 +151,8 @@ fn take(
         ≡ take_below (plan_of lent.now).node table.now numbers.now count threads
         (taking cells.old news.old places.old) }
 {
-    let mut i: usize = 0;
-    while i < threads {
+    for i in 0..threads {
         take_thread(lent, table, numbers, count, cells, news, places, i);
-        i += 1;
     }
 }
 
@@ -186,7 +163,7 @@ pub fn at_most(most: usize, n: usize) -> usize
     ensures value { result ≡ at_most most n }
     ensures upper_bound { result ≤ most }
 {
-    if n < most { n } else { most }
+    n.min(most)
 }
 
 // Copies the cells of the first `count` registers.
@@ -195,10 +172,8 @@ fn load(first: usize, count: usize, cells: &Cells, news: &mut [u64; 32])
     requires count_bound { count ≤ 32 }
     ensures { news.new ≡ load_to cells.now first count news.old }
 {
-    let mut r: usize = 0;
-    while r < count {
+    for r in 0..count {
         news[r] = cells[slot(first + r)];
-        r += 1;
     }
 }
 
@@ -208,10 +183,8 @@ fn store(first: usize, count: usize, news: &[u64; 32], cells: &mut Cells)
     requires count_bound { count ≤ 32 }
     ensures { cells.new ≡ store_to news.now first count cells.old }
 {
-    let mut r: usize = 0;
-    while r < count {
+    for r in 0..count {
         put_cell(cells, first + r, news[r]);
-        r += 1;
     }
 }
 
@@ -241,30 +214,6 @@ pub fn rise(
 
 // ---- the rows' numbers
 
-// A place below 256 as a byte.
-fn byte(p: usize) -> u8
-    requires { p < 256 }
-    ensures { result ≡ p }
-{
-    p as u8
-}
-
-// The low byte of a number.
-fn low(k: u16) -> u8
-    ensures { result ≡ k % 256 }
-{
-    let b = k % 256;
-    b as u8
-}
-
-// 1 where a test holds, else 0.
-fn one(t: bool) -> u16
-    ensures value { result ≡ one t }
-    ensures upper_bound { result ≤ 1 }
-{
-    if t { 1 } else { 0 }
-}
-
 // Numbers the places of thread `i`, whose first wait has the row `first`. Gives the row after its last.
 fn number_thread(plan: &PlanTable, i: usize, first: u16, numbers: &mut RowNumbers) -> u16
     requires i_bound { i < 8 }
@@ -275,20 +224,11 @@ fn number_thread(plan: &PlanTable, i: usize, first: u16, numbers: &mut RowNumber
 {
     let n = at_most(256, plan::size(plan, i));
     let mut k = first;
-    let mut p: usize = 0;
-    while p < n {
-        numbers[256 * i + p] = low(k);
-        k += one(plan::waits(plan, i, byte(p)));
-        p += 1;
+    for p in 0..n {
+        numbers[256 * i + p] = (k % 256) as u8;
+        k += u16::from(plan::waits(plan, i, p as u8));
     }
     k
-}
-
-// A row's number as a place.
-fn row_of(k: u16) -> usize
-    ensures { result ≡ k }
-{
-    k as usize
 }
 
 // Fills the rows from `first` to `end`, of a thread that writes these registers.
@@ -305,10 +245,8 @@ fn fill_thread(
     ensures { table.new
         ≡ fill_from nodes.now lows.now rows.now written first (end - first) table.old }
 {
-    let mut k = first;
-    while k < end {
-        clock_nodes::fill_row(nodes, lows, rows, row_of(k), written, table);
-        k += 1;
+    for k in first..end {
+        clock_nodes::fill_row(nodes, lows, rows, k as usize, written, table);
     }
 }
 
@@ -329,11 +267,9 @@ pub fn fill_rows(
 {
     let threads = at_most(8, plan::threads(plan));
     let mut k: u16 = 0;
-    let mut i: usize = 0;
-    while i < threads {
+    for i in 0..threads {
         let next = number_thread(plan, i, k, numbers);
         fill_thread(nodes, lows, rows, k, next, written[i], table);
         k = next;
-        i += 1;
     }
 }

@@ -7,7 +7,7 @@ use native.Mathlib.Nat.{zero-add}
 use mathlib.Core.Path.{◌≡◌, refl, sym, ap, ◌∙◌, subst}
 use mathlib.Core.Bool.{Bool, true, false, ◌||◌, ◌&&◌}
 use mathlib.Core.List.{List, [], ◌∷◌}
-use lib.ListN.{length, get_or}
+use lib.ListN.{length}
 use lib.Dec.{ltb, eqb}
 use borrow.Author.Tests.{eq-eqb, ne_eqb, lt-ltb, le-ltb}
 use Rattle.values.specs.declared.Value.{Value}
@@ -18,16 +18,14 @@ use Rattle.sheet.specs.Module.{Module, read}
 use Rattle.evaluation.specs.Evaluation.{reads}
 use Rattle.state.specs.declared.State.{State}
 use Rattle.state.specs.State.{Shaped, Bounded, users, count_of, allowance_of, value_of}
-use Rattle.soundness.specs.Soundness.{Sound}
 use Rattle.soundness.proofs.Soundness.{sound}
 use Rattle.events.specs.declared.Rested.{Rested}
 use Rattle.events.specs.Cycle.{variables, wire_expr, any_below, items, any_enabled, quiet, changed, touched}
 use Rattle.events.specs.Calls.{state_fits, refusal, choose_in, run_by, choices_by, plain_choice}
-use Rattle.events.proofs.Cycle.{absurd-bool}
 use Rattle.events.proofs.Choices.{state-refused, shaped-choose_in, number-choose_in, choose_in-accepted, count-performed, allowance-performed}
 use Rattle.events.proofs.Fits.{Fits, fits-state, fits-choose_in}
 use Rattle.events.proofs.Runs.{plain-lowest, plain-commit}
-use Rattle.nextstate.specs.Rules.{one, wire_reads}
+use Rattle.nextstate.specs.Rules.{wire_reads}
 use Rattle.nextstate.proofs.Ruled.{wire-within}
 use Rattle.settling.proofs.Plain.{plain-sheet}
 use Rattle.work.specs.Work.{up_to_commit, wires_of, reader_count}

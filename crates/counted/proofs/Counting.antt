@@ -4,18 +4,18 @@ use native.Mathlib.Omega.{arith}
 use native.Mathlib.Numerals.{add-one}
 use native.Mathlib.Nat.{zero-add, add-zero}
 use mathlib.Core.Path.{◌≡◌, refl, sym, ap, ◌∙◌}
-use mathlib.Core.Bool.{Bool, true, false, not, ◌||◌, ◌&&◌}
+use mathlib.Core.Bool.{Bool, true, false, not}
 use lib.ListN.{get_or}
-use lib.Dec.{ltb, eqb}
 use borrow.Author.Tests.{eq-eqb, ne_eqb, lt-ltb, le-ltb}
 use Rattle.values.specs.declared.Value.{Value}
-use Rattle.values.specs.Values.{pick, same}
+use Rattle.values.specs.Values.{same}
 use Rattle.values.specs.Planes.{value_at}
 use Rattle.masks.specs.Masks.{bits}
 use Rattle.state.specs.declared.Counters.{Counters}
 use Rattle.state.specs.declared.State.{State}
 use Rattle.state.specs.State.{users, value_of}
 use Rattle.events.specs.Cycle.{changed}
+use Rattle.std.specs.Int.{from_bool}
 use Rattle.nextstate.specs.Rules.{one}
 use Rattle.plan.specs.Plan.{Plan}
 use Rattle.plan_engine.specs.Live.{Live}
@@ -140,10 +140,19 @@ pub readers-first : (q : Plan) (a b : State) → 0 ≡ readers_at q a b 0
 unfolding readers_at
 readers-first q a b = refl
 
-pub readers-next : (q : Plan) (a b : State) (k n s : ℕ) {t : Bool} → n ≡ readers_at q a b k → t ≡ reads_changed q a b k 80 → s ≡ one t
+from-one : (t : Bool) → from_bool t ≡ one t
+unfolding one
+from-one true = refl
+from-one false = refl
+
+pub from-small : (t : Bool) → from_bool t ≤ 1
+from-small true = omega arith
+from-small false = omega arith
+
+pub readers-next : (q : Plan) (a b : State) (k n s : ℕ) {t : Bool} → n ≡ readers_at q a b k → t ≡ reads_changed q a b k 80 → s ≡ from_bool t
     → n + s ≡ readers_at q a b (k + 1)
 unfolding readers_at
-readers-next q a b k n s e f g = rw (add-one k, ← e, ← f) (ap (λ (x : ℕ). n + x) g)
+readers-next q a b k n s {t} e f g = rw (add-one k, ← e, ← f) (ap (λ (x : ℕ). n + x) (g ∙ from-one t))
 
 -- ---- each way through the code of `work`
 

@@ -6,7 +6,6 @@ ghost use Rattle.std.specs.Prelude.{◌≡◌, ◌≤◌};
 ghost use Rattle.plan.specs.Plan.{plan_of};
 ghost use Rattle.plan_engine.specs.Live.{live};
 ghost use Rattle.events.specs.Cycle.{changed};
-ghost use Rattle.nextstate.specs.Rules.{one};
 ghost use Rattle.state.specs.State.{value_of};
 ghost use Rattle.counted.specs.Counted.{stores_at, stretch, up_to, work_at, reads_at, reads_changed, readers_at};
 
@@ -64,8 +63,7 @@ fn run_up(
     let mut m = marks;
     let mut left = room;
     let mut stores: u16 = 0;
-    let mut i: u16 = 0;
-    while i < limit {
+    for i in 0u16..limit {
         let c = plan_engine::plain_choice(plan, m);
         if COMMIT <= c {
             return Stretched {
@@ -87,10 +85,9 @@ fn run_up(
         }
         stores += stored(plan, c);
         left -= 1;
-        i += 1;
     }
     Stretched {
-        accepted: i,
+        accepted: limit,
         stores,
         number: 0,
         marks: m,
@@ -123,8 +120,7 @@ pub fn work(plan: &PlanTable, st: State, user: u8, limit: u16) -> Worked
     let marks = plan_state::unpack(plan, st, &mut cells);
     let mut pending = plan_state::slots_of(&st.pending, &st.unsure);
     let mut places = st.places;
-    let old = st.counters;
-    let room = prepared::room_in(old, user);
+    let room = prepared::room_in(st.counters, user);
     let t = run_up(
         plan,
         &mut cells,
@@ -134,9 +130,8 @@ pub fn work(plan: &PlanTable, st: State, user: u8, limit: u16) -> Worked
         limit,
         room,
     );
-    let left = t.marks;
-    let counters = prepared::raised(t.accepted as u64, user, old);
-    let state = plan_state::pack(&cells, &pending, places, left, counters);
+    let counters = prepared::raised(t.accepted as u64, user, st.counters);
+    let state = plan_state::pack(&cells, &pending, places, t.marks, counters);
     Worked {
         accepted: t.accepted,
         stores: t.stores,
@@ -160,33 +155,19 @@ fn differs(a: State, b: State, v: usize) -> bool
 fn reads_it(plan: &PlanTable, k: usize, a: State, b: State, v: usize) -> bool
     ensures { result ≡ reads_at (plan_of plan.now) a b k v }
 {
-    let readers = plan::readers(plan, v);
-    if !masks::has(readers, k) {
-        return false;
-    }
-    differs(a, b, v)
+    masks::has(plan::readers(plan, v), k) && differs(a, b, v)
 }
 
 // Does wire `k` read a variable that has changed?
 fn reads_changed(plan: &PlanTable, k: usize, a: State, b: State) -> bool
     ensures { result ≡ reads_changed (plan_of plan.now) a b k 80 }
 {
-    let mut v: usize = 0;
-    while v < VARIABLES {
+    for v in 0..VARIABLES {
         if reads_it(plan, k, a, b, v) {
             return true;
         }
-        v += 1;
     }
     false
-}
-
-// 1 for true.
-fn one(b: bool) -> usize
-    ensures value { result ≡ one b }
-    ensures upper_bound { result ≤ 1 }
-{
-    if b { 1 } else { 0 }
 }
 
 // How many wires read a variable whose value differs?
@@ -195,11 +176,9 @@ pub fn readers(plan: &PlanTable, a: State, b: State) -> usize
 {
     let wires = plan::wires(plan);
     let mut count: usize = 0;
-    let mut k: usize = 0;
-    while k < wires {
+    for k in 0..wires {
         let reads = reads_changed(plan, k, a, b);
-        count += one(reads);
-        k += 1;
+        count += usize::from(reads);
     }
     count
 }

@@ -3,12 +3,10 @@ use mathlib.Core.Path.{◌≡◌, refl, sym, ap, ◌∙◌}
 use mathlib.Core.Bool.{Bool, true, false}
 use mathlib.Core.List.{List, []}
 use Prim.Native.Nat.{ℕ, zero, suc, ◌+◌, ◌^◌, ◌≤◌, ◌<◌}
-use native.Mathlib.Decide.{dec_lt}
 use native.Mathlib.Omega.{arith}
 use borrow.Author.Tests.{eq-eqb, ne_eqb}
 use lib.ListN.{length, get_or, replicate, length-replicate}
 use lib.Seq.{ext_get_or}
-use Rattle.values.specs.Values.{pick}
 use Rattle.sheet.specs.Reading.{Res, ok, no}
 use Rattle.sheet.specs.Expression.{Expr, located}
 use Rattle.sheet.specs.Module.{Module, read_sheet}
@@ -32,7 +30,7 @@ use Rattle.extraction.specs.Extracting.{number_in}
 use Rattle.clock_nodes.specs.Reach.{reach}
 use Rattle.clock_nodes.specs.Copying.{copy_all, low_all}
 use Rattle.clock_steps.specs.Taking.{at_most}
-use Rattle.clock_steps.specs.Numbers.{fill_from, fill_below, fill_rows, number_rows, rows_to, waits_in}
+use Rattle.clock_steps.specs.Numbers.{fill_below, fill_rows, number_rows}
 use Rattle.clock_steps.proofs.RowNumbers.{most-same}
 use Rattle.clock_check.specs.Judging.{tables_fit_on, width_table}
 use Rattle.clock_check.specs.Claims.{Writers, JudgedIsFit, WidthsAreTheNodes}

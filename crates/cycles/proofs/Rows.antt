@@ -17,12 +17,10 @@ use Rattle.events.specs.declared.Inputs.{Inputs}
 use Rattle.events.specs.Calls.{input_of}
 use Rattle.nextstate.specs.declared.Registers.{Registers}
 use Rattle.nextstate.specs.declared.Clocked.{Clocked}
-use Rattle.clock_run.specs.declared.Rounds.{Rounds}
 use Rattle.clock_run.specs.Rounds as rounds
 use Rattle.clock_run.specs.Rounds.{ended_at, row_at, repeat_from}
 use Rattle.clock_claims.specs.Claims.{RowInputs}
 use Rattle.clock_claims.proofs.Lists.{planes-same}
-use Rattle.cycles.specs.declared.Cycled.{Cycled}
 use Rattle.cycles.specs.Many.{items_from, inputs_from, row_inputs, registers_of, ended, cycles_from}
 use Rattle.cycles.specs.Claims.{cycled_of}
 

@@ -7,7 +7,7 @@ use Rattle.sheet.specs.Expression.{Expr}
 use Rattle.sheet.specs.Module.{Module}
 use Rattle.events.specs.declared.Inputs.{Inputs}
 use Rattle.events.specs.Rows.{whole_rows}
-use Rattle.plan.specs.Plan.{Plan, Node, plan_of, node_at}
+use Rattle.plan.specs.Plan.{plan_of, node_at}
 use Rattle.nextstate.specs.declared.Registers.{Registers}
 use Rattle.nextstate.specs.declared.Clocked.{Clocked}
 use Rattle.nextstate.specs.CycleRun.{registers_fit, refused, extractable, cycle_run}

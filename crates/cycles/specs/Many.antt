@@ -11,7 +11,7 @@ use Rattle.events.specs.Rows.{whole_rows}
 use Rattle.nextstate.specs.declared.Registers.{Registers}
 use Rattle.nextstate.specs.declared.Clocked.{Clocked}
 use Rattle.nextstate.specs.Extraction.{Tables, right_lengths}
-use Rattle.nextstate.specs.CycleRun.{tables_fit, tables_in, registers_fit, refused, clocked_in, extractable, cycle_run}
+use Rattle.nextstate.specs.CycleRun.{tables_fit, tables_in, registers_fit, refused, extractable, cycle_run}
 use Rattle.cycles.specs.declared.Cycled.{Cycled}
 
 -- ---- rows of 16: item 0, the clock's, isn't looked at, item v + 1 is input item v of the cycle run

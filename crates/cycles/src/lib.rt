@@ -39,10 +39,8 @@ fn joined(plain: &[u32; 8], later: &[u32; 8]) -> [u32; 8]
         ≡ (get_or (bits (get_or plain.now i 0)) r false || get_or (bits (get_or later.now i 0)) r false) }
 {
     let mut out = [0u32; 8];
-    let mut i: usize = 0;
-    while i < 8 {
+    for i in 0..8 {
         out[i] = masks::union(plain[i], later[i]);
-        i += 1;
     }
     out
 }
@@ -139,21 +137,21 @@ pub fn prepare(
 // ---- the calls
 
 // A refusal hands back the registers and places that it got, and wires all x.
+#[tactic(auto, unfolding(nextstate::specs::CycleRun::refused, values::specs::Values::ones))]
 fn refused(number: u8, before: Registers) -> Clocked
     ensures { result ≡ refused number before }
 {
+    // variables: an array of a field has no proof straight in a literal
     let value = before.value;
     let unknown = before.unknown;
     let places = before.places;
-    let wire = [0u32; 32];
-    let unsure = [4294967295u32; 32];
     Clocked {
         number,
         value,
         unknown,
         places,
-        wire,
-        unsure,
+        wire: [0u32; 32],
+        unsure: [4294967295u32; 32],
     }
 }
 
@@ -187,9 +185,11 @@ pub fn cycle(
 }
 
 // Where the cycles end: how many, the number that refused the next, and what the last one gave.
+#[tactic(auto, unfolding(crate::specs::Many::ended))]
 fn ended(cycles: usize, number: u8, last: Clocked) -> Cycled
     ensures { result ≡ ended cycles number last }
 {
+    // variables: an array of a field has no proof straight in a literal
     let value = last.value;
     let unknown = last.unknown;
     let places = last.places;
@@ -210,8 +210,7 @@ fn ended(cycles: usize, number: u8, last: Clocked) -> Cycled
 fn cycled_of(r: Rounds) -> Cycled
     ensures { result ≡ cycled_of r }
 {
-    let last = r.last;
-    ended(r.cycles, r.number, last)
+    ended(r.cycles, r.number, r.last)
 }
 
 // Many cycles: whole rows of 16 inputs, the clock's in front, each with its marks; a cycle for each row, from what the last one left,

@@ -13,7 +13,7 @@ use Rattle.values.proofs.Values.{below_wider}
 use Rattle.state.specs.declared.State.{State}
 use Rattle.state.specs.State.{Bounded}
 use Rattle.state.proofs.Rows.{list_of-below}
-use Rattle.events.specs.Calls.{started, start}
+use Rattle.events.specs.Calls.{started}
 use Rattle.events.proofs.Fits.{shaped-started}
 use Rattle.plan.specs.Plan.{plan_of}
 use Rattle.prepared.specs.Prepared.{prepared_plan, start_at}
@@ -22,7 +22,7 @@ use Rattle.prepared.proofs.Claims as preparing
 use Rattle.prepared_cycles.specs.declared.Driven.{Driven}
 use Rattle.prepared_cycles.specs.Claims as cycling
 use Rattle.prepared_cycles.proofs.Claims as cycles
-use Rattle.prepared_cycles.specs.Drives.{settled, drive_cycles, driven_cycles}
+use Rattle.prepared_cycles.specs.Drives.{settled}
 use Rattle.driving.specs.Plans.{seed_of, is_drawn, rest_of, traced, resumed_at, begun_at, traced_at, rows_at}
 use Rattle.driving.specs.Plans.{resumed_on, begun_on, traced_on, rows_on}
 use Rattle.driving.specs.Claims.{OnTheSheet}

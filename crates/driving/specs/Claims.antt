@@ -2,7 +2,7 @@
 -- run to rest, and each row of a trace has the state that the single calls of document 01 leave on that sheet, one after the other: an
 -- instant, then the plain run, or the choices that the same seeds draw (`prepared_cycles`, specs/Drives, `on_sheet`). proofs/Claims shows
 -- it.
-use Rattle.std.specs.Prelude.{◌≡◌, Bool, List, ℕ, ◌^◌, ◌<◌, length, get_or}
+use Rattle.std.specs.Prelude.{◌≡◌, List, ℕ, ◌^◌, ◌<◌, length, get_or}
 use Rattle.sheet.specs.Reading.{ok}
 use Rattle.sheet.specs.Expression.{Expr}
 use Rattle.sheet.specs.Module.{Module, read}

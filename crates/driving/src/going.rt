@@ -6,17 +6,14 @@ use crate::{Line, Rest, Unextracted, is_counted, is_expressed};
 use options::Way;
 
 // A run behind a cycle by the expressions, which gave this number, 0 where it was accepted.
+#[tactic(auto, unfolding(crate::specs::Going::after_expressions))]
 pub fn after_expressions(r: Rest, number: u8) -> Rest
     ensures { result ≡ after_expressions r number }
 {
-    let way = r.way;
-    let state = r.state;
     Rest {
-        way,
         number,
         rested: number == 0,
-        state,
-        seed: r.seed,
+        ..r
     }
 }
 
@@ -37,17 +34,16 @@ pub fn line_of(error: u8, over: bool) -> Line
 }
 
 // What becomes of a run whose module extraction refuses, and that is to say nothing of it or not.
+#[tactic(auto, unfolding(crate::specs::Going::unextracted))]
 pub fn run_unextracted(way: Way, silent: bool) -> Unextracted
     ensures { result ≡ unextracted way silent }
 {
-    if is_expressed(way) {
-        return Unextracted::Held;
-    }
-    if is_counted(way) {
+    if is_expressed(way) || is_counted(way) {
         return Unextracted::Held;
     }
     if silent {
-        return Unextracted::Silent;
+        Unextracted::Silent
+    } else {
+        Unextracted::Warned
     }
-    Unextracted::Warned
 }

@@ -20,7 +20,7 @@ use state::State;
 pub use states::{registers_of, row_of, unsettled};
 
 // How many choices a run to rest may take, of a plain run and of one whose choices are drawn.
-const PLAIN_MOST: u16 = 65535;
+const PLAIN_MOST: usize = 65535;
 
 const DRAWN_MOST: usize = 4000000;
 
@@ -72,27 +72,22 @@ pub enum Unextracted {
 }
 
 // The seed that choices are drawn by.
+#[tactic(auto, unfolding(crate::specs::Plans::seed_of))]
 fn seed_of(way: Way) -> u64
     ensures { result ≡ seed_of way }
 {
     match way {
-        Way::Plain => 0,
         Way::Drawn(seed) => seed as u64,
-        Way::Expressed => 0,
-        Way::Counted => 0,
+        Way::Plain | Way::Expressed | Way::Counted => 0,
     }
 }
 
 // Are the choices drawn?
+#[tactic(auto, unfolding(crate::specs::Plans::is_drawn))]
 fn is_drawn(way: Way) -> bool
     ensures { result ≡ is_drawn way }
 {
-    match way {
-        Way::Plain => false,
-        Way::Drawn(_) => true,
-        Way::Expressed => false,
-        Way::Counted => false,
-    }
+    matches!(way, Way::Drawn(_))
 }
 
 // The number that stopped driven cycles: where a run is not at rest and its user's allowance is used up, 47.
@@ -105,9 +100,7 @@ fn stopped_by(user: u8, d: Driven) -> u8
     if d.rested {
         return 0;
     }
-    let state = d.state;
-    let counters = state.counters;
-    if prepared::room_in(counters, user) == 0 {
+    if prepared::room_in(d.state.counters, user) == 0 {
         return USED_UP;
     }
     0
@@ -118,12 +111,11 @@ fn rest_of(user: u8, way: Way, d: Driven) -> Rest
     ensures { result ≡ rest_of user way d }
 {
     let number = stopped_by(user, d);
-    let state = d.state;
     Rest {
         way,
         number,
         rested: d.rested,
-        state,
+        state: d.state,
         seed: d.seed,
     }
 }
@@ -161,10 +153,17 @@ pub fn trace(
     if value.len() < 16 {
         return Traced { phases: 0, rest: r };
     }
-    let way = r.way;
-    let st = r.state;
-    let d = prepared_cycles::drive(plan, st, user, is_drawn(way), r.seed, value, unknown, out);
-    let rest = rest_of(user, way, d);
+    let d = prepared_cycles::drive(
+        plan,
+        r.state,
+        user,
+        is_drawn(r.way),
+        r.seed,
+        value,
+        unknown,
+        out,
+    );
+    let rest = rest_of(user, r.way, d);
     Traced {
         phases: d.phases,
         rest,
@@ -174,14 +173,13 @@ pub fn trace(
 // ---- what is said of it
 
 // How many choices a run may take.
+#[tactic(auto, unfolding(crate::specs::Endings::most_of))]
 fn most_of(way: Way) -> usize
     ensures { result ≡ most_of way }
 {
     match way {
-        Way::Plain => PLAIN_MOST as usize,
         Way::Drawn(_) => DRAWN_MOST,
-        Way::Expressed => PLAIN_MOST as usize,
-        Way::Counted => PLAIN_MOST as usize,
+        Way::Plain | Way::Expressed | Way::Counted => PLAIN_MOST,
     }
 }
 
@@ -195,43 +193,34 @@ pub fn ending_of(r: Rest) -> Ending
     if r.rested {
         return Ending::Rested;
     }
-    let way = r.way;
-    Ending::Restless(most_of(way))
+    Ending::Restless(most_of(r.way))
 }
 
 // How a command ends whose run ends so.
+#[tactic(auto, unfolding(crate::specs::Endings::outcome_of))]
 pub fn outcome_of(e: Ending) -> Outcome
     ensures { result ≡ outcome_of e }
 {
     match e {
         Ending::Rested => Outcome::Done,
-        Ending::Refused(_) => Outcome::Refused,
-        Ending::Restless(_) => Outcome::Refused,
+        Ending::Refused(_) | Ending::Restless(_) => Outcome::Refused,
     }
 }
 
 // Is it by the extracted expressions?
+#[tactic(auto, unfolding(crate::specs::Endings::is_expressed))]
 pub fn is_expressed(way: Way) -> bool
     ensures { result ≡ is_expressed way }
 {
-    match way {
-        Way::Plain => false,
-        Way::Drawn(_) => false,
-        Way::Expressed => true,
-        Way::Counted => false,
-    }
+    matches!(way, Way::Expressed)
 }
 
 // Is its work counted?
+#[tactic(auto, unfolding(crate::specs::Endings::is_counted))]
 pub fn is_counted(way: Way) -> bool
     ensures { result ≡ is_counted way }
 {
-    match way {
-        Way::Plain => false,
-        Way::Drawn(_) => false,
-        Way::Expressed => false,
-        Way::Counted => true,
-    }
+    matches!(way, Way::Counted)
 }
 
 // How a run ends at a line of its inputs that is none of a cycle: its end is right, and so is a blank one.
@@ -239,9 +228,10 @@ pub fn line_outcome(error: u8) -> Outcome
     ensures { result ≡ line_outcome error }
 {
     if error < 2 {
-        return Outcome::Done;
+        Outcome::Done
+    } else {
+        Outcome::Mistaken
     }
-    Outcome::Mistaken
 }
 
 // The time of a cycle's inputs, or of its rise, in a waveform.

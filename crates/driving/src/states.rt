@@ -12,21 +12,12 @@ use state::State;
 
 // ---- a row
 
-// A place as a word.
-fn wide(place: u8) -> u64
-    ensures { result ≡ place }
-{
-    place as u64
-}
-
 // The variables' words.
 fn put_words<'a>(value: &'a [u32; 80], unknown: &'a [u32; 80], row: &mut [u64; 88])
     ensures { row.new ≡ sets row.old 0 (words_of value.now unknown.now) }
 {
-    let mut v: usize = 0;
-    while v < 80 {
+    for v in 0..80 {
         row[v] = values::store(values::value_at(value, unknown, v));
-        v += 1;
     }
 }
 
@@ -34,10 +25,8 @@ fn put_words<'a>(value: &'a [u32; 80], unknown: &'a [u32; 80], row: &mut [u64; 8
 fn put_places(places: &[u8; 8], row: &mut [u64; 88])
     ensures { row.new ≡ sets row.old 80 (places_in places.now) }
 {
-    let mut i: usize = 0;
-    while i < 8 {
-        row[80 + i] = wide(places[i]);
-        i += 1;
+    for i in 0..8 {
+        row[80 + i] = places[i] as u64;
     }
 }
 
@@ -53,33 +42,21 @@ pub fn row_of(st: State) -> [u64; 88]
 
 // ---- registers
 
-// A byte as a place.
-fn place(b: u8) -> usize
-    ensures { result ≡ b }
-{
-    b as usize
-}
-
 // The number in a slot; past the end 0.
 fn number_at(numbers: &[u32], v: usize) -> u32
     ensures { result ≡ get_or numbers.now v 0 }
 {
-    if numbers.len() <= v {
-        return 0;
-    }
-    numbers[v]
+    numbers.get(v).copied().unwrap_or(0)
 }
 
 // 32 numbers, or their marks, from a slot on.
 fn numbers_from(numbers: &[u32], from: u8) -> [u32; 32]
     ensures { result ≡ list_of 32 (λ k. get_or numbers.now (from + k) 0) }
 {
-    let first = place(from);
+    let first = from as usize;
     let mut out = [0u32; 32];
-    let mut k: usize = 0;
-    while k < 32 {
+    for k in 0..32 {
         out[k] = number_at(numbers, first + k);
-        k += 1;
     }
     out
 }
@@ -90,11 +67,10 @@ pub fn registers_of(inputs: u8, st: State) -> Registers
 {
     let value = numbers_from(&st.value, inputs);
     let unknown = numbers_from(&st.unknown, inputs);
-    let places = st.places;
     Registers {
         value,
         unknown,
-        places,
+        places: st.places,
     }
 }
 
@@ -105,22 +81,7 @@ pub fn unsettled(plan: &PlanTable, st: State) -> State
     ensures { result ≡ unsettled_at (plan_of plan.now) st }
 {
     let begun = prepared::start(plan, [0u32; 4]);
-    let value = st.value;
-    let unknown = st.unknown;
-    let pending = st.pending;
-    let unsure = st.unsure;
-    let held = st.held;
-    let places = st.places;
+    // a variable: an array field of another struct has no proof straight in a literal
     let due = begun.due;
-    let counters = st.counters;
-    State {
-        value,
-        unknown,
-        pending,
-        unsure,
-        held,
-        places,
-        due,
-        counters,
-    }
+    State { due, ..st }
 }

@@ -12,7 +12,6 @@ use Rattle.sheet.specs.Expression.{Expr}
 use Rattle.sheet.specs.Module.{Module}
 use Rattle.state.specs.declared.State.{State}
 use Rattle.state.specs.State.{Shaped, Bounded, users, count_of, allowance_of, with_counters}
-use Rattle.soundness.specs.Soundness.{Sound}
 use Rattle.events.specs.declared.Inputs.{Inputs}
 use Rattle.events.specs.declared.Chosen.{Chosen}
 use Rattle.events.specs.declared.Ran.{Ran}
@@ -27,13 +26,13 @@ use Rattle.events.proofs.Choices.{choose_in-refused, counters-feed}
 use Rattle.events.proofs.Fits.{Fits, fits-state}
 use Rattle.events.proofs.Runs.{shaped-run_by, fits-run_by, Ended, at_rest, spent, stopped, ended-plain}
 use Rattle.refinement.proofs.Kept.{Kept, fits_kept}
-use Rattle.plan.specs.Plan.{Plan, plan_of}
+use Rattle.plan.specs.Plan.{Plan}
 use Rattle.plan_engine.specs.Live.{Live}
 use Rattle.plan_engine.specs.Taking.{take_choice}
 use Rattle.plan_engine.specs.Running.{run_list, run_plain, busy}
 use Rattle.plan_state.specs.Packing.{unpacked, packed}
 use Rattle.plan_fitting.specs.Fitting.{plan_fits, plan_inputs_fit}
-use Rattle.plan_refinement.specs.Refinement.{Shows, Takes, Runs, Rests, Room, PlanOf}
+use Rattle.plan_refinement.specs.Refinement.{Shows, Room, PlanOf}
 use Rattle.plan_refinement.proofs.Choices.{busy-shows, take-shows, feed-timed-shows}
 use Rattle.plan_refinement.proofs.Runs.{run_list-shows, run_plain-shows}
 use Rattle.prepared.specs.Prepared.{room_in, raised, accepted, userless, verdict_of, choose_at, run_at, plain_at}

@@ -34,14 +34,15 @@ pub fn prepare(sheet: &[u8], plan: &mut PlanTable) -> Prepared
     ensures plan_after { plan.new ≡ prepared_plan sheet.now plan.old }
 {
     let read = sheet::read(sheet);
-    let number = read.number;
-    let place = read.place;
-    if number != 0 {
-        return Prepared { number, place };
+    let answer = Prepared {
+        number: read.number,
+        place: read.place,
+    };
+    if answer.number != 0 {
+        return answer;
     }
-    let layout = read.layout;
-    plan_fill::fill(sheet, layout, plan);
-    Prepared { number, place }
+    plan_fill::fill(sheet, read.layout, plan);
+    answer
 }
 
 // ---- start
@@ -51,10 +52,8 @@ fn due_below(n: usize) -> [bool; 32]
     ensures { result ≡ due_below n }
 {
     let mut due: u32 = 0;
-    let mut k: usize = 0;
-    while k < n {
+    for k in 0..n {
         due = masks::with(due, k);
-        k += 1;
     }
     masks::flags(due)
 }
@@ -74,10 +73,8 @@ fn unset_marks(plan: &PlanTable) -> [u32; 80]
     ensures { result ≡ list_of 80 (λ v. ones (get_or (widths_of (plan_of plan.now)) v 32)) }
 {
     let mut marks = [0u32; 80];
-    let mut v: usize = 0;
-    while v < 80 {
+    for v in 0..80 {
         marks[v] = values::marks_of(values::all_unknown(width_at(plan, v)));
-        v += 1;
     }
     marks
 }
@@ -104,13 +101,6 @@ pub fn start(plan: &PlanTable, allowances: [u32; 4]) -> State
 
 // ---- counting
 
-// An allowance as a count.
-fn wide(n: u32) -> u64
-    ensures { result ≡ n }
-{
-    n as u64
-}
-
 // The choices that a user's allowance has left.
 pub fn room_in(c: Counters, user: u8) -> u64
     ensures { result ≡ room_in c user }
@@ -119,11 +109,7 @@ pub fn room_in(c: Counters, user: u8) -> u64
         return 0;
     }
     let u = user as usize;
-    let counts = c.counts;
-    let allowances = c.allowances;
-    let count = counts[u];
-    let most = wide(allowances[u]);
-    if most < count { 0 } else { most - count }
+    (c.allowances[u] as u64).saturating_sub(c.counts[u])
 }
 
 // `n` more accepted choices of a user, where his allowance has so many left.
@@ -136,22 +122,16 @@ pub fn raised(n: u64, user: u8, c: Counters) -> Counters
     if room_in(c, user) < n {
         return c;
     }
-    let u = user as usize;
     let mut counts = c.counts;
-    counts[u] = counts[u] + n;
-    let allowances = c.allowances;
-    Counters {
-        time: c.time,
-        counts,
-        allowances,
-    }
+    counts[user as usize] += n;
+    Counters { counts, ..c }
 }
 
 // How many choices were accepted where one was answered by `number`.
 pub fn accepted(number: u8) -> u64
     ensures { result ≡ accepted number }
 {
-    if number == 0 { 1 } else { 0 }
+    u64::from(number == 0)
 }
 
 // ---- the calls
@@ -187,8 +167,7 @@ pub fn choose(plan: &PlanTable, st: State, user: u8, c: u8) -> Chosen
     let marks = plan_state::unpack(plan, st, &mut cells);
     let mut pending = plan_state::slots_of(&st.pending, &st.unsure);
     let mut places = st.places;
-    let old = st.counters;
-    let room = room_in(old, user);
+    let room = room_in(st.counters, user);
     let t = plan_engine::take_choice(
         plan,
         &mut cells,
@@ -198,9 +177,8 @@ pub fn choose(plan: &PlanTable, st: State, user: u8, c: u8) -> Chosen
         c as usize,
         room,
     );
-    let left = t.marks;
-    let counters = raised(accepted(t.number), user, old);
-    let state = plan_state::pack(&cells, &pending, places, left, counters);
+    let counters = raised(accepted(t.number), user, st.counters);
+    let state = plan_state::pack(&cells, &pending, places, t.marks, counters);
     Chosen {
         number: t.number,
         state,
@@ -232,8 +210,7 @@ pub fn run(plan: &PlanTable, st: State, user: u8, choices: &[u8]) -> Ran
     let marks = plan_state::unpack(plan, st, &mut cells);
     let mut pending = plan_state::slots_of(&st.pending, &st.unsure);
     let mut places = st.places;
-    let old = st.counters;
-    let room = room_in(old, user);
+    let room = room_in(st.counters, user);
     let t = plan_engine::run_list(
         plan,
         &mut cells,
@@ -243,9 +220,8 @@ pub fn run(plan: &PlanTable, st: State, user: u8, choices: &[u8]) -> Ran
         choices,
         room,
     );
-    let left = t.marks;
-    let counters = raised(t.accepted as u64, user, old);
-    let state = plan_state::pack(&cells, &pending, places, left, counters);
+    let counters = raised(t.accepted as u64, user, st.counters);
+    let state = plan_state::pack(&cells, &pending, places, t.marks, counters);
     Ran {
         accepted: t.accepted,
         number: t.number,
@@ -291,8 +267,7 @@ pub fn run_plain(plan: &PlanTable, st: State, user: u8, limit: u16) -> Rested
     let marks = plan_state::unpack(plan, st, &mut cells);
     let mut pending = plan_state::slots_of(&st.pending, &st.unsure);
     let mut places = st.places;
-    let old = st.counters;
-    let room = room_in(old, user);
+    let room = room_in(st.counters, user);
     let t = plan_engine::run_plain(
         plan,
         &mut cells,
@@ -302,10 +277,9 @@ pub fn run_plain(plan: &PlanTable, st: State, user: u8, limit: u16) -> Rested
         limit,
         room,
     );
-    let left = t.marks;
-    let verdict = verdict_of(t.number, left);
-    let counters = raised(t.accepted as u64, user, old);
-    let state = plan_state::pack(&cells, &pending, places, left, counters);
+    let verdict = verdict_of(t.number, t.marks);
+    let counters = raised(t.accepted as u64, user, st.counters);
+    let state = plan_state::pack(&cells, &pending, places, t.marks, counters);
     Rested {
         accepted: t.accepted,
         verdict,
@@ -318,12 +292,9 @@ fn later(c: Counters) -> Counters
     requires { c.time < full }
     ensures { result ≡ later c }
 {
-    let counts = c.counts;
-    let allowances = c.allowances;
     Counters {
         time: c.time + 1,
-        counts,
-        allowances,
+        ..c
     }
 }
 
@@ -342,8 +313,7 @@ pub fn instant(plan: &PlanTable, st: State, a: Inputs) -> Chosen
     if plan_engine::busy(marks) {
         return refused(32, st);
     }
-    let old = st.counters;
-    if old.time == FULL {
+    if st.counters.time == FULL {
         return refused(36, st);
     }
     let mut pending = plan_state::slots_of(&st.pending, &st.unsure);
@@ -357,7 +327,7 @@ pub fn instant(plan: &PlanTable, st: State, a: Inputs) -> Chosen
         &a.value,
         &a.unknown,
     );
-    let counters = later(old);
+    let counters = later(st.counters);
     let state = plan_state::pack(&cells, &pending, places, left, counters);
     Chosen { number: 0, state }
 }

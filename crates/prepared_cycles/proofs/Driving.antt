@@ -1,5 +1,5 @@
 -- Laws of driven cycles by which the code goes: for plans of any contents. Assumes nothing.
-use mathlib.Core.Path.{◌≡◌, refl, sym, ap, ◌∙◌}
+use mathlib.Core.Path.{◌≡◌, refl, ap}
 use mathlib.Core.Bool.{Bool, true, false, not}
 use mathlib.Core.List.{List}
 use Prim.Native.Nat.{ℕ, suc, ◌+◌, ◌-◌, ◌/◌, ◌≤◌, ◌<◌}
@@ -25,7 +25,7 @@ use Rattle.prepared_cycles.specs.declared.Driven.{Driven}
 use Rattle.prepared_cycles.specs.Cycles.{row_inputs}
 use Rattle.prepared_cycles.specs.Phases.{Moment, moment, room_at, state_at, refusal_at, laid_out}
 use Rattle.prepared_cycles.specs.Traces.{written, rounds, has_room}
-use Rattle.prepared_cycles.specs.Drives.{Going, going, Drive, driven, on_plan, plain_most, drawn_most, next_seed, drawn_choice}
+use Rattle.prepared_cycles.specs.Drives.{Going, going, driven, on_plan, plain_most, drawn_most, next_seed, drawn_choice}
 use Rattle.prepared_cycles.specs.Drives.{draw, drawn, plainly, to_rest, drive, drives, rows, told, arrived}
 use Rattle.prepared_cycles.specs.Drives.{settled_at, drive_at, driven_at}
 

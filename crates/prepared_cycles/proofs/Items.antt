@@ -1,20 +1,21 @@
--- Laws of rows: a row as a loop fills it, and the place of an instant's row among those that are lent. Assumes nothing.
+-- Laws of rows: a row as it is copied, and the place of an instant's row among those that are lent. Assumes nothing.
 use mathlib.Core.Path.{◌≡◌, refl, sym, ap, ◌∙◌}
-use mathlib.Core.Bool.{Bool, true, false}
+use mathlib.Core.Bool.{true}
 use mathlib.Core.List.{List, [], ◌∷◌, ◌++◌}
-use Prim.Native.Nat.{ℕ, ◌+◌, ◌*◌, ◌/◌, ◌%◌, ◌≤◌, ◌<◌}
+use Prim.Native.Nat.{ℕ, ◌+◌, ◌-◌, ◌*◌, ◌/◌, ◌%◌, ◌≤◌, ◌<◌}
 use native.Mathlib.Numerals.{add-one}
 use native.Mathlib.Omega.{arith}
 use lib.Dec.{eqb}
-use lib.ListN.{length, get_or, set}
-use lib.Seq.{sets}
+use lib.ListN.{length, get_or, set, length-drop}
+use lib.Seq.{sets, length-take-le, get_or-take, get_or-drop}
+use Rattle.std.specs.Prelude.{take, drop}
 use borrow.Author.Tests.{eqb-true}
 use Rattle.values.specs.Planes.{value_at}
 use Rattle.values.specs.Cells.{cell_of, number_in, marks_in, value_of}
 use Rattle.state.specs.State as state
 use Rattle.state.specs.Rows.{list_of}
 use Rattle.state.specs.declared.Counters.{Counters}
-use Rattle.state.proofs.Rows.{and_both, sets-append, length-list_of, get_d-list_of, list_of-is, list_of-whole}
+use Rattle.state.proofs.Rows.{and_both, sets-append, length-list_of, get_d-list_of, list_of-is}
 use Rattle.events.specs.Rows.{whole_rows}
 use Rattle.plan_engine.specs.Live.{Live}
 use Rattle.plan_state.specs.Packing.{packed}
@@ -34,11 +35,17 @@ pub whole-lengths : (ns xs : List ℕ) → whole_rows ns xs ≡ true → length 
 unfolding whole_rows
 whole-lengths ns xs h = eqb-true (length xs) (length ns) (and_both (eqb (length ns % 16) 0) (eqb (length xs) (length ns)) h).1
 
--- The same of a row that a loop has filled.
-pub row-filled : (ns : List ℕ) (first r : ℕ) (ys zs : List ℕ) → length zs ≡ 16
-    → ys ≡ sets zs 0 (list_of 16 (λ v. get_or ns (16 * r + v) 0)) → set ys 0 first ≡ first ∷ row_from ns r 1 15
-row-filled ns first r ys zs l e =
-    ap (λ us. set us 0 first) (e ∙ list_of-whole (λ v. get_or ns (16 * r + v) 0) zs 16 l) ∙ row_list ns first r
+-- The same of a row that is copied.
+pub row-copied : (ns : List ℕ) (first r : ℕ) (ys : List ℕ) → 16 * r + 16 ≤ length ns
+    → ys ≡ take (16 * r + 16 - 16 * r) (drop (16 * r) ns) → set ys 0 first ≡ first ∷ row_from ns r 1 15
+row-copied ns first r ys h e =
+    let n : 16 * r + 16 - 16 * r ≡ 16 = omega arith in
+    let f = λ (v : ℕ). get_or ns (16 * r + v) 0 in
+    let l = take 16 (drop (16 * r) ns) in
+    let long : length l ≡ 16 = length-take-le 16 (drop (16 * r) ns) (omega (arith, length-drop (16 * r) ns)) in
+    let same : list_of 16 f ≡ l =
+    list_of-is f l 0 16 long (λ k i. sym (get_or-take 16 (drop (16 * r) ns) k 0 i ∙ get_or-drop (16 * r) ns k 0)) in
+    ap (λ us. set us 0 first) ((rw n at e) ∙ sym same) ∙ row_list ns first r
 
 -- ---- a row of a trace
 

@@ -56,23 +56,19 @@ fn draw(
         (going_of cells.old pending.old places.old g) }
 {
     let s = g.standing;
-    let marks = s.marks;
-    let old = s.counters;
-    let user = s.user;
     let seed = next_seed(g.seed);
     let c = drawn_choice(seed, items(plan));
-    let room = room_in(old, user);
-    let t = plan_engine::take_choice(plan, cells, pending, places, marks, c as usize, room);
-    let left = t.marks;
-    let counters = raised(accepted(t.number), user, old);
+    let room = room_in(s.counters, s.user);
+    let t = plan_engine::take_choice(plan, cells, pending, places, s.marks, c as usize, room);
+    let counters = raised(accepted(t.number), s.user, s.counters);
     Went {
         number: 0,
         rested: t.number == 35,
         seed,
         standing: Standing {
-            marks: left,
+            marks: t.marks,
             counters,
-            user,
+            ..s
         },
     }
 }
@@ -90,13 +86,11 @@ fn by_draw(
         (going_of cells.old pending.old places.old g) }
 {
     let mut e = g;
-    let mut turns = DRAWN_MOST;
-    while turns > 0 {
+    for _ in 0..DRAWN_MOST {
         if e.rested {
             return e;
         }
         e = draw(plan, cells, pending, places, e);
-        turns -= 1;
     }
     e
 }
@@ -114,23 +108,19 @@ fn plainly(
         (going_of cells.old pending.old places.old g) }
 {
     let s = g.standing;
-    let marks = s.marks;
-    let old = s.counters;
-    let user = s.user;
-    let room = room_in(old, user);
-    let run = plan_engine::run_plain(plan, cells, pending, places, marks, PLAIN_MOST, room);
-    let left = run.marks;
-    let counters = raised(run.accepted as u64, user, old);
-    let rested = !plan_engine::busy(left);
+    let room = room_in(s.counters, s.user);
+    let run = plan_engine::run_plain(plan, cells, pending, places, s.marks, PLAIN_MOST, room);
+    let counters = raised(run.accepted as u64, s.user, s.counters);
+    let rested = !plan_engine::busy(run.marks);
     Went {
         number: 0,
         rested,
-        seed: g.seed,
         standing: Standing {
-            marks: left,
+            marks: run.marks,
             counters,
-            user,
+            ..s
         },
+        ..g
     }
 }
 
@@ -168,29 +158,25 @@ pub fn drive(
         (going_of cells.old pending.old places.old g) }
 {
     let s = g.standing;
-    let marks = s.marks;
-    let old = s.counters;
-    let user = s.user;
-    let number = refusal(plan, marks, old.time, a);
+    let number = refusal(plan, s.marks, s.counters.time, a);
     if number != 0 {
         return Went {
             number,
             rested: false,
-            seed: g.seed,
-            standing: s,
+            ..g
         };
     }
-    let fed = plan_engine::feed(plan, cells, pending, places, marks, &a.value, &a.unknown);
-    let counters = later(old);
+    let fed = plan_engine::feed(plan, cells, pending, places, s.marks, &a.value, &a.unknown);
+    let counters = later(s.counters);
     let begun = Went {
         number: 0,
         rested: false,
-        seed: g.seed,
         standing: Standing {
             marks: fed,
             counters,
-            user,
+            ..s
         },
+        ..g
     };
     to_rest(plan, cells, pending, places, drawn, begun)
 }

@@ -33,12 +33,9 @@ pub fn later(c: Counters) -> Counters
     requires { c.time ≡ full → ⊥ }
     ensures { result ≡ later c }
 {
-    let counts = c.counts;
-    let allowances = c.allowances;
     Counters {
         time: c.time + 1,
-        counts,
-        allowances,
+        ..c
     }
 }
 
@@ -56,10 +53,7 @@ pub fn phase(
         ≡ phase_at (plan_of plan.now) a
         (moment_of cells.old pending.old places.old standing) }
 {
-    let marks = standing.marks;
-    let old = standing.counters;
-    let user = standing.user;
-    let number = refusal(plan, marks, old.time, a);
+    let number = refusal(plan, standing.marks, standing.counters.time, a);
     if number != 0 {
         return Phased {
             number,
@@ -67,18 +61,25 @@ pub fn phase(
             standing,
         };
     }
-    let fed = plan_engine::feed(plan, cells, pending, places, marks, &a.value, &a.unknown);
-    let room = room_in(old, user);
+    let fed = plan_engine::feed(
+        plan,
+        cells,
+        pending,
+        places,
+        standing.marks,
+        &a.value,
+        &a.unknown,
+    );
+    let room = room_in(standing.counters, standing.user);
     let run = plan_engine::run_plain(plan, cells, pending, places, fed, 65535, room);
-    let left = run.marks;
-    let counters = raised(run.accepted as u64, user, later(old));
+    let counters = raised(run.accepted as u64, standing.user, later(standing.counters));
     Phased {
         number: run.number,
         running: run.number != 0,
         standing: Standing {
-            marks: left,
+            marks: run.marks,
             counters,
-            user,
+            ..standing
         },
     }
 }

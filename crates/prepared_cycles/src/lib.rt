@@ -92,9 +92,7 @@ fn ended(
 ) -> Cycled
     ensures { result ≡ ended (course phases number running (moment_of cells.now pending.now places standing)) }
 {
-    let marks = standing.marks;
-    let counters = standing.counters;
-    let state = plan_state::pack(cells, pending, places, marks, counters);
+    let state = plan_state::pack(cells, pending, places, standing.marks, standing.counters);
     Cycled {
         phases,
         number,
@@ -115,24 +113,21 @@ fn run_phases(plan: &PlanTable, st: State, user: u8, value: &[u32], unknown: &[u
     let marks = plan_state::unpack(plan, st, &mut cells);
     let mut pending = plan_state::slots_of(&st.pending, &st.unsure);
     let mut places = st.places;
-    let counters = st.counters;
     let mut standing = Standing {
         marks,
-        counters,
+        counters: st.counters,
         user,
     };
     let n = 2 * (value.len() / 16);
-    let mut p: usize = 0;
-    while p < n {
+    for p in 0..n {
         let a = rows::inputs_at(plan, value, unknown, p);
         let f = instants::phase(plan, &mut cells, &mut pending, &mut places, standing, a);
         standing = f.standing;
         if f.number != 0 {
             return ended(&cells, &pending, places, standing, p, f.number, f.running);
         }
-        p += 1;
     }
-    ended(&cells, &pending, places, standing, p, 0, false)
+    ended(&cells, &pending, places, standing, n, 0, false)
 }
 
 // Rows of 16 inputs, for each an instant with the clock low and one with the clock high, a plain run of the user after each.
@@ -177,15 +172,13 @@ fn trace_phases(
     let marks = plan_state::unpack(plan, st, &mut cells);
     let mut pending = plan_state::slots_of(&st.pending, &st.unsure);
     let mut stood = st.places;
-    let counters = st.counters;
     let mut standing = Standing {
         marks,
-        counters,
+        counters: st.counters,
         user,
     };
     let n = 2 * (value.len() / 16);
-    let mut p: usize = 0;
-    while p < n {
+    for p in 0..n {
         let a = rows::inputs_at(plan, value, unknown, p);
         let f = instants::phase(plan, &mut cells, &mut pending, &mut stood, standing, a);
         standing = f.standing;
@@ -193,9 +186,8 @@ fn trace_phases(
             return ended(&cells, &pending, stood, standing, p, f.number, f.running);
         }
         traces::put_row(&cells, &stood, out, p);
-        p += 1;
     }
-    ended(&cells, &pending, stood, standing, p, 0, false)
+    ended(&cells, &pending, stood, standing, n, 0, false)
 }
 
 // The cycles of `run_cycles`, and for each instant that is accepted and run a row of 88 words in the array that is lent, two rows to a
@@ -249,9 +241,7 @@ fn arrived(cells: &Cells, pending: &[u64; 32], places: [u8; 8], g: Went, phases:
     ensures { result ≡ arrived state_at (driven phases (going_of cells.now pending.now places g)) }
 {
     let standing = g.standing;
-    let marks = standing.marks;
-    let counters = standing.counters;
-    let state = plan_state::pack(cells, pending, places, marks, counters);
+    let state = plan_state::pack(cells, pending, places, standing.marks, standing.counters);
     Driven {
         phases,
         number: g.number,
@@ -270,10 +260,9 @@ fn run_to_rest(plan: &PlanTable, st: State, user: u8, drawn: bool, seed: u64) ->
     let marks = plan_state::unpack(plan, st, &mut cells);
     let mut pending = plan_state::slots_of(&st.pending, &st.unsure);
     let mut places = st.places;
-    let counters = st.counters;
     let standing = Standing {
         marks,
-        counters,
+        counters: st.counters,
         user,
     };
     let begun = Went {
@@ -325,10 +314,9 @@ fn drive_phases(
     let marks = plan_state::unpack(plan, st, &mut cells);
     let mut pending = plan_state::slots_of(&st.pending, &st.unsure);
     let mut stood = st.places;
-    let counters = st.counters;
     let standing = Standing {
         marks,
-        counters,
+        counters: st.counters,
         user,
     };
     let mut went = Went {
@@ -338,17 +326,15 @@ fn drive_phases(
         standing,
     };
     let n = 2 * (value.len() / 16);
-    let mut p: usize = 0;
-    while p < n {
+    for p in 0..n {
         let a = rows::inputs_at(plan, value, unknown, p);
         went = drives::drive(plan, &mut cells, &mut pending, &mut stood, drawn, went, a);
         if !went.rested {
             return arrived(&cells, &pending, stood, went, p);
         }
         traces::put_row(&cells, &stood, out, p);
-        p += 1;
     }
-    arrived(&cells, &pending, stood, went, p)
+    arrived(&cells, &pending, stood, went, n)
 }
 
 // Rows of 16 inputs, for each an instant with the clock low and one with the clock high, each run to rest as by `settle`; the row of each

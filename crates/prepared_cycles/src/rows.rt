@@ -13,11 +13,7 @@ fn numbers_at(value: &[u32], row: usize, first: u32) -> [u32; 16]
 {
     let at = 16 * row;
     let mut a = [0u32; 16];
-    let mut v: usize = 0;
-    while v < 16 {
-        a[v] = value[at + v];
-        v += 1;
-    }
+    a.copy_from_slice(&value[at..at + 16]);
     a[0] = first;
     a
 }

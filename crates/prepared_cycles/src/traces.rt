@@ -12,22 +12,13 @@ fn word_in(c: u64) -> u64
     values::store(values::load(c))
 }
 
-// A place as a word.
-fn wide(place: u8) -> u64
-    ensures { result ≡ place }
-{
-    place as u64
-}
-
 // The variables' words, from a place on.
 fn put_words(cells: &Cells, out: &mut [u64], at: usize)
     requires { at + 80 ≤ length out.old }
     ensures { out.new ≡ sets out.old at (words_in cells.now) }
 {
-    let mut v: usize = 0;
-    while v < 80 {
+    for v in 0..80 {
         out[at + v] = word_in(cells[v]);
-        v += 1;
     }
 }
 
@@ -36,10 +27,8 @@ fn put_places(stood: &[u8; 8], out: &mut [u64], at: usize)
     requires { at + 8 ≤ length out.old }
     ensures { out.new ≡ sets out.old at (places_in stood.now) }
 {
-    let mut i: usize = 0;
-    while i < 8 {
-        out[at + i] = wide(stood[i]);
-        i += 1;
+    for i in 0..8 {
+        out[at + i] = stood[i] as u64;
     }
 }
 

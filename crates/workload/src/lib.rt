@@ -35,17 +35,11 @@ pub struct Tally {
 }
 
 // A sum of 32 bits.
+#[tactic(auto, unfolding(crate::specs::Workload::summed))]
 fn summed(a: u32, b: usize) -> u32
     ensures { result ≡ summed a b }
 {
     ((a as usize + b % 4294967296) % 4294967296) as u32
-}
-
-// A number of stores.
-fn count_of(n: u16) -> usize
-    ensures { result ≡ n }
-{
-    n as usize
 }
 
 // ---- from an instant or a commit on
@@ -54,16 +48,14 @@ fn count_of(n: u16) -> usize
 fn stretched(plan: &PlanTable, user: u8, before: State, t: Tally) -> Tally
     ensures { result ≡ stretched (plan_of plan.now) user before t }
 {
-    let st = t.state;
-    let w = counted::work(plan, st, user, MOST);
-    let state = w.state;
-    let n = counted::readers(plan, before, state);
+    let w = counted::work(plan, t.state, user, MOST);
+    let n = counted::readers(plan, before, w.state);
     Tally {
         number: w.number,
         rested: false,
-        stores: summed(t.stores, count_of(w.stores)),
+        stores: summed(t.stores, w.stores as usize),
         readers: summed(t.readers, n),
-        state,
+        state: w.state,
     }
 }
 
@@ -71,35 +63,29 @@ fn stretched(plan: &PlanTable, user: u8, before: State, t: Tally) -> Tally
 fn committed(plan: &PlanTable, user: u8, t: Tally) -> Tally
     ensures { result ≡ committed (plan_of plan.now) user t }
 {
-    let st = t.state;
-    let c = prepared::choose(plan, st, user, COMMIT);
-    let state = c.state;
+    let c = prepared::choose(plan, t.state, user, COMMIT);
     if c.number == NONE_PENDING {
         return Tally {
             number: 0,
             rested: true,
-            stores: t.stores,
-            readers: t.readers,
-            state,
+            state: c.state,
+            ..t
         };
     }
     Tally {
         number: c.number,
         rested: false,
-        stores: t.stores,
-        readers: t.readers,
-        state,
+        state: c.state,
+        ..t
     }
 }
 
 // Is it quiet, or stopped?
+#[tactic(auto, unfolding(crate::specs::Workload::is_over))]
 fn is_over(t: Tally) -> bool
     ensures { result ≡ is_over t }
 {
-    if t.rested {
-        return true;
-    }
-    t.number != 0
+    t.rested || t.number != 0
 }
 
 // From commit to commit until all is quiet.
@@ -108,8 +94,7 @@ fn to_rest(plan: &PlanTable, user: u8, before: State, t: Tally) -> Tally
 {
     let mut old = before;
     let mut e = t;
-    let mut turns = MOST;
-    while turns > 0 {
+    for _ in 0..MOST {
         let w = stretched(plan, user, old, e);
         if w.number != 0 {
             return w;
@@ -118,10 +103,8 @@ fn to_rest(plan: &PlanTable, user: u8, before: State, t: Tally) -> Tally
         if is_over(c) {
             return c;
         }
-        let passed = w.state;
-        old = passed;
+        old = w.state;
         e = c;
-        turns -= 1;
     }
     e
 }
@@ -130,20 +113,17 @@ fn to_rest(plan: &PlanTable, user: u8, before: State, t: Tally) -> Tally
 fn driven(plan: &PlanTable, user: u8, a: Inputs, t: Tally) -> Tally
     ensures { result ≡ driven (plan_of plan.now) user a t }
 {
-    let before = t.state;
-    let c = prepared::instant(plan, before, a);
-    let state = c.state;
+    let c = prepared::instant(plan, t.state, a);
     let e = Tally {
         number: c.number,
         rested: false,
-        stores: t.stores,
-        readers: t.readers,
-        state,
+        state: c.state,
+        ..t
     };
     if c.number != 0 {
         return e;
     }
-    to_rest(plan, user, before, e)
+    to_rest(plan, user, t.state, e)
 }
 
 // ---- rows of inputs
@@ -152,10 +132,7 @@ fn driven(plan: &PlanTable, user: u8, a: Inputs, t: Tally) -> Tally
 fn number_at(numbers: &[u32], v: usize) -> u32
     ensures { result ≡ get_or numbers.now v 0 }
 {
-    if numbers.len() <= v {
-        return 0;
-    }
-    numbers[v]
+    numbers.get(v).copied().unwrap_or(0)
 }
 
 // The numbers of a row, or their marks, with another one in front.
@@ -164,10 +141,8 @@ fn row_of(numbers: &[u32], at: usize, first: u32) -> [u32; 16]
     ensures { result ≡ row_of numbers.now at first }
 {
     let mut a = [0u32; 16];
-    let mut k: usize = 0;
-    while k < 16 {
+    for k in 0..16 {
         a[k] = number_at(numbers, at + k);
-        k += 1;
     }
     a[0] = first;
     a
@@ -209,34 +184,26 @@ fn cycled(plan: &PlanTable, user: u8, value: &[u32], unknown: &[u32], at: usize,
 }
 
 // How a run goes on behind a cycle.
+#[tactic(auto, unfolding(crate::specs::Workload::after))]
 fn after(r: Rest, t: Tally) -> Rest
     ensures { result ≡ after r t }
 {
-    let way = r.way;
-    let state = t.state;
     Rest {
-        way,
         number: t.number,
         rested: t.rested,
-        state,
-        seed: r.seed,
+        state: t.state,
+        ..r
     }
 }
 
-// A count as a word.
-fn wide(n: u32) -> u64
-    ensures { result ≡ n }
-{
-    n as u64
-}
-
 // The stores and the readers of a cycle.
+#[tactic(auto, unfolding(crate::specs::Workload::written))]
 fn put_cycle(out: &mut [u64; 5720], k: usize, t: Tally)
     requires { k < 32 }
     ensures { out.new ≡ written k t out.old }
 {
-    out[176 * k + 88] = wide(t.stores);
-    out[176 * k + 89] = wide(t.readers);
+    out[176 * k + 88] = t.stores as u64;
+    out[176 * k + 89] = t.readers as u64;
 }
 
 // Rows of 16 inputs, at most 32, for each an instant with the clock low and one with the clock high, each run to rest by a user; the
@@ -254,16 +221,14 @@ pub fn trace(
         ≡ rows_from (plan_of plan.now) user value.now unknown.now 32 0 r out.old }
 {
     let mut rest = r;
-    let mut k: usize = 0;
-    while k < ROWS {
+    for k in 0..ROWS {
         if value.len() < 16 * k + 16 {
             return Traced {
                 phases: 2 * k,
                 rest,
             };
         }
-        let st = rest.state;
-        let t = cycled(plan, user, value, unknown, 16 * k, st);
+        let t = cycled(plan, user, value, unknown, 16 * k, rest.state);
         rest = after(rest, t);
         if !rest.rested {
             return Traced {
@@ -272,10 +237,9 @@ pub fn trace(
             };
         }
         put_cycle(out, k, t);
-        k += 1;
     }
     Traced {
-        phases: 2 * k,
+        phases: 2 * ROWS,
         rest,
     }
 }

@@ -1,7 +1,5 @@
 -- `clock_check::tables_fit` meets its contract: the nodes, then the rows. Assumes nothing.
-use borrow.Author.Rules.{rules}
 use mathlib.Core.Path.{sym, ◌∙◌}
-use borrow.Author.Tests.{not-true, not-false}
 use Rattle.plan.specs.Plan.{plan_of}
 use Rattle.clock_check.proofs.Filling.{tables-off, tables-on}
 use Rattle.clock_check.proofs.tables_fit.Goals as goal

@@ -1,6 +1,5 @@
 -- `clock_nodes::copy_node` meets its contract. Assumes nothing.
 use Rattle.clock_nodes.specs.Copying.{put_words, copy_node}
-use borrow.Author.Rules.{rules}
 use Rattle.clock_nodes.proofs.copy_node.Goals as goal
 
 pub returns : goal.returns
@@ -8,8 +7,6 @@ unfolding copy_node put_words
 returns c =
     rw (
       c.put_node.ensures,
-      c.long.ensures,
-      c.long-2.ensures,
       c.first_of-x.ensures,
       c.second_of-y.ensures,
       c.third_of-z.ensures,
@@ -17,5 +14,4 @@ returns c =
       c.word_at-a.ensures,
       c.word_at-b.ensures,
       c.word_at-c.ensures,
-      c.wide-i.ensures,
     )

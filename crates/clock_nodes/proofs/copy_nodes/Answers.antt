@@ -1,10 +1,6 @@
 -- `clock_nodes::copy_nodes` meets its contract. The loop: the nodes so far copied. Assumes nothing.
-use mathlib.Core.Path.{◌≡◌}
-use Prim.Native.Nat.{◌-◌, ◌≤◌}
 use native.Mathlib.Omega.{arith}
-use Rattle.clock_nodes.specs.Copying.{copy_to}
 use Rattle.clock_nodes.proofs.Turns.{copy-past, copy-none, copy_more, copy_within}
-use borrow.Author.Rules.{rules}
 use Rattle.clock_nodes.proofs.copy_nodes.Goals as goal
 
 pub returns-then-count-gt4096 : goal.returns-then-count-gt4096

@@ -1,6 +1,5 @@
 -- `clock_nodes::entry_at` meets its contract. Assumes nothing.
 use Rattle.clock_nodes.specs.Rows.{entry_at}
-use borrow.Author.Rules.{rules}
 use Rattle.clock_nodes.proofs.entry_at.Goals as goal
 
 pub returns : goal.returns

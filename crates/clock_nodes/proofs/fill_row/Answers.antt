@@ -1,6 +1,5 @@
 -- `clock_nodes::fill_row` meets its contract. Assumes nothing.
 use Rattle.clock_nodes.proofs.Turns.{row-past, row_here}
-use borrow.Author.Rules.{rules}
 use Rattle.clock_nodes.proofs.fill_row.Goals as goal
 
 pub returns-then-row-ge32 : goal.returns-then-row-ge32
@@ -10,4 +9,4 @@ returns-then-row-ge32 c =
 pub returns : goal.returns
 returns c =
     row_here _ _ _ _ _ _ c.if-row-ge32.false c.put_entries.ensures
-    c.low_row-lo.ensures c.high_row-hi.ensures (rw c.long.ensures)
+    c.low_row-lo.ensures c.high_row-hi.ensures

@@ -1,6 +1,5 @@
 -- `clock_nodes::high_by` meets its contract. Assumes nothing.
 use Rattle.clock_nodes.specs.Rows.{high_by}
-use borrow.Author.Rules.{rules}
 use Rattle.clock_nodes.proofs.high_by.Goals as goal
 
 pub returns-then-counts : goal.returns-then-counts

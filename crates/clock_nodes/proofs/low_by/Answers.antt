@@ -1,6 +1,5 @@
 -- `clock_nodes::low_by` meets its contract. Assumes nothing.
 use Rattle.clock_nodes.specs.Rows.{low_by}
-use borrow.Author.Rules.{rules}
 use Rattle.clock_nodes.proofs.low_by.Goals as goal
 
 pub returns-then-counts : goal.returns-then-counts

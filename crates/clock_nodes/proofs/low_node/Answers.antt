@@ -1,17 +1,14 @@
 -- `clock_nodes::low_node` meets its contract. Assumes nothing.
 use Rattle.clock_nodes.specs.Copying.{low_node}
-use borrow.Author.Rules.{rules}
 use Rattle.clock_nodes.proofs.low_node.Goals as goal
 
 pub returns : goal.returns
 unfolding low_node
 returns c =
     rw (
-      c.lowest-x.ensures,
+      c.lowest.ensures,
       c.word_at-k.ensures,
       c.word_at-a.ensures,
       c.word_at-b.ensures,
       c.word_at-c.ensures,
-      c.wide-i.ensures,
-      c.wide.ensures,
     )

@@ -1,10 +1,6 @@
 -- `clock_nodes::low_nodes` meets its contract. The loop: the nodes so far noted. Assumes nothing.
-use mathlib.Core.Path.{◌≡◌}
-use Prim.Native.Nat.{◌-◌, ◌≤◌}
 use native.Mathlib.Omega.{arith}
-use Rattle.clock_nodes.specs.Copying.{lows_to}
 use Rattle.clock_nodes.proofs.Turns.{lows-past, lows-none, lows-more, lows-within}
-use borrow.Author.Rules.{rules}
 use Rattle.clock_nodes.proofs.low_nodes.Goals as goal
 
 pub returns-then-count-gt4096 : goal.returns-then-count-gt4096

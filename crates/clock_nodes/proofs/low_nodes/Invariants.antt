@@ -1,16 +1,9 @@
 -- `clock_nodes::low_nodes` meets its contract. The loop: the nodes so far noted. Assumes nothing.
 use mathlib.Core.Path.{◌≡◌}
-use Prim.Native.Nat.{◌-◌, ◌≤◌}
-use native.Mathlib.Omega.{arith}
+use Prim.Native.Nat.{◌≤◌}
 use Rattle.clock_nodes.specs.Copying.{lows_to}
-use Rattle.clock_nodes.proofs.Turns.{lows-past, lows-none, lows-more, lows-within}
-use borrow.Author.Rules.{rules}
 use Rattle.clock_nodes.proofs.low_nodes.Given as goal
 
 abbrev pub invariant-loop-n : goal.invariant-loop-n
 invariant-loop-n l =
     (l.n ≤ l.count) × (l.count ≤ 4096) × (l.lows ≡ lows_to l.nodes l.n l.initial.lows)
-
-abbrev pub decreases-loop-n : goal.decreases-loop-n
-decreases-loop-n l =
-    l.count - l.n

@@ -1,11 +1,8 @@
 -- `clock_nodes::low_row` meets its contract. The loop: the registers so far counted. Assumes nothing.
 use mathlib.Core.Path.{◌≡◌}
-use Prim.Native.Nat.{◌-◌, ◌≤◌}
 use native.Mathlib.Omega.{arith}
 use Rattle.masks.specs.Masks.{bits}
-use Rattle.clock_nodes.specs.Rows.{low_to}
 use Rattle.clock_nodes.proofs.Turns.{low-none, low-more}
-use borrow.Author.Rules.{rules}
 use Rattle.clock_nodes.proofs.low_row.Goals as goal
 
 pub loop-r-init : goal.loop-r-init

@@ -1,7 +1,6 @@
 -- `clock_nodes::lowest` meets its contract, by the kind. Assumes nothing.
 use borrow.Author.Tests.{lt-ltb, le-ltb}
 use Rattle.clock_nodes.specs.Copying.{lowest}
-use borrow.Author.Rules.{rules}
 use Rattle.clock_nodes.proofs.lowest.Goals as goal
 
 pub returns-then-k-lt11 : goal.returns-then-k-lt11

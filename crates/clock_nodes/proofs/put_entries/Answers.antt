@@ -1,10 +1,7 @@
 -- `clock_nodes::put_entries` meets its contract. The loop: the entries so far put. Assumes nothing.
 use mathlib.Core.Path.{◌≡◌}
-use Prim.Native.Nat.{◌-◌, ◌≤◌}
 use native.Mathlib.Omega.{arith}
-use Rattle.clock_nodes.specs.Rows.{put_entries}
 use Rattle.clock_nodes.proofs.Turns.{entries_none, entries-more}
-use borrow.Author.Rules.{rules}
 use Rattle.clock_nodes.proofs.put_entries.Goals as goal
 
 pub loop-c-init : goal.loop-c-init

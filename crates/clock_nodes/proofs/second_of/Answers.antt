@@ -1,13 +1,12 @@
 -- `clock_nodes::second_of` meets its contract. Assumes nothing.
 use borrow.Author.Tests.{eq-eqb, ne_eqb}
 use Rattle.clock_nodes.specs.Copying.{second_of}
-use borrow.Author.Rules.{rules}
 use Rattle.clock_nodes.proofs.second_of.Goals as goal
 
 pub returns-then-k-eq1 : goal.returns-then-k-eq1
 unfolding second_of
 returns-then-k-eq1 c =
-    rw (c.long.ensures, c.long-then-k-eq1.ensures, eq-eqb _ 1 c.if-k-eq1.true)
+    rw (eq-eqb _ 1 c.if-k-eq1.true)
 
 pub returns : goal.returns
 unfolding second_of

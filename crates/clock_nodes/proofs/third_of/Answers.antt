@@ -1,13 +1,12 @@
 -- `clock_nodes::third_of` meets its contract. Assumes nothing.
 use borrow.Author.Tests.{eq-eqb, ne_eqb, lt-ltb, le-ltb}
 use Rattle.clock_nodes.specs.Copying.{third_of}
-use borrow.Author.Rules.{rules}
 use Rattle.clock_nodes.proofs.third_of.Goals as goal
 
 pub returns-then-k-eq2 : goal.returns-then-k-eq2
 unfolding third_of
 returns-then-k-eq2 c =
-    rw (c.long.ensures, eq-eqb _ 2 c.if-k-eq2.true)
+    rw (eq-eqb _ 2 c.if-k-eq2.true)
 
 pub returns-then-k-lt20 : goal.returns-then-k-lt20
 unfolding third_of

@@ -1,7 +1,6 @@
 -- `clock_run::answer` meets its contract. Assumes nothing.
 use Rattle.values.specs.Values.{ones}
 use Rattle.clock_run.specs.Running.{answer_on}
-use borrow.Author.Rules.{rules}
 use Rattle.clock_run.proofs.answer.Goals as goal
 
 pub returns : goal.returns

@@ -1,10 +1,8 @@
 -- `clock_run::cycle` meets its contract. Assumes nothing.
 use mathlib.Core.Path.{sym, ◌∙◌}
-use borrow.Author.Tests.{not-true, not-false}
 use Rattle.plan.specs.Plan.{plan_of, node_at}
 use Rattle.clock_run.specs.Running.{cycle_on}
 use Rattle.clock_run.proofs.Turns.{cycled}
-use borrow.Author.Rules.{rules}
 use Rattle.clock_run.proofs.cycle.Goals as goal
 
 pub returns-then-not-registers_fit : goal.returns-then-not-registers_fit

@@ -1,8 +1,6 @@
 -- `clock_run::cycles` meets its contract. Assumes nothing.
 use mathlib.Core.Path.{sym, ap, ◌∙◌}
-use borrow.Author.Tests.{not-true, not-false}
 use Rattle.clock_run.specs.Rounds.{ended_at, cycles_on}
-use borrow.Author.Rules.{rules}
 use Rattle.clock_run.proofs.cycles.Goals as goal
 
 pub returns-then-not-registers_fit : goal.returns-then-not-registers_fit

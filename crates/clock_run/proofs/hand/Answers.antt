@@ -1,6 +1,5 @@
 -- `clock_run::hand` meets its contract. Assumes nothing.
 use Rattle.clock_run.specs.Running.{hand_on}
-use borrow.Author.Rules.{rules}
 use Rattle.clock_run.proofs.hand.Goals as goal
 
 pub returns : goal.returns

@@ -1,7 +1,6 @@
 -- `clock_run::last_of` meets its contract. Assumes nothing.
 use Rattle.plan.specs.Plan.{plan_of}
 use Rattle.clock_run.proofs.Turns.{last_none, last_some}
-use borrow.Author.Rules.{rules}
 use Rattle.clock_run.proofs.last_of.Goals as goal
 
 pub returns-then-r-eq0 : goal.returns-then-r-eq0

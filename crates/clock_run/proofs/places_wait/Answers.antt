@@ -1,17 +1,10 @@
 -- `clock_run::places_wait` meets its contract. The loop's invariant: the threads below `i` wait. Assumes nothing.
-use borrow.Author.Tests.{not-true, not-false}
-use mathlib.Core.Bool.{Bool, true}
-use mathlib.Core.List.{List}
-use mathlib.Core.Path.{◌≡◌, sym, ap, ◌∙◌}
-use Prim.Native.Nat.{ℕ, ◌≤◌, ◌-◌}
+use mathlib.Core.Path.{sym, ap, ◌∙◌}
 use native.Mathlib.Omega.{arith}
-use lib.ListN.{get_or}
-use Rattle.state.specs.Rows.{all_below}
 use Rattle.plan.specs.Plan.{plan_of}
 use Rattle.plan_fitting.proofs.Loops.{all_none, All-more, all_done, all-fails}
 use Rattle.clock_steps.specs.Taking.{at_most}
-use Rattle.clock_run.specs.Running.{waits_at, places_wait}
-use borrow.Author.Rules.{rules}
+use Rattle.clock_run.specs.Running.{places_wait}
 use Rattle.clock_run.proofs.places_wait.Invariants.{test}
 use Rattle.clock_run.proofs.places_wait.Goals as goal
 

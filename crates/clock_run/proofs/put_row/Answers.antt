@@ -1,11 +1,8 @@
 -- `clock_run::put_row` meets its contract. The loop: the words so far put. Assumes nothing.
-use mathlib.Core.Path.{◌≡◌, refl, ◌∙◌}
-use Prim.Native.Nat.{◌-◌, ◌≤◌}
+use mathlib.Core.Path.{◌≡◌, refl}
 use native.Mathlib.Omega.{arith}
-use lib.ListN.{length, length-set}
-use Rattle.clock_run.specs.Traces.{word_of, put_words}
+use lib.ListN.{length-set}
 use Rattle.clock_run.proofs.Turns.{words-none, words_more}
-use borrow.Author.Rules.{rules}
 use Rattle.clock_run.proofs.put_row.Goals as goal
 
 pub loop-k-init : goal.loop-k-init

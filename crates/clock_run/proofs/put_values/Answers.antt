@@ -1,10 +1,7 @@
 -- `clock_run::put_values` meets its contract. The loop: the values so far put. Assumes nothing.
 use mathlib.Core.Path.{◌≡◌}
-use Prim.Native.Nat.{◌-◌, ◌≤◌}
 use native.Mathlib.Omega.{arith}
-use Rattle.clock_run.specs.Running.{put_values}
 use Rattle.clock_run.proofs.Turns.{values-none, values-more}
-use borrow.Author.Rules.{rules}
 use Rattle.clock_run.proofs.put_values.Goals as goal
 
 pub loop-v-init : goal.loop-v-init
@@ -16,7 +13,7 @@ pub loop-v-preserved : goal.loop-v-preserved
 loop-v-preserved c =
     let a = c.args in (
       omega arith,
-      values-more a.value.now a.unknown.now a.first a.at _ _ c.loop-v.invariant.1 c.item_at.ensures c.store-a.ensures
+      values-more a.value.now a.unknown.now a.first a.at _ _ c.loop-v.invariant.1 c.value_at.ensures c.store-a.ensures
           c.put_cell.ensures,
     )
 

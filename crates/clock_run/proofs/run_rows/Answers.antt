@@ -1,14 +1,10 @@
 -- `clock_run::run_rows` meets its contract. The loop: the rows that are left end where all of them do. Assumes nothing.
-use mathlib.Core.Path.{◌≡◌, refl, sym, ◌∙◌}
-use Prim.Native.Nat.{◌-◌, ◌/◌, ◌≤◌}
+use mathlib.Core.Path.{refl, sym, ◌∙◌}
+use native.Mathlib.Nat.{le_refl, le_antisymm}
 use native.Mathlib.Omega.{arith}
-use borrow.Author.Tests.{not-true, not-false}
-use lib.ListN.{length}
 use Rattle.plan.specs.Plan.{plan_of, node_at}
 use Rattle.clock_steps.specs.Taking.{stand}
-use Rattle.clock_run.specs.Running.{upper_of}
-use Rattle.clock_run.proofs.Turns.{Rest, rest-first, rest_end, rest-off, rest-on}
-use borrow.Author.Rules.{rules}
+use Rattle.clock_run.proofs.Turns.{rest-first, rest_end, rest-off, rest-on}
 use Rattle.clock_run.proofs.run_rows.Goals as goal
 
 pub loop-r-init : goal.loop-r-init
@@ -63,8 +59,9 @@ pub returns : goal.returns
 returns c =
     let a = c.args in
     let i = c.loop-r.invariant in
+    let e = le_antisymm i.0 c.loop-r-test.false in
     rest_end (plan_of a.plan.now) (node_at a.lent.now) a.table.now a.numbers.now a.before a.value.now
     a.unknown.now _
-    c.loop-r.r (stand c.loop-r.cells c.loop-r.places) i.5 _ _ (omega (arith, c.loop-r-test.false))
+    _ (stand c.loop-r.cells c.loop-r.places) (rw e at i.5) _ _ (le_refl _)
     c.last_of-last-2.ensures
     c.ended-2.ensures i.3

@@ -1,14 +1,11 @@
 -- `clock_run::run_rows` meets its contract. The loop: the rows that are left end where all of them do. Assumes nothing.
-use mathlib.Core.Path.{◌≡◌, refl, sym, ◌∙◌}
-use Prim.Native.Nat.{◌-◌, ◌/◌, ◌≤◌}
-use native.Mathlib.Omega.{arith}
-use borrow.Author.Tests.{not-true, not-false}
+use mathlib.Core.Path.{◌≡◌}
+use Prim.Native.Nat.{◌/◌, ◌≤◌}
 use lib.ListN.{length}
 use Rattle.plan.specs.Plan.{plan_of, node_at}
 use Rattle.clock_steps.specs.Taking.{stand}
 use Rattle.clock_run.specs.Running.{upper_of}
-use Rattle.clock_run.proofs.Turns.{Rest, rest-first, rest_end, rest-off, rest-on}
-use borrow.Author.Rules.{rules}
+use Rattle.clock_run.proofs.Turns.{Rest}
 use Rattle.clock_run.proofs.run_rows.Given as goal
 
 abbrev pub invariant-loop-r : goal.invariant-loop-r
@@ -19,7 +16,3 @@ invariant-loop-r l =
     × (l.rows ≡ length l.value / 16)
     × (l.n ≡ upper_of (plan_of l.plan))
     × Rest (plan_of l.plan) (node_at l.lent) l.table l.numbers l.before l.value l.unknown l.rows l.r (stand l.cells l.places)
-
-abbrev pub decreases-loop-r : goal.decreases-loop-r
-decreases-loop-r l =
-    l.rows - l.r

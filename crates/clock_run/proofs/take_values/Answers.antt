@@ -1,10 +1,7 @@
 -- `clock_run::take_values` meets its contract. The loop: the values so far taken. Assumes nothing.
 use mathlib.Core.Path.{◌≡◌}
-use Prim.Native.Nat.{◌-◌, ◌≤◌}
 use native.Mathlib.Omega.{arith}
-use Rattle.clock_run.specs.Running.{numbers_to, marks_to}
 use Rattle.clock_run.proofs.Turns.{numbers-none, numbers_more, marks-none, marks-more}
-use borrow.Author.Rules.{rules}
 use Rattle.clock_run.proofs.take_values.Goals as goal
 
 pub loop-r-init : goal.loop-r-init

@@ -1,6 +1,5 @@
 -- `clock_run::taken_of` meets its contract. Assumes nothing.
 use Rattle.clock_run.proofs.Turns.{taken_none, taken-some}
-use borrow.Author.Rules.{rules}
 use Rattle.clock_run.proofs.taken_of.Goals as goal
 
 pub returns-then-r-eq0 : goal.returns-then-r-eq0

@@ -1,10 +1,8 @@
 -- `clock_run::trace` meets its contract. Assumes nothing.
 use mathlib.Core.Path.{sym, ◌∙◌}
 use native.Mathlib.Omega.{arith}
-use borrow.Author.Tests.{not-true, not-false}
 use Rattle.plan.specs.Plan.{plan_of, node_at}
 use Rattle.clock_run.proofs.Turns.{trace-23, trace-31, trace-25, trace-all}
-use borrow.Author.Rules.{rules}
 use Rattle.clock_run.proofs.trace.Goals as goal
 
 pub overflow_mul-value : goal.overflow_mul-value

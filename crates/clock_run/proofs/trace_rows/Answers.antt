@@ -1,14 +1,10 @@
 -- `clock_run::trace_rows` meets its contract. The loop: the rows that are left end where all of them do. Assumes nothing.
-use mathlib.Core.Path.{◌≡◌, refl, sym, ap, ◌∙◌}
-use Prim.Native.Nat.{◌-◌, ◌*◌, ◌/◌, ◌≤◌}
+use mathlib.Core.Path.{sym, ◌∙◌}
+use native.Mathlib.Nat.{le_refl, le_antisymm}
 use native.Mathlib.Omega.{arith}
-use borrow.Author.Tests.{not-true, not-false}
-use lib.ListN.{length}
 use Rattle.plan.specs.Plan.{plan_of, node_at}
 use Rattle.clock_steps.specs.Taking.{stand}
-use Rattle.clock_run.specs.Running.{upper_of}
-use Rattle.clock_run.proofs.Turns.{Left, left-first, left_end, left-off, left-on, turn-length}
-use borrow.Author.Rules.{rules}
+use Rattle.clock_run.proofs.Turns.{left_end, left-off, left-on, turn-length}
 use Rattle.clock_run.proofs.trace_rows.Goals as goal
 
 pub overflow_mul-at : goal.overflow_mul-at
@@ -38,10 +34,6 @@ trace_turn-requires c =
     let i = c.loop-r.invariant in
     omega (arith, c.loop-r-test.true, i.3, i.4)
 
-pub overflow_add-r : goal.overflow_add-r
-overflow_add-r c =
-    omega (arith, c.loop-r-test.true, c.loop-r.invariant.1)
-
 pub loop-r-preserved : goal.loop-r-preserved
 loop-r-preserved c =
     let t = c.trace_turn in
@@ -66,6 +58,7 @@ pub returns : goal.returns
 returns c =
     let a = c.args in
     let i = c.loop-r.invariant in
+    let e = le_antisymm i.0 c.loop-r-test.false in
     left_end (plan_of a.plan.now) (node_at a.lent.now) a.table.now a.numbers.now a.before a.value.now
-    a.unknown.now a.out.now _ c.loop-r.r (stand c.loop-r.cells c.loop-r.places) c.loop-r.out i.8 _
-    (omega (arith, c.loop-r-test.false)) c.taken_of-last-2.ensures c.ended-2.ensures i.6
+    a.unknown.now a.out.now _ _ (stand c.loop-r.cells c.loop-r.places) c.loop-r.out (rw e at i.8) _
+    (le_refl _) c.taken_of-last-2.ensures c.ended-2.ensures i.6

@@ -4,7 +4,6 @@ use native.Mathlib.Omega.{arith}
 use lib.ListN.{length}
 use Rattle.plan.specs.Plan.{plan_of, node_at}
 use Rattle.clock_run.proofs.Turns.{turn-traced, words-length}
-use borrow.Author.Rules.{rules}
 use Rattle.clock_run.proofs.trace_turn.Goals as goal
 
 pub overflow_add-at : goal.overflow_add-at

@@ -1,7 +1,6 @@
 -- `clock_run::turn` meets its contract. Assumes nothing.
 use Rattle.plan.specs.Plan.{plan_of, node_at}
 use Rattle.clock_run.proofs.Turns.{turn_is}
-use borrow.Author.Rules.{rules}
 use Rattle.clock_run.proofs.turn.Goals as goal
 
 pub returns : goal.returns

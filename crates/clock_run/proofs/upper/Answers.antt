@@ -2,7 +2,6 @@
 use native.Mathlib.Omega.{arith}
 use Rattle.plan.specs.Plan.{plan_of}
 use Rattle.clock_run.proofs.Turns.{upper-none, upper-some}
-use borrow.Author.Rules.{rules}
 use Rattle.clock_run.proofs.upper.Goals as goal
 
 pub returns-then-n-eq0 : goal.returns-then-n-eq0

@@ -1,17 +1,7 @@
 -- `clock_run::values_fit` meets its contract. The loop's invariant: the values below `v` fit. Assumes nothing.
-use borrow.Author.Tests.{not-true, not-false}
-use mathlib.Core.Bool.{Bool, true}
-use mathlib.Core.List.{List}
-use mathlib.Core.Path.{◌≡◌}
-use Prim.Native.Nat.{ℕ, ◌+◌, ◌≤◌, ◌-◌}
 use native.Mathlib.Omega.{arith}
-use Rattle.values.specs.Values.{fits}
-use Rattle.values.specs.Planes.{value_at}
-use Rattle.state.specs.Rows.{all_below}
-use Rattle.plan.specs.Plan.{plan_of}
 use Rattle.plan_fitting.proofs.Loops.{all_none, All-more, all_done, all-fails, value_found}
 use Rattle.clock_run.specs.Running.{values_fit}
-use borrow.Author.Rules.{rules}
 use Rattle.clock_run.proofs.values_fit.Invariants.{test}
 use Rattle.clock_run.proofs.values_fit.Goals as goal
 
@@ -26,7 +16,7 @@ returns-then-not-fits c =
     let p = c.args in
     let t = c.if-not-fits.true in
     all-fails (test p.plan.now p.from p.value.now p.unknown.now p.at) c.loop-v.v p.n c.loop-v-test.true
-    (value_found c.width.ensures c.item_at.ensures c.fits.ensures t)
+    (value_found c.width.ensures c.value_at.ensures c.fits.ensures t)
 
 pub loop-v-preserved : goal.loop-v-preserved
 loop-v-preserved c =
@@ -34,7 +24,7 @@ loop-v-preserved c =
     let t = c.if-not-fits.false in (
       omega arith,
       All-more (test p.plan.now p.from p.value.now p.unknown.now p.at) c.loop-v.v c.loop-v.invariant.1
-          (value_found c.width.ensures c.item_at.ensures c.fits.ensures t),
+          (value_found c.width.ensures c.value_at.ensures c.fits.ensures t),
     )
 
 pub returns : goal.returns

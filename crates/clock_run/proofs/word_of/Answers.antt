@@ -1,7 +1,7 @@
 -- `clock_run::word_of` meets its contract, by the kinds of words. Assumes nothing.
+use mathlib.Core.Path.{refl}
 use native.Mathlib.Omega.{arith}
 use Rattle.clock_run.proofs.Turns.{word-clock, word-place, word_cell, word-past}
-use borrow.Author.Rules.{rules}
 use Rattle.clock_run.proofs.word_of.Goals as goal
 
 pub returns-then-k-eq0 : goal.returns-then-k-eq0
@@ -10,7 +10,7 @@ returns-then-k-eq0 c =
 
 pub returns-then-k-ge80 : goal.returns-then-k-ge80
 returns-then-k-ge80 c =
-    word-place _ _ _ _ _ c.if-k-eq0.false c.if-k-ge80.true c.long.ensures
+    word-place _ _ _ _ _ c.if-k-eq0.false c.if-k-ge80.true refl
 
 pub returns-then-k-end : goal.returns-then-k-end
 returns-then-k-end c =

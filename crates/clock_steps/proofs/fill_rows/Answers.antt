@@ -1,12 +1,8 @@
 -- `clock_steps::fill_rows` meets its contract. The loop: the threads so far numbered, their rows filled. Assumes nothing.
-use mathlib.Core.Path.{◌≡◌}
-use Prim.Native.Nat.{◌-◌, ◌*◌, ◌≤◌}
 use native.Mathlib.Omega.{arith}
 use Rattle.plan.specs.Plan.{plan_of}
-use Rattle.clock_steps.specs.Numbers.{rows_to, numbers_to, fill_below}
 use Rattle.clock_steps.proofs.Numbers.{rows_none, rows_more, numbers-none, numbers_more, numbers-all, below_none, below_more}
 use Rattle.clock_steps.proofs.Numbers.{below_all}
-use borrow.Author.Rules.{rules}
 use Rattle.clock_steps.proofs.fill_rows.Goals as goal
 
 pub loop-i-init : goal.loop-i-init

@@ -1,12 +1,8 @@
 -- `clock_steps::fill_rows` meets its contract. The loop: the threads so far numbered, their rows filled. Assumes nothing.
 use mathlib.Core.Path.{◌≡◌}
-use Prim.Native.Nat.{◌-◌, ◌*◌, ◌≤◌}
-use native.Mathlib.Omega.{arith}
+use Prim.Native.Nat.{◌*◌, ◌≤◌}
 use Rattle.plan.specs.Plan.{plan_of}
 use Rattle.clock_steps.specs.Numbers.{rows_to, numbers_to, fill_below}
-use Rattle.clock_steps.proofs.Numbers.{rows_none, rows_more, numbers-none, numbers_more, numbers-all, below_none, below_more}
-use Rattle.clock_steps.proofs.Numbers.{below_all}
-use borrow.Author.Rules.{rules}
 use Rattle.clock_steps.proofs.fill_rows.Given as goal
 
 abbrev pub invariant-loop-i : goal.invariant-loop-i
@@ -17,7 +13,3 @@ invariant-loop-i l =
     × (l.k ≡ rows_to (plan_of l.plan) l.i)
     × (l.numbers ≡ numbers_to (plan_of l.plan) l.i l.initial.numbers)
     × (l.table ≡ fill_below l.nodes l.lows l.rows (plan_of l.plan) l.written l.i l.initial.table)
-
-abbrev pub decreases-loop-i : goal.decreases-loop-i
-decreases-loop-i l =
-    l.threads - l.i

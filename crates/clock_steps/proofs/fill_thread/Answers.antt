@@ -1,10 +1,7 @@
 -- `clock_steps::fill_thread` meets its contract. The loop: the rows so far filled. Assumes nothing.
 use mathlib.Core.Path.{◌≡◌}
-use Prim.Native.Nat.{◌-◌, ◌≤◌}
 use native.Mathlib.Omega.{arith}
-use Rattle.clock_steps.specs.Numbers.{fill_from}
 use Rattle.clock_steps.proofs.Numbers.{fill_none, fill_more}
-use borrow.Author.Rules.{rules}
 use Rattle.clock_steps.proofs.fill_thread.Goals as goal
 
 pub loop-k-init : goal.loop-k-init
@@ -19,7 +16,6 @@ loop-k-preserved c =
       omega arith,
       omega arith,
       fill_more a.nodes.now a.lows.now a.rows.now a.written a.first _ _ i.0 i.2
-          c.row_of.ensures
           c.fill_row.ensures,
     )
 

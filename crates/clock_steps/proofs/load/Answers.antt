@@ -1,10 +1,7 @@
 -- `clock_steps::load` meets its contract. The loop: the registers so far copied. Assumes nothing.
 use mathlib.Core.Path.{◌≡◌}
-use Prim.Native.Nat.{◌-◌, ◌≤◌}
 use native.Mathlib.Omega.{arith}
-use Rattle.clock_steps.specs.Taking.{load_to}
 use Rattle.clock_steps.proofs.Turns.{load-none, load-more}
-use borrow.Author.Rules.{rules}
 use Rattle.clock_steps.proofs.load.Goals as goal
 
 pub loop-r-init : goal.loop-r-init

@@ -1,11 +1,7 @@
 -- `clock_steps::number_thread` meets its contract. The loop: the waits so far counted, the places so far numbered. Assumes nothing.
-use mathlib.Core.Path.{◌≡◌}
-use Prim.Native.Nat.{◌+◌, ◌-◌, ◌≤◌}
 use native.Mathlib.Omega.{arith}
 use Rattle.plan.specs.Plan.{plan_of}
-use Rattle.clock_steps.specs.Numbers.{waits_to, number_to}
-use Rattle.clock_steps.proofs.Numbers.{waits-none, waits-more, number-none, number_more, number-all, waits-all}
-use borrow.Author.Rules.{rules}
+use Rattle.clock_steps.proofs.Numbers.{waits-none, waits-more, number-none, number_more, number-all, waits-all, from-small}
 use Rattle.clock_steps.proofs.number_thread.Goals as goal
 
 pub loop-p-init : goal.loop-p-init
@@ -23,11 +19,11 @@ loop-p-preserved c =
     let a = c.args in (
       omega arith,
       omega arith,
-      omega (arith, c.one-k.ensures.upper_bound),
+      omega (arith, c.from-k.ensures, from-small c.waits.result),
       waits-more (plan_of a.plan.now) a.i a.first _ c.loop-p.invariant.3
-          c.byte.ensures c.waits.ensures c.one-k.ensures.value,
+          c.waits.ensures c.from-k.ensures,
       number_more (plan_of a.plan.now) a.i a.first _ _ c.loop-p.invariant.4
-          c.loop-p.invariant.3 c.low.ensures,
+          c.loop-p.invariant.3,
     )
 
 pub returns : goal.returns

@@ -1,7 +1,6 @@
 -- `clock_steps::place_of` meets its contract. Assumes nothing.
-use borrow.Author.Rules.{rules}
 use Rattle.clock_steps.proofs.place_of.Goals as goal
 
 pub returns : goal.returns
 returns c =
-    rw (c.number_of-p.ensures, c.load.ensures)
+    rw (c.number_of.ensures, c.load.ensures)

@@ -2,7 +2,6 @@
 use mathlib.Core.Path.{refl}
 use Rattle.plan.specs.Plan.{plan_of, node_at}
 use Rattle.clock_steps.proofs.Turns.{rises}
-use borrow.Author.Rules.{rules}
 use Rattle.clock_steps.proofs.rise.Goals as goal
 
 pub returns : goal.returns

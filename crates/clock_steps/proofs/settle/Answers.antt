@@ -1,11 +1,7 @@
 -- `clock_steps::settle` meets its contract. The loop: the wires so far settled. Assumes nothing.
-use mathlib.Core.Path.{◌≡◌}
-use Prim.Native.Nat.{◌-◌, ◌≤◌}
 use native.Mathlib.Omega.{arith}
 use Rattle.plan.specs.Plan.{plan_of}
-use Rattle.clock_steps.specs.Settling.{settle_to}
 use Rattle.clock_steps.proofs.Turns.{settle-none, settle-more, settle-all}
-use borrow.Author.Rules.{rules}
 use Rattle.clock_steps.proofs.settle.Goals as goal
 
 pub loop-k-init : goal.loop-k-init

@@ -1,6 +1,5 @@
 -- `clock_steps::settle_wire` meets its contract. Assumes nothing.
 use Rattle.clock_steps.specs.Settling.{root_of, work_wire, settle_wire}
-use borrow.Author.Rules.{rules}
 use Rattle.clock_steps.proofs.settle_wire.Goals as goal
 
 pub returns : goal.returns

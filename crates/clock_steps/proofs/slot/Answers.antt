@@ -2,7 +2,6 @@
 use borrow.Author.Tests.{lt-ltb, le-ltb}
 use native.Mathlib.Omega.{arith}
 use Rattle.plan.specs.Sections.{slot_of}
-use borrow.Author.Rules.{rules}
 use Rattle.clock_steps.proofs.slot.Goals as goal
 
 pub returns-then-n-lt4176 : goal.returns-then-n-lt4176

@@ -1,10 +1,7 @@
 -- `clock_steps::store` meets its contract. The loop: the registers so far put back. Assumes nothing.
 use mathlib.Core.Path.{◌≡◌}
-use Prim.Native.Nat.{◌-◌, ◌≤◌}
 use native.Mathlib.Omega.{arith}
-use Rattle.clock_steps.specs.Taking.{store_to}
 use Rattle.clock_steps.proofs.Turns.{store-none, store-more}
-use borrow.Author.Rules.{rules}
 use Rattle.clock_steps.proofs.store.Goals as goal
 
 pub loop-r-init : goal.loop-r-init

@@ -1,11 +1,8 @@
 -- `clock_steps::take` meets its contract. The loop: the threads so far taken. Assumes nothing.
 use mathlib.Core.Path.{◌≡◌}
-use Prim.Native.Nat.{◌-◌, ◌≤◌}
 use native.Mathlib.Omega.{arith}
 use Rattle.plan.specs.Plan.{node_at}
-use Rattle.clock_steps.specs.Taking.{taking, take_below}
 use Rattle.clock_steps.proofs.Turns.{threads-none, threads_more}
-use borrow.Author.Rules.{rules}
 use Rattle.clock_steps.proofs.take.Goals as goal
 
 pub loop-i-init : goal.loop-i-init

@@ -1,7 +1,6 @@
 -- `clock_steps::take_register` meets its contract. Assumes nothing.
 use Rattle.values.specs.Cells.{cell_at}
 use Rattle.clock_steps.specs.Taking.{entry_cell, take_register}
-use borrow.Author.Rules.{rules}
 use Rattle.clock_steps.proofs.take_register.Goals as goal
 
 pub returns-then-has : goal.returns-then-has

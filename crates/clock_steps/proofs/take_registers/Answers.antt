@@ -1,10 +1,7 @@
 -- `clock_steps::take_registers` meets its contract. The loop: the registers so far taken. Assumes nothing.
 use mathlib.Core.Path.{◌≡◌}
-use Prim.Native.Nat.{◌-◌, ◌≤◌}
 use native.Mathlib.Omega.{arith}
-use Rattle.clock_steps.specs.Taking.{take_registers}
 use Rattle.clock_steps.proofs.Turns.{registers-none, registers-more}
-use borrow.Author.Rules.{rules}
 use Rattle.clock_steps.proofs.take_registers.Goals as goal
 
 pub loop-r-init : goal.loop-r-init

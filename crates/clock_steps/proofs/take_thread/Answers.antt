@@ -1,6 +1,5 @@
 -- `clock_steps::take_thread` meets its contract. Assumes nothing.
 use Rattle.clock_steps.specs.Taking.{entry_cell, place_of, take_row, take_thread}
-use borrow.Author.Rules.{rules}
 use Rattle.clock_steps.proofs.take_thread.Goals as goal
 
 pub returns : goal.returns

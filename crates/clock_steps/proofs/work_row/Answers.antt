@@ -1,9 +1,8 @@
 -- `clock_steps::work_row` meets its contract. Assumes nothing.
 use Rattle.clock_steps.specs.Taking.{work_row}
-use borrow.Author.Rules.{rules}
 use Rattle.clock_steps.proofs.work_row.Goals as goal
 
 pub returns : goal.returns
 unfolding work_row
 returns c =
-    rw (c.work.ensures, c.place-lo.ensures, c.place-hi.ensures)
+    c.work.ensures

@@ -1,5 +1,4 @@
 -- `counted::differs` meets its contract. Assumes nothing.
-use borrow.Author.Rules.{rules}
 use Rattle.counted.proofs.Counting.{differs-law}
 use Rattle.counted.proofs.differs.Goals as goal
 

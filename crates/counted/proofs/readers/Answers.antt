@@ -1,11 +1,8 @@
 -- `counted::readers` meets its contract. The loop: the wires so far are counted. Assumes nothing.
-use Prim.Native.Nat.{◌≤◌, ◌-◌}
 use native.Mathlib.Omega.{arith}
 use mathlib.Core.Path.{◌≡◌, ◌∙◌, ap}
-use Rattle.plan.specs.Plan.{plan_of}
 use Rattle.counted.specs.Counted.{readers_at}
-use Rattle.counted.proofs.Counting.{readers-first, readers-next}
-use borrow.Author.Rules.{rules}
+use Rattle.counted.proofs.Counting.{readers-first, readers-next, from-small}
 use Rattle.counted.proofs.readers.Goals as goal
 
 pub loop-k-init : goal.loop-k-init
@@ -16,8 +13,8 @@ pub loop-k-preserved : goal.loop-k-preserved
 loop-k-preserved c =
     let l = c.loop-k in (
       omega arith,
-      omega (arith, c.one-count.ensures.upper_bound),
-      readers-next _ _ _ l.k l.count _ l.invariant.2 c.reads_changed-reads.ensures c.one-count.ensures.value,
+      omega (arith, c.from-count.ensures, from-small c.reads_changed-reads.result),
+      readers-next _ _ _ l.k l.count _ l.invariant.2 c.reads_changed-reads.ensures c.from-count.ensures,
     )
 
 pub returns : goal.returns

@@ -1,12 +1,7 @@
 -- `counted::reads_changed` meets its contract. The loop: of the variables so far none is read and has changed. Assumes nothing.
-use Prim.Native.Nat.{◌≤◌, ◌-◌}
 use native.Mathlib.Omega.{arith}
 use mathlib.Core.Path.{◌≡◌, sym, ◌∙◌}
-use mathlib.Core.Bool.{false}
-use Rattle.plan.specs.Plan.{plan_of}
-use Rattle.counted.specs.Counted.{reads_changed}
 use Rattle.counted.proofs.Counting.{reads_first, reads-found, reads-next}
-use borrow.Author.Rules.{rules}
 use Rattle.counted.proofs.reads_changed.Goals as goal
 
 pub loop-v-init : goal.loop-v-init

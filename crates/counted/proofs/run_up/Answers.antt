@@ -1,15 +1,12 @@
 -- `counted::run_up` meets its contract. The loop: the choices so far accepted and the wires so far stored, and then the run of the
 -- choices that are left, are the whole run. Assumes nothing.
-use Prim.Native.Nat.{ℕ, ◌≤◌, ◌-◌}
 use native.Mathlib.Omega.{arith}
 use mathlib.Core.Path.{◌≡◌, sym, ap, ◌∙◌}
 use Rattle.plan.specs.Plan.{plan_of}
 use Rattle.plan_engine.specs.Live.{live}
 use Rattle.plan_engine.specs.Taking.{Taken}
 use Rattle.plan_engine.proofs.Taking.{choice-room}
-use Rattle.counted.specs.Counted.{up_to}
-use Rattle.counted.proofs.Counting.{ahead, up-whole, up-end, up-stop, up-on, up-off}
-use borrow.Author.Rules.{rules}
+use Rattle.counted.proofs.Counting.{up-whole, up-end, up-stop, up-on, up-off}
 use Rattle.counted.proofs.run_up.Goals as goal
 
 pub loop-i-init : goal.loop-i-init
@@ -59,6 +56,7 @@ pub returns : goal.returns
 returns c =
     let p = c.loop-i in
     let q = plan_of c.args.plan.now in
-    sym (up-end q p.left (live p.cells p.pending p.places p.m) p.i p.stores
+    let e : p.i ≡ c.args.limit = omega arith in
+    sym (up-end q p.left (live p.cells p.pending p.places p.m) c.args.limit p.stores
     c.args.limit (omega arith))
-    ∙ p.invariant.2
+    ∙ (rw e at p.invariant.2)

@@ -1,7 +1,5 @@
 -- `counted::stored` meets its contract. Assumes nothing.
 use native.Mathlib.Omega.{arith}
-use borrow.Author.Rules.{rules}
-use mathlib.Core.Path.{◌≡◌, ap, ◌∙◌}
 use Rattle.counted.proofs.Counting.{stores-thread, stores-wire}
 use Rattle.counted.proofs.stored.Goals as goal
 

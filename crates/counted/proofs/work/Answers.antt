@@ -1,11 +1,9 @@
 -- `counted::work` meets its contract: each way through the code is a law of proofs/Counting. Assumes nothing.
 use mathlib.Core.Path.{sym, ◌∙◌}
 use native.Mathlib.Omega.{arith}
-use borrow.Author.Tests.{not-true, not-false}
 use Rattle.plan.specs.Plan.{plan_of}
 use Rattle.prepared.proofs.Ways.{laid}
 use Rattle.counted.proofs.Counting.{work-unfit, work-userless, work-fit}
-use borrow.Author.Rules.{rules}
 use Rattle.counted.proofs.work.Goals as goal
 
 pub returns-then-not-state_fits : goal.returns-then-not-state_fits

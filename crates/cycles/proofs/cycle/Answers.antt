@@ -1,5 +1,4 @@
 -- `cycles::cycle` meets its contract: what `prepare` refuses, and the call on what it filled. Assumes nothing.
-use borrow.Author.Rules.{rules}
 use mathlib.Core.Path.{sym, ◌∙◌}
 use Rattle.cycles.proofs.Claims.{cycle-off, cycle-on, whole}
 use Rattle.cycles.proofs.cycle.Goals as goal

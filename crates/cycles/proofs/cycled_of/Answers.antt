@@ -1,5 +1,4 @@
 -- `cycles::cycled_of` meets its contract. Assumes nothing.
-use borrow.Author.Rules.{rules}
 use Rattle.cycles.specs.Claims.{cycled_of}
 use Rattle.cycles.proofs.cycled_of.Goals as goal
 

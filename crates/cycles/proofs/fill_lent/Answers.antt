@@ -1,5 +1,4 @@
 -- `cycles::fill_lent` meets its contract. Assumes nothing.
-use borrow.Author.Rules.{rules}
 use Rattle.cycles.proofs.Preparing.{lent-filled}
 use Rattle.cycles.proofs.fill_lent.Goals as goal
 

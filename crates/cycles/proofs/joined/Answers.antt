@@ -1,8 +1,6 @@
 -- `cycles::joined` meets its contract. The loop: the threads so far joined. Assumes nothing.
-use borrow.Author.Rules.{rules}
-use Prim.Native.Nat.{◌-◌, ◌≤◌}
 use native.Mathlib.Omega.{arith}
-use Rattle.cycles.proofs.Masks.{Joined, joined-none, joined-more, joined-all}
+use Rattle.cycles.proofs.Masks.{joined-none, joined-more, joined-all}
 use Rattle.cycles.proofs.joined.Goals as goal
 
 pub loop-i-init : goal.loop-i-init

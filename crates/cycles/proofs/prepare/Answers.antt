@@ -1,6 +1,4 @@
 -- `cycles::prepare` meets its contract: each way through the code is a law of proofs/Preparing. Assumes nothing.
-use borrow.Author.Rules.{rules}
-use borrow.Author.Tests.{not-true, not-false}
 use Rattle.cycles.specs.Preparing.{filled}
 use Rattle.cycles.proofs.Preparing.{wrong-nodes, wrong-rows, wrong-sheet, lent-wrong, lent-right}
 use Rattle.cycles.proofs.prepare.Goals as goal

@@ -1,5 +1,4 @@
 -- `cycles::run` meets its contract: what `prepare` refuses, and the call on what it filled. Assumes nothing.
-use borrow.Author.Rules.{rules}
 use mathlib.Core.Path.{sym, ap, ◌∙◌}
 use Rattle.cycles.specs.Many.{ended}
 use Rattle.cycles.specs.Claims.{cycled_of}

@@ -1,5 +1,4 @@
 -- `driving::begin` meets its contract. Assumes nothing.
-use borrow.Author.Rules.{rules}
 use Rattle.driving.proofs.Plans.{begun-is}
 use Rattle.driving.proofs.begin.Goals as goal
 

@@ -1,5 +1,4 @@
 -- `driving::ending_of` meets its contract. Assumes nothing.
-use borrow.Author.Rules.{rules}
 use Rattle.driving.proofs.Endings.{ending-refused, ending-rested, ending-restless}
 use Rattle.driving.proofs.ending_of.Goals as goal
 

@@ -1,5 +1,4 @@
 -- `driving::line_outcome` meets its contract. Assumes nothing.
-use borrow.Author.Rules.{rules}
 use borrow.Author.Tests.{lt-ltb, le-ltb}
 use Rattle.driving.specs.Endings.{line_outcome}
 use Rattle.driving.proofs.line_outcome.Goals as goal
@@ -9,7 +8,7 @@ unfolding line_outcome
 returns-then-error-lt2 c =
     rw (lt-ltb _ _ c.if-error-lt2.true)
 
-pub returns : goal.returns
+pub returns-else-error-lt2 : goal.returns-else-error-lt2
 unfolding line_outcome
-returns c =
+returns-else-error-lt2 c =
     rw (le-ltb _ _ c.if-error-lt2.false)

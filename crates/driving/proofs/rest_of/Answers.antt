@@ -1,5 +1,4 @@
 -- `driving::rest_of` meets its contract. Assumes nothing.
-use borrow.Author.Rules.{rules}
 use Rattle.driving.specs.Plans.{rest_of}
 use Rattle.driving.proofs.rest_of.Goals as goal
 

@@ -1,5 +1,4 @@
 -- `driving::resume` meets its contract. Assumes nothing.
-use borrow.Author.Rules.{rules}
 use Rattle.driving.proofs.Plans.{resumed-is}
 use Rattle.driving.proofs.resume.Goals as goal
 

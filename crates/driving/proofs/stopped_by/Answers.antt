@@ -1,5 +1,4 @@
 -- `driving::stopped_by` meets its contract. Assumes nothing.
-use borrow.Author.Rules.{rules}
 use Rattle.driving.proofs.Plans.{stopped-refused, stopped-rested, stopped-used-up, stopped-spent}
 use Rattle.driving.proofs.stopped_by.Goals as goal
 

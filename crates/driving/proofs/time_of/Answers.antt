@@ -1,5 +1,4 @@
 -- `driving::time_of` meets its contract. Assumes nothing.
-use borrow.Author.Rules.{rules}
 use mathlib.Core.Path.{refl}
 use Rattle.driving.specs.Endings.{time_of}
 use Rattle.driving.proofs.time_of.Goals as goal

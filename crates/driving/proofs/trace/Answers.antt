@@ -1,5 +1,4 @@
 -- `driving::trace` meets its contract: no rows, or the cycles driven. Assumes nothing.
-use borrow.Author.Rules.{rules}
 use Rattle.plan.specs.Plan.{plan_of}
 use Rattle.driving.proofs.Plans.{traced-none, traced-run}
 use Rattle.driving.proofs.trace.Goals as goal

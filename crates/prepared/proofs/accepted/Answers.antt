@@ -1,15 +1,17 @@
 -- `prepared::accepted` meets its contract. Assumes nothing.
-use mathlib.Core.Path.{refl}
-use borrow.Author.Tests.{eq-eqb, ne_eqb}
+use mathlib.Core.Path.{◌≡◌, refl, ◌∙◌}
+use mathlib.Core.Bool.{Bool, true, false}
+use lib.Dec.{eqb}
+use Rattle.std.specs.Int.{from_bool}
+use Rattle.values.specs.Values.{pick}
 use Rattle.prepared.specs.Prepared.{accepted}
 use Rattle.prepared.proofs.accepted.Goals as goal
 
-pub returns-then-number-eq0 : goal.returns-then-number-eq0
-unfolding accepted
-returns-then-number-eq0 c =
-    rw (eq-eqb _ _ c.if-number-eq0.true) refl
+counted : (b : Bool) → from_bool b ≡ pick b 1 0
+counted true = refl
+counted false = refl
 
-pub returns-else-number-eq0 : goal.returns-else-number-eq0
+pub returns : goal.returns
 unfolding accepted
-returns-else-number-eq0 c =
-    rw (ne_eqb _ _ c.if-number-eq0.false) refl
+returns c =
+    c.from.ensures ∙ counted (eqb c.args.number 0)

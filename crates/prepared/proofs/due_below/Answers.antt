@@ -1,12 +1,9 @@
 -- `prepared::due_below` meets its contract. The loop's invariant: the marks so far are those of the wires below `k`. Assumes nothing.
 use mathlib.Core.Path.{◌≡◌, ◌∙◌}
-use Prim.Native.Nat.{◌≤◌, ◌-◌}
 use native.Mathlib.Numerals.{add-one}
 use native.Mathlib.Omega.{arith}
-use Rattle.masks.specs.Masks.{bits}
 use Rattle.masks.proofs.Masks.{bits-zero}
 use Rattle.events.specs.Calls.{due_below}
-use borrow.Author.Rules.{rules}
 use Rattle.prepared.proofs.due_below.Goals as goal
 
 pub loop-k-init : goal.loop-k-init

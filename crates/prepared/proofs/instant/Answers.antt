@@ -1,10 +1,8 @@
 -- `prepared::instant` meets its contract: each way through the code is a law of proofs/Ways. Assumes nothing.
 use mathlib.Core.Path.{sym, ◌∙◌}
-use borrow.Author.Tests.{not-true, not-false}
 use Rattle.events.specs.Calls.{input_of}
 use Rattle.plan.specs.Plan.{plan_of}
 use Rattle.prepared.proofs.Ways.{laid, instant-unfit, instant-wide, instant-busy, instant-late, instant-done}
-use borrow.Author.Rules.{rules}
 use Rattle.prepared.proofs.instant.Goals as goal
 
 pub returns-then-not-state_fits : goal.returns-then-not-state_fits
@@ -24,12 +22,12 @@ returns-then-busy c =
     (sym c.inputs_fit.ensures ∙ c.if-not-inputs_fit.false) _ c.unpack-marks.ensures
     (sym (c.busy.ensures _ _ _) ∙ c.if-busy.true))
 
-pub returns-then-old : goal.returns-then-old
-returns-then-old c =
-    rw c.refused-then-old.ensures
+pub returns-then-st : goal.returns-then-st
+returns-then-st c =
+    rw c.refused-then-st.ensures
     (instant-late _ _ (sym c.state_fits.ensures ∙ c.if-not-state_fits.false) _
     (sym c.inputs_fit.ensures ∙ c.if-not-inputs_fit.false) _ c.unpack-marks.ensures
-    (sym (c.busy.ensures _ _ _) ∙ c.if-busy.false) c.if-old.true)
+    (sym (c.busy.ensures _ _ _) ∙ c.if-busy.false) c.if-st.true)
 
 pub returns : goal.returns
 unfolding input_of
@@ -38,5 +36,5 @@ returns c =
     instant-done (plan_of p.plan.now) p.st (sym c.state_fits.ensures ∙ c.if-not-state_fits.false) _
     (sym c.inputs_fit.ensures ∙ c.if-not-inputs_fit.false) _
     (laid (plan_of p.plan.now) p.st _ _ _ _ c.slots_of-pending.ensures c.unpack-marks.ensures)
-    (sym (c.busy.ensures _ _ _) ∙ c.if-busy.false) c.if-old.false _ _ _ c.later-counters.ensures
+    (sym (c.busy.ensures _ _ _) ∙ c.if-busy.false) c.if-st.false _ _ _ c.later-counters.ensures
     c.feed-left.ensures c.pack-state.ensures

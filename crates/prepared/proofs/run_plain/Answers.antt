@@ -1,10 +1,8 @@
 -- `prepared::run_plain` meets its contract: each way through the code is a law of proofs/Ways. Assumes nothing.
 use mathlib.Core.Path.{sym, ◌∙◌}
 use native.Mathlib.Omega.{arith}
-use borrow.Author.Tests.{not-true, not-false}
 use Rattle.plan.specs.Plan.{plan_of}
 use Rattle.prepared.proofs.Ways.{laid, plain-unfit, plain-userless, plain-fit}
-use borrow.Author.Rules.{rules}
 use Rattle.prepared.proofs.run_plain.Goals as goal
 
 pub returns-then-not-state_fits : goal.returns-then-not-state_fits

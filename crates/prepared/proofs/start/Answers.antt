@@ -2,7 +2,6 @@
 use mathlib.Core.Path.{refl}
 use Rattle.events.specs.Calls.{started}
 use Rattle.prepared.specs.Prepared.{start_at}
-use borrow.Author.Rules.{rules}
 use Rattle.prepared.proofs.start.Goals as goal
 
 pub returns : goal.returns

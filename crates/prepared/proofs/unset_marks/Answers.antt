@@ -1,16 +1,13 @@
 -- `prepared::unset_marks` meets its contract. The loop's invariant: the marks of the variables so far are stored. Assumes nothing.
 use mathlib.Core.Path.{◌≡◌, refl, ◌∙◌}
-use Prim.Native.Nat.{◌≤◌, ◌-◌}
 use native.Mathlib.Omega.{arith}
 use lib.ListN.{get_or}
-use lib.Seq.{sets}
 use Rattle.values.specs.Values.{ones}
 use Rattle.state.specs.Rows.{list_of}
 use Rattle.state.proofs.Rows.{list_of-step, list_of-whole}
 use Rattle.plan.specs.Plan.{plan_of}
 use Rattle.prepared.specs.Prepared.{widths_of}
 use Rattle.prepared.proofs.Ways.{unset-marks}
-use borrow.Author.Rules.{rules}
 use Rattle.prepared.proofs.unset_marks.Goals as goal
 
 pub loop-v-init : goal.loop-v-init

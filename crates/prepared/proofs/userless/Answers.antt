@@ -1,7 +1,6 @@
 -- `prepared::userless` meets its contract: each way through the code is a law of proofs/Ways. Assumes nothing.
 use native.Mathlib.Omega.{arith}
 use Rattle.prepared.proofs.Ways.{userless-item, userless-commit, userless-none}
-use borrow.Author.Rules.{rules}
 use Rattle.prepared.proofs.userless.Goals as goal
 
 pub returns-then-c-threads : goal.returns-then-c-threads

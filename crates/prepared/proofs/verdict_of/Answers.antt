@@ -1,7 +1,6 @@
 -- `prepared::verdict_of` meets its contract: each way through the code is a law of proofs/Ways. Assumes nothing.
 use mathlib.Core.Path.{sym, ◌∙◌}
 use Rattle.prepared.proofs.Ways.{verdict-stopped, verdict-spent, verdict-quiet}
-use borrow.Author.Rules.{rules}
 use Rattle.prepared.proofs.verdict_of.Goals as goal
 
 pub returns-then-number-ne0 : goal.returns-then-number-ne0

@@ -3,7 +3,6 @@ use mathlib.Core.Path.{◌∙◌}
 use native.Mathlib.Omega.{arith}
 use Rattle.plan_fitting.proofs.Judged.{inputs-byte, registers-byte, wires-byte}
 use Rattle.prepared.proofs.Ways.{width-within, width-past}
-use borrow.Author.Rules.{rules}
 use Rattle.prepared.proofs.width_at.Goals as goal
 
 pub overflow_add-inputs : goal.overflow_add-inputs

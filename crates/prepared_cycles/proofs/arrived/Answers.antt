@@ -1,5 +1,4 @@
 -- `prepared_cycles::arrived` meets its contract. Assumes nothing.
-use borrow.Author.Rules.{rules}
 use Rattle.prepared_cycles.proofs.Driving.{arrived-is}
 use Rattle.prepared_cycles.proofs.arrived.Goals as goal
 

@@ -1,8 +1,6 @@
 -- `prepared_cycles::drive` meets its contract: an array that is too short, a state that doesn't fit, a user above 3, rows that aren't
 -- whole, or the instants. Assumes nothing.
 use native.Mathlib.Omega.{arith}
-use borrow.Author.Rules.{rules}
-use borrow.Author.Tests.{not-true, not-false}
 use mathlib.Core.Path.{sym, ◌∙◌}
 use Rattle.prepared_cycles.proofs.Items.{whole-lengths}
 use Rattle.prepared_cycles.proofs.Driving.{drive-short, drive-unfit, drive-userless, drive-ragged, drive-run}

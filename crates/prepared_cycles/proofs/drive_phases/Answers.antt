@@ -1,11 +1,10 @@
 -- `prepared_cycles::drive_phases` meets its contract. The loop: the instants that are left, from what was reached and written, end and
 -- leave what all of them do from the start. Assumes nothing.
-use borrow.Author.Rules.{rules}
+use native.Mathlib.Nat.{le_refl, le_antisymm}
 use native.Mathlib.Omega.{arith}
 use borrow.Author.Tests.{not-true, not-false}
-use mathlib.Core.Path.{◌≡◌, refl, sym, ap, ◌∙◌}
+use mathlib.Core.Path.{refl, sym, ap, ◌∙◌}
 use mathlib.Core.Bool.{true}
-use Prim.Native.Nat.{◌-◌, ◌≤◌}
 use Rattle.events.specs.declared.Inputs.{Inputs}
 use Rattle.plan.specs.Plan.{plan_of}
 use Rattle.prepared_cycles.specs.Cycles.{row_inputs}
@@ -14,7 +13,7 @@ use Rattle.prepared_cycles.specs.Traces.{rounds}
 use Rattle.prepared_cycles.specs.Drives.{going, going_of, on_plan, drive, drives, rows, arrived}
 use Rattle.prepared_cycles.proofs.Items.{row_inside, row_written}
 use Rattle.prepared_cycles.proofs.Going.{laid-out}
-use Rattle.prepared_cycles.proofs.Tracing.{Kept, kept-written, row_room}
+use Rattle.prepared_cycles.proofs.Tracing.{kept-written, row_room}
 use Rattle.prepared_cycles.proofs.Driving.{drives-whole, drives-end, drives-on, drives-off}
 use Rattle.prepared_cycles.proofs.Driving.{rows_whole, rows_end, rows_on, rows-off}
 use Rattle.prepared_cycles.proofs.drive_phases.Goals as goal
@@ -72,14 +71,6 @@ pub put_row-requires : goal.put_row-requires
 put_row-requires c =
     row_room c.loop-p.invariant.1 _ c.loop-p-test.true
 
-pub overflow_add-p : goal.overflow_add-p
-overflow_add-p c =
-    omega (arith, c.loop-p-test.true, c.loop-p.invariant.1.few)
-
-pub loop-p-smaller : goal.loop-p-smaller
-loop-p-smaller c =
-    omega (arith, c.loop-p-test.true)
-
 pub loop-p-preserved : goal.loop-p-preserved
 loop-p-preserved c =
     let l = c.loop-p in
@@ -108,14 +99,14 @@ returns c =
     let q = plan_of a.plan.now in
     let inputs = row_inputs q.inputs a.value.now a.unknown.now in
     let g = going_of l.cells l.pending l.stood l.went in
-    let h = c.loop-p-test.false in
+    let e = le_antisymm l.invariant.0 c.loop-p-test.false in
     let z = laid-out q a.st a.user _ _ _ c.slots_of-pending.ensures c.unpack-marks.ensures in record {
       value = c.arrived-2.ensures
           ∙ ap (arrived state_at)
-          (sym (drives-end q a.drawn inputs _ l.p g (omega (arith, h)))
-          ∙ l.invariant.2
+          (sym (drives-end q a.drawn inputs _ _ g (le_refl _))
+          ∙ (rw e at l.invariant.2)
           ∙ ap (λ (o : Moment). drives (on_plan q) a.drawn inputs (rounds a.value.now) 0 (going 0 true a.seed o)) z);
-      out_after = sym (rows_end q a.drawn inputs _ l.p g l.out (omega (arith, h)))
-          ∙ l.invariant.3
+      out_after = sym (rows_end q a.drawn inputs _ _ g l.out (le_refl _))
+          ∙ (rw e at l.invariant.3)
           ∙ ap (λ (o : Moment). rows (on_plan q) a.drawn inputs (rounds a.value.now) 0 (going 0 true a.seed o) a.out.now) z;
     }

@@ -1,22 +1,11 @@
 -- `prepared_cycles::drive_phases` meets its contract. The loop: the instants that are left, from what was reached and written, end and
 -- leave what all of them do from the start. Assumes nothing.
-use borrow.Author.Rules.{rules}
-use native.Mathlib.Omega.{arith}
-use borrow.Author.Tests.{not-true, not-false}
-use mathlib.Core.Path.{◌≡◌, refl, sym, ap, ◌∙◌}
-use mathlib.Core.Bool.{true}
+use mathlib.Core.Path.{◌≡◌}
 use Prim.Native.Nat.{◌-◌, ◌≤◌}
-use Rattle.events.specs.declared.Inputs.{Inputs}
 use Rattle.plan.specs.Plan.{plan_of}
 use Rattle.prepared_cycles.specs.Cycles.{row_inputs}
-use Rattle.prepared_cycles.specs.Phases.{Moment, state_at}
-use Rattle.prepared_cycles.specs.Traces.{rounds}
-use Rattle.prepared_cycles.specs.Drives.{going, going_of, on_plan, drive, drives, rows, arrived}
-use Rattle.prepared_cycles.proofs.Items.{row_inside, row_written}
-use Rattle.prepared_cycles.proofs.Going.{laid-out}
-use Rattle.prepared_cycles.proofs.Tracing.{Kept, kept-written, row_room}
-use Rattle.prepared_cycles.proofs.Driving.{drives-whole, drives-end, drives-on, drives-off}
-use Rattle.prepared_cycles.proofs.Driving.{rows_whole, rows_end, rows_on, rows-off}
+use Rattle.prepared_cycles.specs.Drives.{going_of, on_plan, drives, rows}
+use Rattle.prepared_cycles.proofs.Tracing.{Kept}
 use Rattle.prepared_cycles.proofs.drive_phases.Given as goal
 
 abbrev pub invariant-loop-p : goal.invariant-loop-p
@@ -27,7 +16,3 @@ invariant-loop-p l =
     ≡ drives (on_plan (plan_of l.plan)) l.drawn (row_inputs (plan_of l.plan).inputs l.value l.unknown) l.n 0 (going_of l.initial.cells l.initial.pending l.initial.stood l.initial.went))
     × (rows (on_plan (plan_of l.plan)) l.drawn (row_inputs (plan_of l.plan).inputs l.value l.unknown) (l.n - l.p) l.p (going_of l.cells l.pending l.stood l.went) l.out
     ≡ rows (on_plan (plan_of l.plan)) l.drawn (row_inputs (plan_of l.plan).inputs l.value l.unknown) l.n 0 (going_of l.initial.cells l.initial.pending l.initial.stood l.initial.went) l.initial.out)
-
-abbrev pub decreases-loop-p : goal.decreases-loop-p
-decreases-loop-p l =
-    l.n - l.p

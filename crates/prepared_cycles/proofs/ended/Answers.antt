@@ -1,6 +1,5 @@
 -- `prepared_cycles::ended` meets its contract. Assumes nothing.
 use mathlib.Core.Path.{refl}
-use borrow.Author.Rules.{rules}
 use Rattle.prepared_cycles.proofs.Going.{ended-course}
 use Rattle.prepared_cycles.proofs.ended.Goals as goal
 

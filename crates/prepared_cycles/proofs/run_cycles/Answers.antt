@@ -1,8 +1,6 @@
 -- `prepared_cycles::run_cycles` meets its contract: a state that doesn't fit, a user above 3, rows that aren't
 -- whole, or the cycles. Assumes nothing.
 use native.Mathlib.Omega.{arith}
-use borrow.Author.Rules.{rules}
-use borrow.Author.Tests.{not-true, not-false}
 use mathlib.Core.Path.{sym, ◌∙◌}
 use Rattle.prepared_cycles.proofs.Items.{whole-lengths}
 use Rattle.prepared_cycles.proofs.Going.{cycles-unfit, cycles-userless, cycles-ragged, cycles-run}

@@ -1,10 +1,8 @@
 -- `prepared_cycles::run_phases` meets its contract. The loop: the phases that are left, from what was reached, end where all of them
 -- do from the start. Assumes nothing.
-use borrow.Author.Rules.{rules}
+use native.Mathlib.Nat.{le_refl, le_antisymm}
 use native.Mathlib.Omega.{arith}
-use mathlib.Core.Path.{◌≡◌, refl, sym, ap, ◌∙◌}
-use Prim.Native.Nat.{◌-◌, ◌*◌, ◌/◌, ◌≤◌, ◌<◌}
-use lib.ListN.{length}
+use mathlib.Core.Path.{refl, sym, ap, ◌∙◌}
 use Rattle.events.specs.declared.Inputs.{Inputs}
 use Rattle.plan.specs.Plan.{plan_of}
 use Rattle.prepared_cycles.specs.Cycles.{row_inputs}
@@ -41,14 +39,6 @@ returns-then-f-ne0 c =
     ∙ l.invariant.4
     ∙ ap (phases_at q inputs _ 0) z)
 
-pub overflow_add-p : goal.overflow_add-p
-overflow_add-p c =
-    omega arith
-
-pub loop-p-smaller : goal.loop-p-smaller
-loop-p-smaller c =
-    omega arith
-
 pub loop-p-preserved : goal.loop-p-preserved
 loop-p-preserved c =
     let l = c.loop-p in
@@ -71,8 +61,9 @@ returns c =
     let q = plan_of a.plan.now in
     let inputs = row_inputs q.inputs a.value.now a.unknown.now in
     let z = laid-out q a.st a.user _ _ _ c.slots_of-pending.ensures c.unpack-marks.ensures in
+    let e = le_antisymm l.invariant.0 c.loop-p-test.false in
     c.ended-2.ensures
     ∙ ap ended
-    (sym (phases-end q inputs _ l.p _ (omega (arith, c.loop-p-test.false)))
-    ∙ l.invariant.4
+    (sym (phases-end q inputs _ _ _ (le_refl _))
+    ∙ (rw e at l.invariant.4)
     ∙ ap (phases_at q inputs _ 0) z)

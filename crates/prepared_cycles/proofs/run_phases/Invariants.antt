@@ -1,16 +1,11 @@
 -- `prepared_cycles::run_phases` meets its contract. The loop: the phases that are left, from what was reached, end where all of them
 -- do from the start. Assumes nothing.
-use borrow.Author.Rules.{rules}
-use native.Mathlib.Omega.{arith}
-use mathlib.Core.Path.{◌≡◌, refl, sym, ap, ◌∙◌}
+use mathlib.Core.Path.{◌≡◌}
 use Prim.Native.Nat.{◌-◌, ◌*◌, ◌/◌, ◌≤◌, ◌<◌}
 use lib.ListN.{length}
-use Rattle.events.specs.declared.Inputs.{Inputs}
 use Rattle.plan.specs.Plan.{plan_of}
 use Rattle.prepared_cycles.specs.Cycles.{row_inputs}
-use Rattle.prepared_cycles.specs.Phases.{moment_of, phase_at, phases_at, ended}
-use Rattle.prepared_cycles.proofs.Items.{row_inside}
-use Rattle.prepared_cycles.proofs.Going.{laid-out, phases-whole, phases-end, phases-on, phases-off}
+use Rattle.prepared_cycles.specs.Phases.{moment_of, phases_at}
 use Rattle.prepared_cycles.proofs.run_phases.Given as goal
 
 abbrev pub invariant-loop-p : goal.invariant-loop-p
@@ -21,7 +16,3 @@ invariant-loop-p l =
     × (length l.unknown ≡ length l.value)
     × (phases_at (plan_of l.plan) (row_inputs (plan_of l.plan).inputs l.value l.unknown) (l.n - l.p) l.p (moment_of l.cells l.pending l.places l.standing)
     ≡ phases_at (plan_of l.plan) (row_inputs (plan_of l.plan).inputs l.value l.unknown) l.n 0 (moment_of l.initial.cells l.initial.pending l.initial.places l.initial.standing))
-
-abbrev pub decreases-loop-p : goal.decreases-loop-p
-decreases-loop-p l =
-    l.n - l.p

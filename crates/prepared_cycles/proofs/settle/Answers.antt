@@ -1,7 +1,5 @@
 -- `prepared_cycles::settle` meets its contract. Assumes nothing.
 use native.Mathlib.Omega.{arith}
-use borrow.Author.Rules.{rules}
-use borrow.Author.Tests.{not-true, not-false}
 use mathlib.Core.Path.{sym, ◌∙◌}
 use Rattle.prepared_cycles.proofs.Driving.{settled-unfit, settled-userless, settled-run}
 use Rattle.prepared_cycles.proofs.settle.Goals as goal

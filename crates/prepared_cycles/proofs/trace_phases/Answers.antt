@@ -1,9 +1,8 @@
 -- `prepared_cycles::trace_phases` meets its contract. The loop: the phases that are left, from what was reached and written, end and
 -- leave what all of them do from the start. Assumes nothing.
-use borrow.Author.Rules.{rules}
+use native.Mathlib.Nat.{le_refl, le_antisymm}
 use native.Mathlib.Omega.{arith}
-use mathlib.Core.Path.{◌≡◌, refl, sym, ap, ◌∙◌}
-use Prim.Native.Nat.{◌-◌, ◌≤◌}
+use mathlib.Core.Path.{refl, sym, ap, ◌∙◌}
 use Rattle.events.specs.declared.Inputs.{Inputs}
 use Rattle.plan.specs.Plan.{plan_of}
 use Rattle.prepared_cycles.specs.Cycles.{row_inputs}
@@ -11,7 +10,7 @@ use Rattle.prepared_cycles.specs.Phases.{Moment, moment_of, phase_at, phases_at,
 use Rattle.prepared_cycles.specs.Traces.{rounds, trace_from_at}
 use Rattle.prepared_cycles.proofs.Items.{row_inside, row_written}
 use Rattle.prepared_cycles.proofs.Going.{laid-out, phases-whole, phases-end, phases-on, phases-off}
-use Rattle.prepared_cycles.proofs.Tracing.{Kept, kept-written, row_room}
+use Rattle.prepared_cycles.proofs.Tracing.{kept-written, row_room}
 use Rattle.prepared_cycles.proofs.Tracing.{trace-whole, trace-end, trace-on, trace-off}
 use Rattle.prepared_cycles.proofs.trace_phases.Goals as goal
 
@@ -64,14 +63,6 @@ pub put_row-requires : goal.put_row-requires
 put_row-requires c =
     row_room c.loop-p.invariant.1 _ c.loop-p-test.true
 
-pub overflow_add-p : goal.overflow_add-p
-overflow_add-p c =
-    omega (arith, c.loop-p-test.true, c.loop-p.invariant.1.few)
-
-pub loop-p-smaller : goal.loop-p-smaller
-loop-p-smaller c =
-    omega (arith, c.loop-p-test.true)
-
 pub loop-p-preserved : goal.loop-p-preserved
 loop-p-preserved c =
     let l = c.loop-p in
@@ -98,11 +89,11 @@ returns c =
     let a = c.args in
     let q = plan_of a.plan.now in
     let inputs = row_inputs q.inputs a.value.now a.unknown.now in
-    let h = c.loop-p-test.false in
+    let e = le_antisymm l.invariant.0 c.loop-p-test.false in
     let z = laid-out q a.st a.user _ _ _ c.slots_of-pending.ensures c.unpack-marks.ensures in record {
       value = c.ended-2.ensures
-          ∙ ap ended (sym (phases-end q inputs _ l.p _ (omega (arith, h))) ∙ l.invariant.2 ∙ ap (phases_at q inputs _ 0) z);
-      out_after = sym (trace-end q inputs _ l.p _ _ (omega (arith, h)))
-          ∙ l.invariant.3
+          ∙ ap ended (sym (phases-end q inputs _ _ _ (le_refl _)) ∙ (rw e at l.invariant.2) ∙ ap (phases_at q inputs _ 0) z);
+      out_after = sym (trace-end q inputs _ _ _ _ (le_refl _))
+          ∙ (rw e at l.invariant.3)
           ∙ ap (λ (x : Moment). trace_from_at q inputs (rounds a.value.now) 0 x a.out.now) z;
     }

@@ -1,5 +1,4 @@
 -- `workload::committed` meets its contract. Assumes nothing.
-use borrow.Author.Rules.{rules}
 use Rattle.workload.proofs.Tracing.{committed-quiet, committed-on}
 use Rattle.workload.proofs.committed.Goals as goal
 

@@ -1,5 +1,4 @@
 -- `workload::cycled` meets its contract. Assumes nothing.
-use borrow.Author.Rules.{rules}
 use borrow.Author.Tests.{not-true, not-false}
 use Rattle.workload.proofs.Tracing.{cycled-low, cycled-whole}
 use Rattle.workload.proofs.cycled.Goals as goal

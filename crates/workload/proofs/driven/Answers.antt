@@ -1,5 +1,4 @@
 -- `workload::driven` meets its contract. Assumes nothing.
-use borrow.Author.Rules.{rules}
 use Rattle.workload.proofs.Tracing.{driven-refused, driven-on}
 use Rattle.workload.proofs.driven.Goals as goal
 

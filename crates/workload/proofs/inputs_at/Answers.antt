@@ -1,5 +1,4 @@
 -- `workload::inputs_at` meets its contract. Assumes nothing.
-use borrow.Author.Rules.{rules}
 use mathlib.Core.Path.{refl}
 use Rattle.workload.specs.Workload.{inputs_at}
 use Rattle.workload.proofs.inputs_at.Goals as goal

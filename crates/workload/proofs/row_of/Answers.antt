@@ -1,11 +1,10 @@
 -- `workload::row_of` meets its contract. The loop's invariant: the numbers so far are stored. Assumes nothing.
 use borrow.Author.Rules.{rules}
-use Prim.Native.Nat.{ℕ, ◌≤◌, ◌+◌, ◌-◌}
+use Prim.Native.Nat.{ℕ, ◌+◌}
 use mathlib.Core.Path.{◌≡◌, refl, ap, ◌∙◌}
 use mathlib.Core.List.{List}
 use native.Mathlib.Omega.{arith}
 use lib.ListN.{get_or, set}
-use lib.Seq.{sets}
 use Rattle.state.specs.Rows.{list_of}
 use Rattle.state.proofs.Rows.{list_of-step, list_of-whole}
 use Rattle.workload.specs.Workload.{row_of}

@@ -1,11 +1,9 @@
 -- `workload::trace` meets its contract. The loop's invariant: the rows that are left come to what all come to. Assumes nothing.
-use borrow.Author.Rules.{rules}
-use Prim.Native.Nat.{◌≤◌, ◌+◌, ◌-◌}
+use Prim.Native.Nat.{◌+◌, ◌-◌}
 use native.Mathlib.Omega.{arith}
 use mathlib.Core.Path.{◌≡◌, refl, sym, ◌∙◌}
 use borrow.Author.Tests.{not-true, not-false}
 use Rattle.plan.specs.Plan.{plan_of}
-use Rattle.workload.specs.Workload.{traced_from, rows_from}
 use Rattle.workload.proofs.Tracing.{trace-end, trace-short, trace-stopped, trace-more}
 use Rattle.workload.proofs.trace.Goals as goal
 
@@ -44,6 +42,7 @@ pub returns : goal.returns
 returns c =
     let l = c.loop-k in
     let a = c.args in
-    let g = trace-end (plan_of a.plan.now) a.user a.value.now a.unknown.now l.k l.rest l.out (32 - l.k)
+    let e : l.k ≡ 32 = omega arith in
+    let g = trace-end (plan_of a.plan.now) a.user a.value.now a.unknown.now 32 l.rest l.out (32 - 32)
     (omega arith) in
-    (record { value = sym g.0 ∙ l.invariant.1; out_after = sym g.1 ∙ l.invariant.2 })
+    (record { value = sym g.0 ∙ (rw e at l.invariant.1); out_after = sym g.1 ∙ (rw e at l.invariant.2) })

@@ -1,17 +1,12 @@
 -- `clock_check::judged_nodes::is_zero` meets its contract, test by test. Assumes nothing.
-use borrow.Author.Rules.{rules}
 use mathlib.Core.Path.{sym, ◌∙◌}
 use borrow.Author.Tests.{eq-eqb, ne_eqb}
 use Rattle.clock_check.proofs.judged_nodes.is_zero.Goals as goal
 
 pub returns-then-word_at-eq0 : goal.returns-then-word_at-eq0
 returns-then-word_at-eq0 c =
-    let w = c.wide-i.ensures in
-    let k = rw w at c.word_at.ensures in
-    rw (eq-eqb _ _ (sym k ∙ c.if-word_at-eq0.true), rw w at c.word_at-then-word_at-eq0.ensures)
+    rw (eq-eqb _ _ (sym c.word_at.ensures ∙ c.if-word_at-eq0.true), c.word_at-then-word_at-eq0.ensures)
 
 pub returns-else-word_at-eq0 : goal.returns-else-word_at-eq0
 returns-else-word_at-eq0 c =
-    let w = c.wide-i.ensures in
-    let k = rw w at c.word_at.ensures in
-    rw (← k, ne_eqb _ _ c.if-word_at-eq0.false)
+    rw (← c.word_at.ensures, ne_eqb _ _ c.if-word_at-eq0.false)

@@ -1,13 +1,11 @@
 -- `clock_check::judged_nodes::node_fits` meets its contract, by the kind of node. Assumes nothing.
-use borrow.Author.Rules.{rules}
-use borrow.Author.Tests.{lt-ltb, le-ltb}
 use Rattle.nodes.specs.Cells.{node_of, fits_at}
 use Rattle.clock_check.proofs.judged_nodes.node_fits.Goals as goal
 
 pub returns-in-Variable : goal.returns-in-Variable
 unfolding node_of fits_at
 returns-in-Variable c =
-    rw (c.in-Variable.is, c.wide.ensures)
+    rw c.in-Variable.is
 
 pub returns-in-Constant : goal.returns-in-Constant
 unfolding node_of fits_at
@@ -28,23 +26,3 @@ pub returns-in-Binary : goal.returns-in-Binary
 unfolding node_of fits_at
 returns-in-Binary c =
     rw c.in-Binary.is c.arms_fit.ensures
-
-pub returns-then-c-n : goal.returns-then-c-n
-unfolding node_of fits_at
-returns-then-c-n c =
-    rw (c.in-Conditional.is, lt-ltb _ _ c.if-c-n.true) c.arms_fit-then-c-n.ensures
-
-pub returns-else-c-n : goal.returns-else-c-n
-unfolding node_of fits_at
-returns-else-c-n c =
-    rw (c.in-Conditional.is, le-ltb _ _ c.if-c-n.false)
-
-pub returns-then-c-n-2 : goal.returns-then-c-n-2
-unfolding node_of fits_at
-returns-then-c-n-2 c =
-    rw (c.in-Branch.is, lt-ltb _ _ c.if-c-n-2.true) c.arms_fit-then-c-n-2.ensures
-
-pub returns-else-c-n-2 : goal.returns-else-c-n-2
-unfolding node_of fits_at
-returns-else-c-n-2 c =
-    rw (c.in-Branch.is, le-ltb _ _ c.if-c-n-2.false)

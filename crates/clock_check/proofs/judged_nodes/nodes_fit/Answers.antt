@@ -1,13 +1,9 @@
 -- `clock_check::judged_nodes::nodes_fit` meets its contract. The loop: the nodes so far are in order, and their widths filled in.
-use borrow.Author.Rules.{rules}
 use mathlib.Core.Path.{◌≡◌, sym, ◌∙◌}
-use Prim.Native.Nat.{◌-◌, ◌≤◌, ◌<◌}
 use native.Mathlib.Omega.{arith}
-use borrow.Author.Tests.{not-true, not-false}
 use Rattle.plan.specs.Plan.{plan_of}
 use Rattle.nodes.specs.Cells.{node_of}
-use Rattle.clock_check.specs.Judging.{variables_in, Rest}
-use Rattle.clock_check.proofs.Filling.{Passing, passing-none, passing-more, passed, stopped, rest-off, rest-on}
+use Rattle.clock_check.proofs.Filling.{passing-none, passing-more, passed, stopped, rest-off, rest-on}
 use Rattle.clock_check.proofs.judged_nodes.nodes_fit.Goals as goal
 
 pub loop-n-init : goal.loop-n-init
@@ -25,10 +21,6 @@ returns-then-not-node_fits c =
 
 pub bounds-sizes-n : goal.bounds-sizes-n
 bounds-sizes-n c =
-    omega (arith, c.loop-n-test.true, c.loop-n.invariant.2.most)
-
-pub overflow_add-n : goal.overflow_add-n
-overflow_add-n c =
     omega (arith, c.loop-n-test.true, c.loop-n.invariant.2.most)
 
 pub loop-n-preserved : goal.loop-n-preserved

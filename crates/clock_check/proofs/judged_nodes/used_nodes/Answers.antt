@@ -1,8 +1,7 @@
 -- `clock_check::judged_nodes::used_nodes` meets its contract. The loop: the nodes from `n` on are variable 0. Assumes nothing.
-use borrow.Author.Rules.{rules}
+use mathlib.Core.Path.{◌≡◌}
+use Prim.Native.Nat.{◌+◌, ◌-◌}
 use native.Mathlib.Omega.{arith}
-use borrow.Author.Tests.{not-false}
-use Rattle.clock_check.specs.Judging.{Rest}
 use Rattle.clock_check.proofs.Tests.{rest-none, rest_more}
 use Rattle.clock_check.proofs.judged_nodes.used_nodes.Goals as goal
 
@@ -12,7 +11,8 @@ loop-n-init c =
 
 pub returns-then-not-is_zero : goal.returns-then-not-is_zero
 returns-then-not-is_zero c =
-    c.loop-n.invariant
+    let e : c.loop-n.n ≡ c.loop-n.n - 1 + 1 = omega (arith, c.loop-n-test.true) in
+    rw (← e) c.loop-n.invariant
 
 pub loop-n-preserved : goal.loop-n-preserved
 loop-n-preserved c =
@@ -21,4 +21,5 @@ loop-n-preserved c =
 
 pub returns : goal.returns
 returns c =
-    c.loop-n.invariant
+    let e : c.loop-n.n ≡ 0 = omega (arith, c.loop-n-test.false) in
+    rw e at c.loop-n.invariant

@@ -1,9 +1,8 @@
 -- `clock_check::judged_rows::entry_at` meets its contract. Assumes nothing.
-use borrow.Author.Rules.{rules}
 use Rattle.clock_nodes.specs.Rows.{entry_at}
 use Rattle.clock_check.proofs.judged_rows.entry_at.Goals as goal
 
 pub returns : goal.returns
 unfolding entry_at
 returns c =
-    rw (c.word_at.ensures, c.wide.ensures)
+    c.word_at.ensures

@@ -1,11 +1,9 @@
 -- `clock_check::judged_rows::land` meets its contract. The loop: the nodes so far are marked. Assumes nothing.
-use borrow.Author.Rules.{rules}
 use mathlib.Core.Path.{◌≡◌, ap, ◌∙◌}
-use Prim.Native.Nat.{◌-◌, ◌≤◌}
 use native.Mathlib.Omega.{arith}
 use Rattle.plan.specs.Plan.{plan_of}
 use Rattle.nodes.specs.Cells.{node_of}
-use Rattle.clock_check.specs.Judging.{wait_of, Rest}
+use Rattle.clock_check.specs.Judging.{wait_of}
 use Rattle.clock_check.proofs.Filling.{lands_over, lands-none, lands-more, lands-all}
 use Rattle.clock_check.proofs.judged_rows.land.Goals as goal
 
@@ -18,17 +16,13 @@ pub bounds-marks-n : goal.bounds-marks-n
 bounds-marks-n c =
     omega (arith, c.loop-n.invariant.1.most)
 
-pub overflow_add-n : goal.overflow_add-n
-overflow_add-n c =
-    omega (arith, c.loop-n.invariant.1.most)
-
 pub loop-n-preserved : goal.loop-n-preserved
 loop-n-preserved c =
     let a = c.args in (
       omega arith,
       c.loop-n.invariant.1,
       lands-more (wait_of (plan_of a.plan.now) a.i) a.nodes.now c.loop-n.n c.loop-n.marks (node_of c.cell_at.result)
-          c.lands-m.result (omega (arith, c.loop-n.invariant.1.most)) c.loop-n.invariant.2 c.cell_at.ensures c.lands-m.ensures,
+          c.lands.result (omega (arith, c.loop-n.invariant.1.most)) c.loop-n.invariant.2 c.cell_at.ensures c.lands.ensures,
     )
 
 pub returns : goal.returns

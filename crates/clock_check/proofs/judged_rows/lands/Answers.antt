@@ -1,13 +1,7 @@
 -- `clock_check::judged_rows::lands` meets its contract, by the kind of node. Assumes nothing.
-use borrow.Author.Rules.{rules}
 use borrow.Author.Tests.{eq-eqb, ne_eqb}
 use Rattle.nodes.specs.Cells.{node_of, lands_at}
 use Rattle.clock_check.proofs.judged_rows.lands.Goals as goal
-
-pub returns-in-Variable : goal.returns-in-Variable
-unfolding node_of lands_at
-returns-in-Variable c =
-    rw c.in-Variable.is
 
 pub returns-then-width-eq8 : goal.returns-then-width-eq8
 unfolding node_of lands_at
@@ -18,26 +12,6 @@ pub returns-else-width-eq8 : goal.returns-else-width-eq8
 unfolding node_of lands_at
 returns-else-width-eq8 c =
     rw (c.in-Constant.is, ne_eqb _ _ c.if-width-eq8.false)
-
-pub returns-in-Blank : goal.returns-in-Blank
-unfolding node_of lands_at
-returns-in-Blank c =
-    rw c.in-Blank.is
-
-pub returns-in-Unary : goal.returns-in-Unary
-unfolding node_of lands_at
-returns-in-Unary c =
-    rw c.in-Unary.is
-
-pub returns-in-Binary : goal.returns-in-Binary
-unfolding node_of lands_at
-returns-in-Binary c =
-    rw c.in-Binary.is
-
-pub returns-in-Conditional : goal.returns-in-Conditional
-unfolding node_of lands_at
-returns-in-Conditional c =
-    rw c.in-Conditional.is
 
 pub returns-then-marked : goal.returns-then-marked
 unfolding node_of lands_at

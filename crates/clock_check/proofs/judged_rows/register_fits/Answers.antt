@@ -1,5 +1,4 @@
 -- `clock_check::judged_rows::register_fits` meets its contract, test by test. Assumes nothing.
-use borrow.Author.Rules.{rules}
 use native.Mathlib.Omega.{arith}
 use borrow.Author.Tests.{lt-ltb, le-ltb}
 use Rattle.nodes.specs.Cells.{size_in}

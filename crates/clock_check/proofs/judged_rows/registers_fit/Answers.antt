@@ -1,15 +1,8 @@
 -- `clock_check::judged_rows::registers_fit` meets its contract. The loop: the entries so far are in order. Assumes nothing.
-use borrow.Author.Rules.{rules}
-use mathlib.Core.Path.{◌≡◌, sym, ◌∙◌}
-use mathlib.Core.Bool.{Bool, true}
-use mathlib.Core.List.{List}
-use Prim.Native.Nat.{ℕ, ◌-◌, ◌≤◌}
+use mathlib.Core.Path.{sym, ◌∙◌}
 use native.Mathlib.Omega.{arith}
-use borrow.Author.Tests.{not-true, not-false}
-use Rattle.state.specs.Rows.{all_below}
 use Rattle.plan.specs.Plan.{plan_of}
 use Rattle.plan_fitting.proofs.Loops.{all_none, All-more, all_done, all-fails}
-use Rattle.clock_check.specs.Judging.{entry_fits_on}
 use Rattle.clock_check.proofs.judged_rows.registers_fit.Invariants.{test}
 use Rattle.clock_check.proofs.judged_rows.registers_fit.Goals as goal
 

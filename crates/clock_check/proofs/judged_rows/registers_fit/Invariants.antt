@@ -1,14 +1,10 @@
 -- `clock_check::judged_rows::registers_fit` meets its contract. The loop: the entries so far are in order. Assumes nothing.
-use borrow.Author.Rules.{rules}
-use mathlib.Core.Path.{◌≡◌, sym, ◌∙◌}
+use mathlib.Core.Path.{◌≡◌}
 use mathlib.Core.Bool.{Bool, true}
 use mathlib.Core.List.{List}
-use Prim.Native.Nat.{ℕ, ◌-◌, ◌≤◌}
-use native.Mathlib.Omega.{arith}
-use borrow.Author.Tests.{not-true, not-false}
+use Prim.Native.Nat.{ℕ, ◌≤◌}
 use Rattle.state.specs.Rows.{all_below}
 use Rattle.plan.specs.Plan.{plan_of}
-use Rattle.plan_fitting.proofs.Loops.{all_none, All-more, all_done, all-fails}
 use Rattle.clock_check.specs.Judging.{entry_fits_on}
 use Rattle.clock_check.proofs.judged_rows.registers_fit.Given as goal
 
@@ -18,7 +14,3 @@ test plan sizes rows written row = entry_fits_on (plan_of plan) sizes rows writt
 abbrev pub invariant-loop-r : goal.invariant-loop-r
 invariant-loop-r l =
     (l.n ≡ (plan_of l.plan).registers) × (l.r ≤ l.n) × (all_below l.r (test l.plan l.sizes l.rows l.written l.row) ≡ true)
-
-abbrev pub decreases-loop-r : goal.decreases-loop-r
-decreases-loop-r l =
-    l.n - l.r

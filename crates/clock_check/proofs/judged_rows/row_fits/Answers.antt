@@ -1,7 +1,5 @@
 -- `clock_check::judged_rows::row_fits` meets its contract, test by test. Assumes nothing.
-use borrow.Author.Rules.{rules}
 use mathlib.Core.Path.{sym, ◌∙◌}
-use borrow.Author.Tests.{not-true, not-false}
 use Rattle.plan.specs.Plan.{plan_of}
 use Rattle.clock_check.proofs.Tests.{row-off, row-past, row_on}
 use Rattle.clock_check.proofs.judged_rows.row_fits.Goals as goal
@@ -17,11 +15,11 @@ returns-then-n-ge4096 c =
     let a = c.args in
     row-past (plan_of a.plan.now) a.sizes.now a.rows.now a.written a.marks.now a.row
     c.if-n-ge4096.true (sym c.registers_fit.ensures ∙ c.if-not-registers_fit.false)
-    (c.wide-n.ensures ∙ c.entry_at.ensures)
+    c.entry_at-n.ensures
 
 pub returns : goal.returns
 returns c =
     let a = c.args in
     row_on (plan_of a.plan.now) a.sizes.now a.rows.now a.written a.marks.now a.row
     c.if-n-ge4096.false (sym c.registers_fit.ensures ∙ c.if-not-registers_fit.false)
-    (c.wide-n.ensures ∙ c.entry_at.ensures)
+    c.entry_at-n.ensures

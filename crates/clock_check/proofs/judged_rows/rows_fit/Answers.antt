@@ -1,19 +1,13 @@
 -- `clock_check::judged_rows::rows_fit` meets its contract. The loop: the rows of the threads so far are in order. Assumes nothing.
-use borrow.Author.Rules.{rules}
-use mathlib.Core.Path.{◌≡◌, ap, ◌∙◌}
-use mathlib.Core.Bool.{Bool, true}
-use mathlib.Core.List.{List}
-use Prim.Native.Nat.{ℕ, ◌+◌, ◌*◌, ◌-◌, ◌≤◌}
+use mathlib.Core.Path.{ap, ◌∙◌}
+use Prim.Native.Nat.{ℕ, ◌+◌}
 use native.Mathlib.Omega.{arith}
-use borrow.Author.Tests.{not-true, not-false}
 use lib.ListN.{get_or}
-use Rattle.state.specs.Rows.{all_below}
 use Rattle.plan.specs.Plan.{plan_of}
 use Rattle.plan_fitting.proofs.Loops.{all_none, All-more, all_done, all-fails}
 use Rattle.clock_steps.specs.Taking.{at_most}
-use Rattle.clock_steps.specs.Numbers.{rows_to}
 use Rattle.clock_steps.proofs.Numbers.{rows_none, rows_more}
-use Rattle.clock_check.specs.Judging.{wait_of, lands_below, thread_fits_on, rows_fit_on, Rest}
+use Rattle.clock_check.specs.Judging.{rows_fit_on}
 use Rattle.clock_check.proofs.Tests.{thread-found}
 use Rattle.clock_check.proofs.judged_rows.rows_fit.Invariants.{test}
 use Rattle.clock_check.proofs.judged_rows.rows_fit.Goals as goal

@@ -1,18 +1,11 @@
 -- `clock_check::judged_rows::thread_fits` meets its contract. The loop: the rows so far are in order. Assumes nothing.
-use borrow.Author.Rules.{rules}
-use mathlib.Core.Path.{◌≡◌, ap, ◌∙◌}
-use mathlib.Core.Bool.{Bool, true, not, ◌||◌}
-use mathlib.Core.List.{List}
-use Prim.Native.Nat.{ℕ, ◌+◌, ◌-◌, ◌≤◌}
+use mathlib.Core.Path.{ap, ◌∙◌}
 use native.Mathlib.Omega.{arith}
-use borrow.Author.Tests.{not-true, not-false}
-use Rattle.state.specs.Rows.{all_below}
 use Rattle.plan.specs.Plan.{plan_of}
 use Rattle.plan_fitting.proofs.Loops.{all_none, All-more, all_done, all-fails}
 use Rattle.clock_steps.specs.Taking.{at_most}
-use Rattle.clock_steps.specs.Numbers.{waits_to}
-use Rattle.clock_steps.proofs.Numbers.{waits-none, waits-more}
-use Rattle.clock_check.specs.Judging.{row_fits_on, thread_fits_on}
+use Rattle.clock_steps.proofs.Numbers.{waits-none, waits-more, from-small}
+use Rattle.clock_check.specs.Judging.{thread_fits_on}
 use Rattle.clock_check.proofs.Tests.{wait-found}
 use Rattle.clock_check.proofs.judged_rows.thread_fits.Invariants.{test}
 use Rattle.clock_check.proofs.judged_rows.thread_fits.Goals as goal
@@ -36,11 +29,11 @@ returns-then-not-wait_fits c =
     (at_most 256 ((plan_of a.plan.now).size a.i)) (omega arith)
     (wait-found (plan_of a.plan.now) a.sizes.now a.rows.now a.written a.marks.now a.i a.first c.loop-p.p
     c.loop-p.invariant.4
-    c.byte.ensures c.waits-waits.ensures c.wait_fits.ensures (c.if-not-wait_fits.true))
+    c.waits-waits.ensures c.wait_fits.ensures (c.if-not-wait_fits.true))
 
 pub overflow_add-row : goal.overflow_add-row
 overflow_add-row c =
-    omega (arith, c.one-row.ensures.upper_bound)
+    omega (arith, c.from-row.ensures, from-small c.waits-waits.result)
 
 pub loop-p-preserved : goal.loop-p-preserved
 loop-p-preserved c =
@@ -48,14 +41,14 @@ loop-p-preserved c =
       c.loop-p.invariant.0,
       c.loop-p.invariant.1,
       omega arith,
-      omega (arith, c.one-row.ensures.upper_bound),
-      waits-more (plan_of a.plan.now) a.i a.first _ c.loop-p.invariant.4 c.byte.ensures c.waits-waits.ensures
-          c.one-row.ensures.value,
+      omega (arith, c.from-row.ensures, from-small c.waits-waits.result),
+      waits-more (plan_of a.plan.now) a.i a.first _ c.loop-p.invariant.4 c.waits-waits.ensures
+          c.from-row.ensures,
       All-more (test a.plan.now a.sizes.now a.rows.now a.written a.marks.now a.i a.first) c.loop-p.p
           c.loop-p.invariant.5
           (wait-found (plan_of a.plan.now) a.sizes.now a.rows.now a.written a.marks.now a.i a.first c.loop-p.p
           c.loop-p.invariant.4
-          c.byte.ensures c.waits-waits.ensures c.wait_fits.ensures
+          c.waits-waits.ensures c.wait_fits.ensures
           (c.if-not-wait_fits.false)),
     )
 

@@ -1,19 +1,13 @@
 -- `clock_check::judged_rows::thread_fits` meets its contract. The loop: the rows so far are in order. Assumes nothing.
-use borrow.Author.Rules.{rules}
-use mathlib.Core.Path.{◌≡◌, ap, ◌∙◌}
+use mathlib.Core.Path.{◌≡◌}
 use mathlib.Core.Bool.{Bool, true, not, ◌||◌}
 use mathlib.Core.List.{List}
-use Prim.Native.Nat.{ℕ, ◌+◌, ◌-◌, ◌≤◌}
-use native.Mathlib.Omega.{arith}
-use borrow.Author.Tests.{not-true, not-false}
+use Prim.Native.Nat.{ℕ, ◌+◌, ◌≤◌}
 use Rattle.state.specs.Rows.{all_below}
 use Rattle.plan.specs.Plan.{plan_of}
-use Rattle.plan_fitting.proofs.Loops.{all_none, All-more, all_done, all-fails}
 use Rattle.clock_steps.specs.Taking.{at_most}
 use Rattle.clock_steps.specs.Numbers.{waits_to}
-use Rattle.clock_steps.proofs.Numbers.{waits-none, waits-more}
-use Rattle.clock_check.specs.Judging.{row_fits_on, thread_fits_on}
-use Rattle.clock_check.proofs.Tests.{wait-found}
+use Rattle.clock_check.specs.Judging.{row_fits_on}
 use Rattle.clock_check.proofs.judged_rows.thread_fits.Given as goal
 
 abbrev pub test : List ℕ → List ℕ → List ℕ → ℕ → List Bool → ℕ → ℕ → ℕ → Bool
@@ -28,7 +22,3 @@ invariant-loop-p l =
     × (l.row ≤ 2048 + l.p)
     × (l.row ≡ l.first + waits_to (plan_of l.plan) l.i l.p)
     × (all_below l.p (test l.plan l.sizes l.rows l.written l.marks l.i l.first) ≡ true)
-
-abbrev pub decreases-loop-p : goal.decreases-loop-p
-decreases-loop-p l =
-    l.n - l.p

@@ -1,6 +1,4 @@
 -- `clock_check::judged_rows::thread_rows_fit` meets its contract. Assumes nothing.
-use borrow.Author.Rules.{rules}
-use mathlib.Core.Path.{refl}
 use Rattle.clock_check.proofs.judged_rows.thread_rows_fit.Goals as goal
 
 pub returns : goal.returns

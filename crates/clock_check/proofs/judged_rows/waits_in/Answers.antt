@@ -1,11 +1,7 @@
 -- `clock_check::judged_rows::waits_in` meets its contract. The loop: the waits so far are counted. Assumes nothing.
-use borrow.Author.Rules.{rules}
-use mathlib.Core.Path.{◌≡◌}
-use Prim.Native.Nat.{◌+◌, ◌-◌, ◌≤◌}
 use native.Mathlib.Omega.{arith}
 use Rattle.plan.specs.Plan.{plan_of}
-use Rattle.clock_steps.specs.Numbers.{waits_to}
-use Rattle.clock_steps.proofs.Numbers.{waits-none, waits-more, waits-all}
+use Rattle.clock_steps.proofs.Numbers.{waits-none, waits-more, waits-all, from-small}
 use Rattle.clock_check.proofs.judged_rows.waits_in.Goals as goal
 
 pub loop-p-init : goal.loop-p-init
@@ -15,15 +11,15 @@ loop-p-init c =
 
 pub overflow_add-k : goal.overflow_add-k
 overflow_add-k c =
-    omega (arith, c.one-k.ensures.upper_bound)
+    omega (arith, c.from-k.ensures, from-small c.waits.result)
 
 pub loop-p-preserved : goal.loop-p-preserved
 loop-p-preserved c =
     let a = c.args in (
       omega arith,
       omega arith,
-      omega (arith, c.one-k.ensures.upper_bound),
-      waits-more (plan_of a.plan.now) a.i 0 _ c.loop-p.invariant.3 c.byte.ensures c.waits.ensures c.one-k.ensures.value,
+      omega (arith, c.from-k.ensures, from-small c.waits.result),
+      waits-more (plan_of a.plan.now) a.i 0 _ c.loop-p.invariant.3 c.waits.ensures c.from-k.ensures,
     )
 
 pub returns : goal.returns

@@ -1,5 +1,4 @@
 -- `driving::saying::put_grouped` meets its contract. Assumes nothing.
-use borrow.Author.Rules.{rules}
 use borrow.Author.Tests.{lt-ltb, le-ltb}
 use Rattle.writing.proofs.Buffer.{both}
 use Rattle.driving.specs.Saying.{grouped}

@@ -1,5 +1,4 @@
 -- `driving::saying::put_restless` meets its contract. Assumes nothing.
-use borrow.Author.Rules.{rules}
 use Rattle.writing.specs.Ascii.{ascii}
 use Rattle.writing.proofs.Buffer.{both}
 use Rattle.driving.specs.Saying.{restless_words}

@@ -1,5 +1,4 @@
 -- `driving::saying::put_three` meets its contract. Assumes nothing.
-use borrow.Author.Rules.{rules}
 use Rattle.driving.specs.Saying.{three}
 use Rattle.driving.proofs.saying.put_three.Goals as goal
 

@@ -1,9 +1,6 @@
 -- `driving::states::put_words` meets its contract. The loop's invariant: the words so far are written. Assumes nothing.
-use borrow.Author.Rules.{rules}
 use mathlib.Core.Path.{◌≡◌, refl}
-use Prim.Native.Nat.{◌≤◌, ◌-◌}
 use native.Mathlib.Omega.{arith}
-use lib.Seq.{sets}
 use Rattle.values.specs.Planes.{value_at}
 use Rattle.values.specs.Cells.{cell_of}
 use Rattle.state.specs.Rows.{list_of}

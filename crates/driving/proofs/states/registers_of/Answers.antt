@@ -1,5 +1,4 @@
 -- `driving::states::registers_of` meets its contract. Assumes nothing.
-use borrow.Author.Rules.{rules}
 use Rattle.driving.proofs.Plans.{registers-is}
 use Rattle.driving.proofs.states.registers_of.Goals as goal
 

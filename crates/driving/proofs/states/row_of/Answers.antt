@@ -1,5 +1,4 @@
 -- `driving::states::row_of` meets its contract. Assumes nothing.
-use borrow.Author.Rules.{rules}
 use mathlib.Core.Path.{refl}
 use Rattle.driving.proofs.Plans.{row-whole}
 use Rattle.driving.proofs.states.row_of.Goals as goal

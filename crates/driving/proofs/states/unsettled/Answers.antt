@@ -1,5 +1,4 @@
 -- `driving::states::unsettled` meets its contract. Assumes nothing.
-use borrow.Author.Rules.{rules}
 use Rattle.driving.proofs.Plans.{unsettled-is}
 use Rattle.driving.proofs.states.unsettled.Goals as goal
 

@@ -1,5 +1,4 @@
 -- `prepared_cycles::drives::drawn_choice` meets its contract. Assumes nothing.
-use borrow.Author.Rules.{rules}
 use borrow.Author.Tests.{lt-ltb, le-ltb}
 use Rattle.prepared_cycles.specs.Drives.{drawn_choice}
 use Rattle.prepared_cycles.proofs.drives.drawn_choice.Goals as goal

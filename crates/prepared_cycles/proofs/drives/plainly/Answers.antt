@@ -1,5 +1,4 @@
 -- `prepared_cycles::drives::plainly` meets its contract. Assumes nothing.
-use borrow.Author.Rules.{rules}
 use Rattle.plan.specs.Plan.{plan_of}
 use Rattle.prepared_cycles.specs.Drives.{going_of}
 use Rattle.prepared_cycles.proofs.Driving.{plainly-is}

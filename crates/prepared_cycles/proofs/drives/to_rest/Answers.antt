@@ -1,5 +1,4 @@
 -- `prepared_cycles::drives::to_rest` meets its contract, by way. Assumes nothing.
-use borrow.Author.Rules.{rules}
 use mathlib.Core.Path.{◌∙◌}
 use Rattle.prepared_cycles.proofs.Driving.{rest-drawn, rest_plain}
 use Rattle.prepared_cycles.proofs.drives.to_rest.Goals as goal

@@ -1,5 +1,4 @@
 -- `prepared_cycles::instants::phase` meets its contract: an instant that is refused, or one that is made and run from. Assumes nothing.
-use borrow.Author.Rules.{rules}
 use mathlib.Core.Path.{sym, ◌∙◌}
 use Rattle.events.specs.Calls.{input_of}
 use Rattle.plan.specs.Plan.{plan_of}

@@ -1,6 +1,4 @@
 -- `prepared_cycles::instants::refusal` meets its contract, number by number. Assumes nothing.
-use borrow.Author.Rules.{rules}
-use borrow.Author.Tests.{not-true, not-false}
 use mathlib.Core.Path.{sym, ◌∙◌}
 use Rattle.prepared_cycles.proofs.Going.{refused-misfit, refused-busy, refused_full, refused_none}
 use Rattle.prepared_cycles.proofs.instants.refusal.Goals as goal

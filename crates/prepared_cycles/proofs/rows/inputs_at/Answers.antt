@@ -1,6 +1,5 @@
 -- `prepared_cycles::rows::inputs_at` meets its contract. Assumes nothing.
 use mathlib.Core.Path.{refl}
-use borrow.Author.Rules.{rules}
 use Rattle.prepared_cycles.specs.Cycles.{row_inputs}
 use Rattle.prepared_cycles.proofs.rows.inputs_at.Goals as goal
 

@@ -1,12 +1,9 @@
 -- `prepared_cycles::traces::put_places` meets its contract. The loop's invariant: the places so far are written. Assumes nothing.
 use mathlib.Core.Path.{◌≡◌, refl}
-use Prim.Native.Nat.{◌≤◌, ◌-◌}
 use native.Mathlib.Omega.{arith}
-use lib.ListN.{length, get_or, length-set}
-use lib.Seq.{sets}
+use lib.ListN.{get_or, length-set}
 use Rattle.state.specs.Rows.{list_of}
 use Rattle.prepared_cycles.proofs.Items.{list_of-on}
-use borrow.Author.Rules.{rules}
 use Rattle.prepared_cycles.proofs.traces.put_places.Goals as goal
 
 pub loop-i-init : goal.loop-i-init
@@ -31,7 +28,7 @@ loop-i-preserved c =
     let p = c.args in (
       omega arith,
       simp length-set c.loop-i.invariant.1,
-      rw (c.wide.ensures, c.loop-i.invariant.2) (list_of-on (λ j. get_or p.stood.now j 0) p.out.now p.at c.loop-i.i),
+      rw c.loop-i.invariant.2 (list_of-on (λ j. get_or p.stood.now j 0) p.out.now p.at c.loop-i.i),
     )
 
 pub shape_of-out : goal.shape_of-out

@@ -1,18 +1,11 @@
 -- `prepared_cycles::traces::put_places` meets its contract. The loop's invariant: the places so far are written. Assumes nothing.
-use mathlib.Core.Path.{◌≡◌, refl}
-use Prim.Native.Nat.{◌≤◌, ◌-◌}
-use native.Mathlib.Omega.{arith}
-use lib.ListN.{length, get_or, length-set}
+use mathlib.Core.Path.{◌≡◌}
+use Prim.Native.Nat.{◌≤◌}
+use lib.ListN.{length, get_or}
 use lib.Seq.{sets}
 use Rattle.state.specs.Rows.{list_of}
-use Rattle.prepared_cycles.proofs.Items.{list_of-on}
-use borrow.Author.Rules.{rules}
 use Rattle.prepared_cycles.proofs.traces.put_places.Given as goal
 
 abbrev pub invariant-loop-i : goal.invariant-loop-i
 invariant-loop-i l =
     (l.i ≤ 8) × (length l.out ≡ length l.initial.out) × (l.out ≡ sets l.initial.out l.at (list_of l.i (λ j. get_or l.stood j 0)))
-
-abbrev pub decreases-loop-i : goal.decreases-loop-i
-decreases-loop-i l =
-    8 - l.i

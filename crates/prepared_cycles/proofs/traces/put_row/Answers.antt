@@ -1,6 +1,5 @@
 -- `prepared_cycles::traces::put_row` meets its contract. Assumes nothing.
 use native.Mathlib.Omega.{arith}
-use borrow.Author.Rules.{rules}
 use mathlib.Core.Path.{◌∙◌}
 use Rattle.prepared_cycles.proofs.Items.{row-parts}
 use Rattle.prepared_cycles.proofs.traces.put_row.Goals as goal

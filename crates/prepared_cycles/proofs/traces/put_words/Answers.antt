@@ -1,13 +1,10 @@
 -- `prepared_cycles::traces::put_words` meets its contract. The loop's invariant: the words so far are written. Assumes nothing.
 use mathlib.Core.Path.{◌≡◌, refl}
-use Prim.Native.Nat.{◌≤◌, ◌-◌}
 use native.Mathlib.Omega.{arith}
-use lib.ListN.{length, get_or, length-set}
-use lib.Seq.{sets}
+use lib.ListN.{get_or, length-set}
 use Rattle.state.specs.Rows.{list_of}
 use Rattle.prepared_cycles.specs.Traces.{word_in}
 use Rattle.prepared_cycles.proofs.Items.{list_of-on}
-use borrow.Author.Rules.{rules}
 use Rattle.prepared_cycles.proofs.traces.put_words.Goals as goal
 
 pub loop-v-init : goal.loop-v-init

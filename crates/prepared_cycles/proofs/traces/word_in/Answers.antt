@@ -1,5 +1,4 @@
 -- `prepared_cycles::traces::word_in` meets its contract. Assumes nothing.
-use borrow.Author.Rules.{rules}
 use mathlib.Core.Path.{ap, ◌∙◌}
 use Rattle.values.specs.Cells.{cell_of}
 use Rattle.prepared_cycles.proofs.traces.word_in.Goals as goal

@@ -1,9 +1,0 @@
--- `clock_nodes::word_at` meets its contract: past the end `get_or` gives 0 too. Assumes nothing.
-use mathlib.Core.Path.{sym}
-use lib.ListN.{get_or-eq_default}
-use borrow.Author.Rules.{rules}
-use Rattle.clock_nodes.proofs.word_at.Goals as goal
-
-pub returns-else-at-words : goal.returns-else-at-words
-returns-else-at-words c =
-    sym (get_or-eq_default c.args.words.now 0 c.if-at-words.false)
