@@ -2,79 +2,162 @@
 // matters is in the library; a script of any bytes is run as far as it goes.
 #![tactic(auto)]
 
-ghost use Rattle.std.specs.Prelude.{◌<◌, ◌≤◌, length};
+ghost use Rattle.std.specs.Prelude.{◌≤◌, length};
+
+mod hex;
 
 use dispatch::Dispatched;
-use events::{Chosen, Inputs, Ran, Verdict};
+use events::{Chosen, Inputs, Verdict};
+use hex::Hex;
 use nextstate::{Clocked, Registers};
-use saved::Brought;
 use state::{Counters, State};
 use std::io::{Print, Read};
 
-// Whether the script goes on, and the state that the next record finds.
-#[derive(Clone, Copy)]
-struct Next {
-    on: bool,
+// What the records work on: the sheet, the state that the next record finds, and the words of the two tables.
+#[derive(Drop)]
+struct Replay<'a> {
+    rt: &'a HostRuntime,
+    sheet: &'a [u8],
     state: State,
+    nodes: [u16; 16385],
+    rows: [u16; 1057],
 }
 
-// One value, a number and the marks of its unknown bits, where the record held it whole.
-#[derive(Clone, Copy)]
-struct Input {
-    found: bool,
-    value: u32,
-    unknown: u32,
-}
-
-// A flag and a number, where the record held them whole.
-#[derive(Clone, Copy)]
-struct Flagged {
-    found: bool,
-    flag: bool,
-    number: u32,
-}
-
-// The inputs of an instant or of a cycle run, where the record held them whole.
-#[derive(Clone, Copy)]
-struct Given {
-    found: bool,
-    inputs: Inputs,
-}
-
-// The turn records of modules, where the record held them whole.
+// Turn records: how many there are, and the first 16 of them.
 #[derive(Clone, Copy)]
 struct Turns {
-    found: bool,
-    count: u8,
+    count: usize,
     busy: [bool; 16],
     turns: [u32; 16],
 }
 
-// What a cycle run is handed beside its inputs, where the record held it whole.
-#[derive(Clone, Copy)]
-struct Handed {
-    found: bool,
-    registers: Registers,
+// ---- reading. What is not there whole is nothing: the script can't be read on.
+
+// Fills the buffer from the script, up to its end or to a read that fails. How many bytes were there?
+fn read_full(rt: &HostRuntime, buf: &mut [u8]) -> usize
+    ensures { result ≤ length buf.new }
+{
+    let mut input = rt.stdin();
+    let mut done = 0;
+    // a loop over `read`: std's calls that read on say nothing of what came before a read that fails
+    while done < buf.len() {
+        match input.read(&mut buf[done..]) {
+            Ok(0) => return done,
+            Ok(n) => done += n,
+            Err(_) => return done,
+        }
+    }
+    done
 }
 
-// Four allowances, where the record held them whole.
-#[derive(Clone, Copy)]
-struct Allowed {
-    found: bool,
-    allowances: [u32; 4],
+// So many bytes.
+fn take<const N: usize>(rt: &HostRuntime) -> Option<[u8; N]> {
+    let mut bytes = [0u8; N];
+    let found = read_full(rt, &mut bytes);
+    if found == N { Some(bytes) } else { None }
 }
 
-// How many words of the two tables are lent, where the record held it.
-#[derive(Clone, Copy)]
-struct Lent {
-    found: bool,
-    nodes: usize,
-    rows: usize,
+// A byte.
+fn byte(rt: &HostRuntime) -> Option<u8> {
+    let [b] = take::<1>(rt)?;
+    Some(b)
 }
 
-// ---- writing
+// Two bytes, the low one first.
+fn word(rt: &HostRuntime) -> Option<u16> {
+    Some(u16::from_le_bytes(take(rt)?))
+}
 
-// A line that nobody takes is lost, and the script goes on.
+// Four bytes, the lowest first.
+fn number(rt: &HostRuntime) -> Option<u32> {
+    Some(u32::from_le_bytes(take(rt)?))
+}
+
+// The front of a buffer, filled.
+fn take_front<'a>(rt: &HostRuntime, buf: &'a mut [u8], n: u16) -> Option<&'a [u8]> {
+    let n = usize::from(n);
+    let front = buf.get_mut(..n)?;
+    if read_full(rt, front) < n {
+        return None;
+    }
+    buf.get(..n)
+}
+
+// One value: four bytes of number, then four bytes of marks.
+fn input(rt: &HostRuntime) -> Option<(u32, u32)> {
+    let [a, b, c, d, e, f, g, h] = take::<8>(rt)?;
+    Some((
+        u32::from_le_bytes([a, b, c, d]),
+        u32::from_le_bytes([e, f, g, h]),
+    ))
+}
+
+// A flag, 0 or 1, and four bytes of number.
+fn flagged(rt: &HostRuntime) -> Option<(bool, u32)> {
+    let [flag, a, b, c, d] = take::<5>(rt)?;
+    if flag > 1 {
+        return None;
+    }
+    Some((flag == 1, u32::from_le_bytes([a, b, c, d])))
+}
+
+// The allowances of four users.
+fn allowances(rt: &HostRuntime) -> Option<[u32; 4]> {
+    Some([number(rt)?, number(rt)?, number(rt)?, number(rt)?])
+}
+
+// A count and so many input values, of which the first 16 are handed on.
+fn inputs(rt: &HostRuntime) -> Option<Inputs> {
+    let count = byte(rt)?;
+    let mut value = [0u32; 16];
+    let mut unknown = [0u32; 16];
+    for k in 0..usize::from(count) {
+        let (n, marks) = input(rt)?;
+        if k < 16 {
+            value[k] = n;
+            unknown[k] = marks;
+        }
+    }
+    Some(Inputs {
+        count,
+        value,
+        unknown,
+    })
+}
+
+// A count and so many turn records, of which the first 16 are handed on.
+fn turn_records(rt: &HostRuntime) -> Option<Turns> {
+    let count = usize::from(byte(rt)?);
+    let mut busy = [false; 16];
+    let mut turns = [0u32; 16];
+    for k in 0..count {
+        let (flag, n) = flagged(rt)?;
+        if k < 16 {
+            busy[k] = flag;
+            turns[k] = n;
+        }
+    }
+    Some(Turns { count, busy, turns })
+}
+
+// 32 register values and 8 places.
+fn registers(rt: &HostRuntime) -> Option<Registers> {
+    let mut value = [0u32; 32];
+    let mut unknown = [0u32; 32];
+    for r in 0..32 {
+        let (n, marks) = input(rt)?;
+        value[r] = n;
+        unknown[r] = marks;
+    }
+    Some(Registers {
+        value,
+        unknown,
+        places: take(rt)?,
+    })
+}
+
+// ---- writing. A line that nobody takes is lost, and the script goes on.
+
 fn say(rt: &HostRuntime, text: &[u8]) {
     let _ = rt.write_all(text);
 }
@@ -86,757 +169,326 @@ fn say_number(rt: &HostRuntime, n: u64) {
 // A word, a blank and a number, and the end of the line.
 fn say_line(rt: &HostRuntime, word: &[u8], n: u8) {
     say(rt, word);
-    say_number(rt, n as u64);
+    say_number(rt, u64::from(n));
     say(rt, b"\n");
 }
 
-// One of the sixteen digits.
-fn digit(n: u8) -> u8 {
-    if n < 10 { b'0' + n } else { b'a' + n % 16 - 10 }
-}
-
-// A byte as two digits, at most up to the end of the text. Gives the place behind them.
-fn put_hex(b: u8, text: &mut [u8; 1024], n: usize) -> usize {
-    if n > 1022 {
-        return n;
+// Bytes in hexadecimal.
+fn say_hex(rt: &HostRuntime, bytes: &[u8]) {
+    let mut hex = Hex::new(rt);
+    for &b in bytes {
+        hex.put(b);
     }
-    text[n] = digit(b / 16);
-    text[n + 1] = digit(b % 16);
-    n + 2
+    hex.flush();
 }
 
-// The first bytes of a text.
-fn say_first(rt: &HostRuntime, text: &[u8], n: usize) {
-    if n <= text.len() {
-        say(rt, &text[..n]);
-    }
-}
-
-fn say_text(rt: &HostRuntime, text: &[u8; 1024], n: usize) {
-    say_first(rt, text, n);
-}
-
-// The bytes from an index on in hexadecimal, at most 512 of them.
-fn say_some(rt: &HostRuntime, bytes: &[u8], from: usize) {
-    let mut text = [0u8; 1024];
-    let mut n = 0;
-    let mut i = from;
-    while i < bytes.len() {
-        if n > 1022 {
-            say_text(rt, &text, n);
-            return;
-        }
-        n = put_hex(bytes[i], &mut text, n);
-        i += 1;
-    }
-    say_text(rt, &text, n);
-}
-
-// The bytes from an index on in hexadecimal.
-fn say_hex(rt: &HostRuntime, bytes: &[u8], from: usize) {
-    let mut i = from;
-    while i < bytes.len() {
-        say_some(rt, bytes, i);
-        if bytes.len() - i <= 512 {
-            return;
-        }
-        i += 512;
-    }
-}
-
-// The words from an index on in hexadecimal, four digits each, at most 256 of them.
-fn say_some_words(rt: &HostRuntime, words: &[u16], from: usize) {
-    let mut text = [0u8; 1024];
-    let mut n = 0;
-    let mut i = from;
-    while i < words.len() {
-        if n > 1020 {
-            say_text(rt, &text, n);
-            return;
-        }
-        let w = words[i];
-        n = put_hex((w / 256 % 256) as u8, &mut text, n);
-        n = put_hex((w % 256) as u8, &mut text, n);
-        i += 1;
-    }
-    say_text(rt, &text, n);
-}
-
-// All words in hexadecimal.
+// Words in hexadecimal, four digits each.
 fn say_words(rt: &HostRuntime, words: &[u16]) {
-    let mut i = 0;
-    while i < words.len() {
-        say_some_words(rt, words, i);
-        if words.len() - i <= 256 {
-            return;
-        }
-        i += 256;
+    let mut hex = Hex::new(rt);
+    for &w in words {
+        hex.put_all(&w.to_be_bytes());
     }
+    hex.flush();
 }
 
-// A number in hexadecimal, four bytes.
-fn put_number(n: u32, text: &mut [u8; 1024], pos: usize) -> usize {
-    let a = put_hex((n % 256) as u8, text, pos);
-    let b = put_hex((n / 256 % 256) as u8, text, a);
-    let c = put_hex((n / 65536 % 256) as u8, text, b);
-    put_hex((n / 16777216 % 256) as u8, text, c)
-}
-
-// A value in hexadecimal: its number, then its marks.
-fn put_value(n: u32, marks: u32, text: &mut [u8; 1024], pos: usize) -> usize {
-    let a = put_number(n, text, pos);
-    put_number(marks, text, a)
-}
-
-// A turn record in hexadecimal: whether it is busy, then its turns.
-fn put_turns(turns: u32, busy: bool, text: &mut [u8; 1024], pos: usize) -> usize {
-    let a = put_hex(busy as u8, text, pos);
-    put_number(turns, text, a)
-}
-
-// Registers or wires in hexadecimal.
-fn say_values(rt: &HostRuntime, value: [u32; 32], unknown: [u32; 32]) {
-    let mut text = [0u8; 1024];
-    let mut n = 0;
-    let mut r = 0;
-    while r < 32 {
-        n = put_value(value[r], unknown[r], &mut text, n);
-        r += 1;
+// Registers or wires in hexadecimal: of each its number, then its marks, the lowest byte first.
+fn say_values(rt: &HostRuntime, value: &[u32; 32], unknown: &[u32; 32]) {
+    let mut hex = Hex::new(rt);
+    for r in 0..32 {
+        hex.put_all(&value[r].to_le_bytes());
+        hex.put_all(&unknown[r].to_le_bytes());
     }
-    say_text(rt, &text, n);
+    hex.flush();
 }
 
-// The turn records in hexadecimal.
-fn say_turns(rt: &HostRuntime, turns: [u32; 16], busy: [bool; 16], count: usize) {
-    let mut text = [0u8; 1024];
-    let mut n = 0;
-    let mut r = 0;
-    while r < 16 && r < count {
-        n = put_turns(turns[r], busy[r], &mut text, n);
-        r += 1;
+// Turn records in hexadecimal: of each whether it is busy, then its turns.
+fn say_turns(rt: &HostRuntime, busy: &[bool], turns: &[u32]) {
+    let mut hex = Hex::new(rt);
+    for (&flag, &n) in busy.iter().zip(turns) {
+        hex.put(u8::from(flag));
+        hex.put_all(&n.to_le_bytes());
     }
-    say_text(rt, &text, n);
-}
-
-// The number picked, or that none is.
-fn say_picked(rt: &HostRuntime, picked: u8) {
-    if picked == 255 {
-        say(rt, b"none");
-    } else {
-        say_number(rt, picked as u64);
-    }
-}
-
-// A saved state in hexadecimal, without its form byte.
-fn say_state(rt: &HostRuntime, bytes: &[u8; 1025]) {
-    say_hex(rt, bytes, 1);
-}
-
-// The last line of a script that can't be read on.
-fn broken(rt: &HostRuntime) -> bool {
-    say(rt, b"bad script\n");
-    false
-}
-
-// The same, with the state as it was.
-fn bad(rt: &HostRuntime, st: State) -> Next {
-    Next {
-        on: broken(rt),
-        state: st,
-    }
-}
-
-// ---- reading
-
-// Fills the buffer from the script, up to its end or to a read that fails. How many bytes were there?
-fn read_full(rt: &HostRuntime, buf: &mut [u8]) -> usize
-    ensures { result ≤ length buf.new }
-{
-    let mut input = rt.stdin();
-    let mut done = 0;
-    while done < buf.len() {
-        match input.read(&mut buf[done..]) {
-            Ok(0) => return done,
-            Ok(n) => done += n,
-            Err(_) => return done,
-        }
-    }
-    done
-}
-
-// Fills the buffer from the script. Was there enough?
-fn take(rt: &HostRuntime, buf: &mut [u8]) -> bool {
-    let want = buf.len();
-    read_full(rt, buf) == want
-}
-
-// Fills the buffer's first `n` bytes from the script. How many were there?
-fn take_some(rt: &HostRuntime, buf: &mut [u8], n: usize) -> usize
-    ensures { result ≤ length buf.new }
-{
-    if n > buf.len() {
-        return 0;
-    }
-    read_full(rt, &mut buf[..n])
-}
-
-// Two bytes, the low one first.
-fn word(low: u8, high: u8) -> usize
-    ensures { result < 65536 }
-{
-    low as usize + 256 * (high as usize)
-}
-
-// Four bytes, the lowest first.
-fn long_word(a: u8, b: u8, c: u8, d: u8) -> u32 {
-    let low = word(a, b) as u32;
-    let high = word(c, d) as u32;
-    low + 65536 * high
-}
-
-// One value: four bytes of number, then four bytes of marks.
-fn read_input(rt: &HostRuntime) -> Input {
-    let mut bytes = [0u8; 8];
-    let found = take(rt, &mut bytes);
-    Input {
-        found,
-        value: long_word(bytes[0], bytes[1], bytes[2], bytes[3]),
-        unknown: long_word(bytes[4], bytes[5], bytes[6], bytes[7]),
-    }
-}
-
-// A flag, 0 or 1, and four bytes of number.
-fn read_flagged(rt: &HostRuntime) -> Flagged {
-    let mut bytes = [0u8; 5];
-    let whole = take(rt, &mut bytes);
-    Flagged {
-        found: whole && bytes[0] < 2,
-        flag: bytes[0] == 1,
-        number: long_word(bytes[1], bytes[2], bytes[3], bytes[4]),
-    }
-}
-
-// The allowances of four users.
-fn read_allowances(rt: &HostRuntime) -> Allowed {
-    let mut bytes = [0u8; 16];
-    let found = take(rt, &mut bytes);
-    let a = long_word(bytes[0], bytes[1], bytes[2], bytes[3]);
-    let b = long_word(bytes[4], bytes[5], bytes[6], bytes[7]);
-    let c = long_word(bytes[8], bytes[9], bytes[10], bytes[11]);
-    let d = long_word(bytes[12], bytes[13], bytes[14], bytes[15]);
-    Allowed {
-        found,
-        allowances: [a, b, c, d],
-    }
-}
-
-// Input values: `n` of them, the first 16 are handed on.
-fn read_inputs(rt: &HostRuntime, n: u8) -> Given {
-    let mut value = [0u32; 16];
-    let mut unknown = [0u32; 16];
-    let mut found = true;
-    let mut k: u8 = 0;
-    while k < n && found {
-        let v = read_input(rt);
-        found = v.found;
-        if k < 16 {
-            value[k as usize] = v.value;
-            unknown[k as usize] = v.unknown;
-        }
-        k += 1;
-    }
-    Given {
-        found,
-        inputs: Inputs {
-            count: n,
-            value,
-            unknown,
-        },
-    }
-}
-
-// A count and so many input values.
-fn read_given(rt: &HostRuntime) -> Given {
-    let mut count = [0u8; 1];
-    let whole = take(rt, &mut count);
-    let mut g = read_inputs(rt, count[0]);
-    g.found = g.found && whole;
-    g
-}
-
-// Turn records: `n` of them, the first 16 are handed on.
-fn read_turns(rt: &HostRuntime, n: u8) -> Turns {
-    let mut busy = [false; 16];
-    let mut turns = [0u32; 16];
-    let mut found = true;
-    let mut k: u8 = 0;
-    while k < n && found {
-        let v = read_flagged(rt);
-        found = v.found;
-        if k < 16 {
-            busy[k as usize] = v.flag;
-            turns[k as usize] = v.number;
-        }
-        k += 1;
-    }
-    Turns {
-        found,
-        count: n,
-        busy,
-        turns,
-    }
-}
-
-// A count and so many turn records.
-fn read_counted(rt: &HostRuntime) -> Turns {
-    let mut count = [0u8; 1];
-    let whole = take(rt, &mut count);
-    let mut g = read_turns(rt, count[0]);
-    g.found = g.found && whole;
-    g
-}
-
-// 32 register values and 8 places.
-fn read_registers(rt: &HostRuntime) -> Handed {
-    let mut value = [0u32; 32];
-    let mut unknown = [0u32; 32];
-    let mut places = [0u8; 8];
-    let mut found = true;
-    let mut r = 0;
-    while r < 32 && found {
-        let v = read_input(rt);
-        found = v.found;
-        value[r] = v.value;
-        unknown[r] = v.unknown;
-        r += 1;
-    }
-    let whole = take(rt, &mut places);
-    Handed {
-        found: found && whole,
-        registers: Registers {
-            value,
-            unknown,
-            places,
-        },
-    }
-}
-
-// How many words of each table.
-fn read_lent(rt: &HostRuntime) -> Lent {
-    let mut counts = [0u8; 4];
-    let found = take(rt, &mut counts);
-    Lent {
-        found,
-        nodes: word(counts[0], counts[1]),
-        rows: word(counts[2], counts[3]),
-    }
-}
-
-// ---- the records that leave the state alone: does the script go on?
-
-// `N`: reads the sheet.
-fn do_read(rt: &HostRuntime, sheet: &[u8]) -> bool {
-    let r = sheet::read(sheet);
-    say(rt, b"read ");
-    say_number(rt, r.number as u64);
-    say(rt, b" ");
-    say_number(rt, r.place as u64);
-    say(rt, b"\n");
-    true
-}
-
-// `Q`: the listing.
-fn do_list(rt: &HostRuntime, sheet: &[u8]) -> bool {
-    let mut text = [0u8; 65536];
-    let length = listings::print(sheet, &mut text);
-    say(rt, b"list ");
-    say_hex(rt, &text[..length], 0);
-    say(rt, b"\n");
-    true
-}
-
-// `D`: the state.
-fn do_save(rt: &HostRuntime, st: State) -> bool {
-    let mut bytes = [0u8; 1025];
-    saved::save(st, &mut bytes);
-    say(rt, b"state ");
-    say_state(rt, &bytes);
-    say(rt, b"\n");
-    true
-}
-
-// `X`: extraction, lent the first words of both.
-fn do_extract(rt: &HostRuntime, sheet: &[u8], nodes: &mut [u16], rows: &mut [u16]) -> bool {
-    let l = read_lent(rt);
-    let a = l.nodes;
-    let b = l.rows;
-    if !l.found || a > nodes.len() || b > rows.len() {
-        return broken(rt);
-    }
-    say_line(
-        rt,
-        b"extract ",
-        extraction::extract(sheet, &mut nodes[..a], &mut rows[..b]),
-    );
-    true
-}
-
-// `T`: all words.
-fn do_tables(rt: &HostRuntime, nodes: &[u16], rows: &[u16]) -> bool {
-    say(rt, b"nodes ");
-    say_words(rt, nodes);
-    say(rt, b" rows ");
-    say_words(rt, rows);
-    say(rt, b"\n");
-    true
-}
-
-// Stores a word where it is meant for this table and the index lies inside it.
-fn store(words: &mut [u16], meant: bool, i: usize, w: u16) {
-    if meant && i < words.len() {
-        words[i] = w;
-    }
-}
-
-// `W`: stores one word. Behind the table, a flag, stand an index and a word: a number's low and high half.
-fn do_word(rt: &HostRuntime, nodes: &mut [u16], rows: &mut [u16]) -> bool {
-    let v = read_flagged(rt);
-    if !v.found {
-        return broken(rt);
-    }
-    let i = (v.number % 65536) as usize;
-    let w = (v.number / 65536 % 65536) as u16;
-    store(nodes, !v.flag, i, w);
-    store(rows, v.flag, i, w);
-    say(rt, b"word\n");
-    true
+    hex.flush();
 }
 
 // What a cycle run gave.
-fn say_cycled(rt: &HostRuntime, c: Clocked) {
+fn say_cycled(rt: &HostRuntime, c: &Clocked) {
     say(rt, b"cycle ");
-    say_number(rt, c.number as u64);
+    say_number(rt, u64::from(c.number));
     say(rt, b" ");
-    let value = c.value;
-    let unknown = c.unknown;
-    say_values(rt, value, unknown);
-    let places = c.places;
-    say_hex(rt, &places, 0);
-    let wire = c.wire;
-    let unsure = c.unsure;
-    say_values(rt, wire, unsure);
+    say_values(rt, &c.value, &c.unknown);
+    say_hex(rt, &c.places);
+    say_values(rt, &c.wire, &c.unsure);
     say(rt, b"\n");
-}
-
-// A cycle run on lent words.
-fn run_cycle(rt: &HostRuntime, sheet: &[u8], nodes: &[u16], rows: &[u16]) -> bool {
-    let h = read_registers(rt);
-    let g = read_given(rt);
-    if !h.found || !g.found {
-        return broken(rt);
-    }
-    let before = h.registers;
-    let inputs = g.inputs;
-    say_cycled(rt, cycles::cycle(sheet, nodes, rows, before, inputs));
-    true
-}
-
-// `K`: a cycle run on the first words of both.
-fn do_cycle(rt: &HostRuntime, sheet: &[u8], nodes: &[u16], rows: &[u16]) -> bool {
-    let l = read_lent(rt);
-    let a = l.nodes;
-    let b = l.rows;
-    if !l.found || a > nodes.len() || b > rows.len() {
-        return broken(rt);
-    }
-    run_cycle(rt, sheet, &nodes[..a], &rows[..b])
-}
-
-// The dispatcher on the first `n` records.
-fn dispatch_first(busy: &[bool], turns: &mut [u32], n: usize, last: u8) -> Dispatched {
-    if n > busy.len() {
-        return Dispatched::Refused(48);
-    }
-    if n > turns.len() {
-        return Dispatched::Refused(48);
-    }
-    dispatch::slices::dispatch_planes(&busy[..n], &mut turns[..n], last)
-}
-
-// `B`: the dispatcher.
-fn do_dispatch(rt: &HostRuntime) -> bool {
-    let g = read_counted(rt);
-    let mut last = [0u8; 1];
-    let whole = take(rt, &mut last);
-    let n = g.count as usize;
-    if !g.found || !whole || n > 16 {
-        return broken(rt);
-    }
-    let busy = g.busy;
-    let mut turns = g.turns;
-    let answer = dispatch_first(&busy, &mut turns, n, last[0]);
-    say(rt, b"dispatch ");
-    say_number(rt, dispatch::number_of(answer) as u64);
-    say(rt, b" ");
-    say_picked(rt, dispatch::picked_of(answer));
-    say(rt, b" ");
-    say_turns(rt, turns, busy, n);
-    say(rt, b"\n");
-    true
-}
-
-// A buffer in hexadecimal.
-fn say_buffer(rt: &HostRuntime, bytes: &[u8; 8193]) {
-    say_hex(rt, bytes, 0);
-}
-
-// What a text gave, lent the first bytes of a buffer.
-fn say_text_read(rt: &HostRuntime, text: &[u8], lent: usize) -> bool {
-    let mut buffer = [170u8; 8193];
-    if lent > 8193 {
-        return broken(rt);
-    }
-    let r = verilog_read::read_text(text, &mut buffer[..lent]);
-    say(rt, b"text ");
-    say_number(rt, r.number as u64);
-    say(rt, b" ");
-    say_number(rt, r.length as u64);
-    say(rt, b" ");
-    say_buffer(rt, &buffer);
-    say(rt, b"\n");
-    true
-}
-
-// `V`: a text's sheet.
-fn do_text(rt: &HostRuntime) -> bool {
-    let mut count = [0u8; 2];
-    if !take(rt, &mut count) {
-        return broken(rt);
-    }
-    let n = word(count[0], count[1]);
-    let mut text = [0u8; 65536];
-    let got = take_some(rt, &mut text, n);
-    let mut room = [0u8; 2];
-    let whole = take(rt, &mut room);
-    if got < n || !whole {
-        return broken(rt);
-    }
-    say_text_read(rt, &text[..got], word(room[0], room[1]))
-}
-
-// ---- the records that change it
-
-// The line of a call that answers with a number, and the state that it gave back.
-fn told(rt: &HostRuntime, text: &[u8], c: Chosen) -> Next {
-    say_line(rt, text, c.number);
-    let st = c.state;
-    Next {
-        on: true,
-        state: st,
-    }
-}
-
-// The line of a refused call, and the state as it was.
-fn kept(rt: &HostRuntime, text: &[u8], number: u8, st: State) -> Next {
-    say_line(rt, text, number);
-    Next {
-        on: true,
-        state: st,
-    }
-}
-
-// `S`: the state becomes the start state, unless refused.
-fn do_start(rt: &HostRuntime, sheet: &[u8], st: State) -> Next {
-    let a = read_allowances(rt);
-    if !a.found {
-        return bad(rt, st);
-    }
-    let allowances = a.allowances;
-    let c = simulator::start(sheet, allowances);
-    if c.number != 0 {
-        return kept(rt, b"start ", c.number, st);
-    }
-    told(rt, b"start ", c)
-}
-
-// `C`: a choice of a user.
-fn do_choose(rt: &HostRuntime, sheet: &[u8], st: State) -> Next {
-    let mut bytes = [0u8; 2];
-    if !take(rt, &mut bytes) {
-        return bad(rt, st);
-    }
-    told(
-        rt,
-        b"choose ",
-        simulator::choose(sheet, st, bytes[0], bytes[1]),
-    )
-}
-
-// `R`: a run over a list of a user's choices.
-fn do_run(rt: &HostRuntime, sheet: &[u8], st: State) -> Next {
-    let mut front = [0u8; 3];
-    if !take(rt, &mut front) {
-        return bad(rt, st);
-    }
-    let n = word(front[1], front[2]);
-    let mut choices = [0u8; 65536];
-    let got = take_some(rt, &mut choices, n);
-    if got < n {
-        return bad(rt, st);
-    }
-    ran(rt, simulator::run(sheet, st, front[0], &choices[..got]))
-}
-
-// The line of a run, and the state that it gave back.
-fn ran(rt: &HostRuntime, r: Ran) -> Next {
-    say(rt, b"run ");
-    say_number(rt, r.accepted as u64);
-    say_line(rt, b" ", r.number);
-    let left = r.state;
-    Next {
-        on: true,
-        state: left,
-    }
-}
-
-// A number, a blank and a word, and the end of the line.
-fn say_line_of(rt: &HostRuntime, n: u8, word: &[u8]) {
-    say_number(rt, n as u64);
-    say(rt, word);
 }
 
 // How a plain run ended.
 fn say_verdict(rt: &HostRuntime, v: Verdict) {
-    match v {
-        Verdict::Quiet => say(rt, b"0 quiet\n"),
-        Verdict::Spent => say(rt, b"0 spent\n"),
-        Verdict::Stopped(n) => say_line_of(rt, n, b" full\n"),
-        Verdict::Refused(n) => say_line_of(rt, n, b" refused\n"),
-    }
+    let (n, word): (u8, &[u8]) = match v {
+        Verdict::Quiet => (0, b" quiet\n"),
+        Verdict::Spent => (0, b" spent\n"),
+        Verdict::Stopped(n) => (n, b" full\n"),
+        Verdict::Refused(n) => (n, b" refused\n"),
+    };
+    say_number(rt, u64::from(n));
+    say(rt, word);
 }
 
-// `P`: the plain run of a user.
-fn do_plain(rt: &HostRuntime, sheet: &[u8], st: State) -> Next {
-    let mut bytes = [0u8; 3];
-    if !take(rt, &mut bytes) {
-        return bad(rt, st);
-    }
-    let n = word(bytes[1], bytes[2]) as u16;
-    let r = simulator::run_plain(sheet, st, bytes[0], n);
-    say(rt, b"plain ");
-    say_number(rt, r.accepted as u64);
-    say(rt, b" ");
-    let v = r.verdict;
-    say_verdict(rt, v);
-    let left = r.state;
-    Next {
-        on: true,
-        state: left,
-    }
-}
+impl Replay<'_> {
+    // ---- the records that leave the state alone
 
-// `I`: an instant.
-fn do_instant(rt: &HostRuntime, sheet: &[u8], st: State) -> Next {
-    let g = read_given(rt);
-    if !g.found {
-        return bad(rt, st);
+    // `N`: reads the sheet.
+    fn read(&self) {
+        let r = sheet::read(self.sheet);
+        say(self.rt, b"read ");
+        say_number(self.rt, u64::from(r.number));
+        say(self.rt, b" ");
+        say_number(self.rt, r.place as u64);
+        say(self.rt, b"\n");
     }
-    let a = g.inputs;
-    told(rt, b"instant ", simulator::instant(sheet, st, a))
-}
 
-// `L`: the state becomes this one, unjudged.
-fn do_load(rt: &HostRuntime, st: State) -> Next {
-    let mut bytes = [0u8; 1025];
-    bytes[0] = 4;
-    if !take(rt, &mut bytes[1..]) {
-        return bad(rt, st);
+    // `Q`: the listing.
+    fn list(&self) {
+        let mut text = [0u8; 65536];
+        let length = listings::print(self.sheet, &mut text);
+        say(self.rt, b"list ");
+        say_hex(self.rt, &text[..length]);
+        say(self.rt, b"\n");
     }
-    let l = saved::load(&bytes);
-    if !l.found {
-        return bad(rt, st);
-    }
-    say(rt, b"load\n");
-    let loaded = l.state;
-    Next {
-        on: true,
-        state: loaded,
-    }
-}
 
-// `M`: a saved state of any form is brought over by the sheet; the state becomes it, unless refused.
-fn do_bring(rt: &HostRuntime, sheet: &[u8], st: State) -> Next {
-    let mut count = [0u8; 2];
-    let mut bytes = [0u8; 65536];
-    if !take(rt, &mut count) {
-        return bad(rt, st);
+    // `D`: the state, saved, without its form byte.
+    fn save(&self) {
+        let mut bytes = [0u8; 1025];
+        saved::save(self.state, &mut bytes);
+        say(self.rt, b"state ");
+        say_hex(self.rt, &bytes[1..]);
+        say(self.rt, b"\n");
     }
-    let n = word(count[0], count[1]);
-    let got = take_some(rt, &mut bytes, n);
-    let a = read_allowances(rt);
-    if got < n || !a.found {
-        return bad(rt, st);
-    }
-    let allowances = a.allowances;
-    brought(rt, saved::bring_over(sheet, &bytes[..got], allowances), st)
-}
 
-// The line of what was brought over, and the state from there on.
-fn brought(rt: &HostRuntime, b: Brought, st: State) -> Next {
-    if b.number != 0 {
-        return kept(rt, b"bring ", b.number, st);
+    // `X`: extraction, lent the first words of both.
+    fn extract(&mut self) -> Option<()> {
+        let a = word(self.rt)?;
+        let b = word(self.rt)?;
+        let nodes = self.nodes.get_mut(..usize::from(a))?;
+        let rows = self.rows.get_mut(..usize::from(b))?;
+        let number = extraction::extract(self.sheet, nodes, rows);
+        say_line(self.rt, b"extract ", number);
+        Some(())
     }
-    say_line(rt, b"bring ", 0);
-    let state = b.state;
-    Next { on: true, state }
-}
 
-// ---- the script
-
-// A record that leaves the state alone.
-fn told_of(
-    rt: &HostRuntime,
-    letter: u8,
-    sheet: &[u8],
-    st: State,
-    nodes: &mut [u16],
-    rows: &mut [u16],
-) -> bool {
-    match letter {
-        b'N' => do_read(rt, sheet),
-        b'Q' => do_list(rt, sheet),
-        b'D' => do_save(rt, st),
-        b'X' => do_extract(rt, sheet, nodes, rows),
-        b'T' => do_tables(rt, nodes, rows),
-        b'W' => do_word(rt, nodes, rows),
-        b'K' => do_cycle(rt, sheet, nodes, rows),
-        b'B' => do_dispatch(rt),
-        b'V' => do_text(rt),
-        _ => broken(rt),
+    // `T`: all words.
+    fn tell_tables(&self) {
+        say(self.rt, b"nodes ");
+        say_words(self.rt, &self.nodes);
+        say(self.rt, b" rows ");
+        say_words(self.rt, &self.rows);
+        say(self.rt, b"\n");
     }
-}
 
-// One record. The end of the script stands where a letter could.
-fn record(rt: &HostRuntime, sheet: &[u8], st: State, nodes: &mut [u16], rows: &mut [u16]) -> Next {
-    let mut letter = [0u8; 1];
-    if !take(rt, &mut letter) {
-        return Next {
-            on: false,
-            state: st,
-        };
+    // `W`: stores one word, where the index lies inside its table. Behind the table, a flag, stand the index and the word.
+    fn store(&mut self) -> Option<()> {
+        let [table, a, b, c, d] = take::<5>(self.rt)?;
+        let i = usize::from(u16::from_le_bytes([a, b]));
+        let w = u16::from_le_bytes([c, d]);
+        match table {
+            0 if i < self.nodes.len() => self.nodes[i] = w,
+            1 if i < self.rows.len() => self.rows[i] = w,
+            0 | 1 => {}
+            _ => return None,
+        }
+        say(self.rt, b"word\n");
+        Some(())
     }
-    match letter[0] {
-        b'S' => do_start(rt, sheet, st),
-        b'C' => do_choose(rt, sheet, st),
-        b'R' => do_run(rt, sheet, st),
-        b'P' => do_plain(rt, sheet, st),
-        b'I' => do_instant(rt, sheet, st),
-        b'L' => do_load(rt, st),
-        b'M' => do_bring(rt, sheet, st),
-        _ => Next {
-            on: told_of(rt, letter[0], sheet, st, nodes, rows),
-            state: st,
-        },
+
+    // `K`: a cycle run on the first words of both.
+    fn cycle(&self) -> Option<()> {
+        let a = word(self.rt)?;
+        let b = word(self.rt)?;
+        let nodes = self.nodes.get(..usize::from(a))?;
+        let rows = self.rows.get(..usize::from(b))?;
+        let before = registers(self.rt)?;
+        let inputs = inputs(self.rt)?;
+        let c = cycles::cycle(self.sheet, nodes, rows, before, inputs);
+        say_cycled(self.rt, &c);
+        Some(())
+    }
+
+    // `B`: the dispatcher.
+    fn dispatch(&self) -> Option<()> {
+        let Turns {
+            count,
+            busy,
+            mut turns,
+        } = turn_records(self.rt)?;
+        let last = byte(self.rt)?;
+        let busy = busy.get(..count)?;
+        let turns = turns.get_mut(..count)?;
+        let answer = dispatch::slices::dispatch_planes(busy, turns, last);
+        say(self.rt, b"dispatch ");
+        say_number(self.rt, u64::from(dispatch::number_of(answer)));
+        say(self.rt, b" ");
+        match answer {
+            Dispatched::Picked(n) => say_number(self.rt, u64::from(n)),
+            _ => say(self.rt, b"none"),
+        }
+        say(self.rt, b" ");
+        say_turns(self.rt, busy, turns);
+        say(self.rt, b"\n");
+        Some(())
+    }
+
+    // `V`: a text's sheet, lent the first bytes of a buffer.
+    fn read_text(&self) -> Option<()> {
+        let mut text = [0u8; 65536];
+        let n = word(self.rt)?;
+        let text = take_front(self.rt, &mut text, n)?;
+        let room = word(self.rt)?;
+        let mut buffer = [170u8; 8193];
+        let lent = buffer.get_mut(..usize::from(room))?;
+        let r = verilog_read::read_text(text, lent);
+        say(self.rt, b"text ");
+        say_number(self.rt, u64::from(r.number));
+        say(self.rt, b" ");
+        say_number(self.rt, r.length as u64);
+        say(self.rt, b" ");
+        say_hex(self.rt, &buffer);
+        say(self.rt, b"\n");
+        Some(())
+    }
+
+    // ---- the records that change it
+
+    // The line of a call that answers with a number, and the state that it gave back.
+    fn tell(&mut self, text: &[u8], c: Chosen) {
+        say_line(self.rt, text, c.number);
+        self.state = c.state;
+    }
+
+    // `S`: the state becomes the start state, unless refused.
+    fn start(&mut self) -> Option<()> {
+        let c = simulator::start(self.sheet, allowances(self.rt)?);
+        say_line(self.rt, b"start ", c.number);
+        if c.number == 0 {
+            self.state = c.state;
+        }
+        Some(())
+    }
+
+    // `C`: a choice of a user.
+    fn choose(&mut self) -> Option<()> {
+        let [user, choice] = take::<2>(self.rt)?;
+        let c = simulator::choose(self.sheet, self.state, user, choice);
+        self.tell(b"choose ", c);
+        Some(())
+    }
+
+    // `R`: a run over a list of a user's choices.
+    fn run(&mut self) -> Option<()> {
+        let user = byte(self.rt)?;
+        let n = word(self.rt)?;
+        let mut choices = [0u8; 65536];
+        let choices = take_front(self.rt, &mut choices, n)?;
+        let r = simulator::run(self.sheet, self.state, user, choices);
+        say(self.rt, b"run ");
+        say_number(self.rt, r.accepted as u64);
+        say_line(self.rt, b" ", r.number);
+        self.state = r.state;
+        Some(())
+    }
+
+    // `P`: the plain run of a user.
+    fn run_plain(&mut self) -> Option<()> {
+        let user = byte(self.rt)?;
+        let limit = word(self.rt)?;
+        let r = simulator::run_plain(self.sheet, self.state, user, limit);
+        say(self.rt, b"plain ");
+        say_number(self.rt, u64::from(r.accepted));
+        say(self.rt, b" ");
+        say_verdict(self.rt, r.verdict);
+        self.state = r.state;
+        Some(())
+    }
+
+    // `I`: an instant.
+    fn enter(&mut self) -> Option<()> {
+        let inputs = inputs(self.rt)?;
+        let c = simulator::instant(self.sheet, self.state, inputs);
+        self.tell(b"instant ", c);
+        Some(())
+    }
+
+    // `L`: the state becomes this one, unjudged.
+    fn load(&mut self) -> Option<()> {
+        let mut bytes = [0u8; 1025];
+        bytes[0] = 4;
+        if read_full(self.rt, &mut bytes[1..]) < 1024 {
+            return None;
+        }
+        let l = saved::load(&bytes);
+        if !l.found {
+            return None;
+        }
+        say(self.rt, b"load\n");
+        self.state = l.state;
+        Some(())
+    }
+
+    // `M`: a saved state of any form is brought over by the sheet; the state becomes it, unless refused.
+    fn bring(&mut self) -> Option<()> {
+        let n = word(self.rt)?;
+        let mut bytes = [0u8; 65536];
+        let old = take_front(self.rt, &mut bytes, n)?;
+        let b = saved::bring_over(self.sheet, old, allowances(self.rt)?);
+        say_line(self.rt, b"bring ", b.number);
+        if b.number == 0 {
+            self.state = b.state;
+        }
+        Some(())
+    }
+
+    // ---- the script
+
+    // A record by its letter, of those that read no more than that.
+    fn tell_of(&self, letter: u8) -> Option<()> {
+        match letter {
+            b'N' => self.read(),
+            b'Q' => self.list(),
+            b'D' => self.save(),
+            b'T' => self.tell_tables(),
+            _ => return None,
+        }
+        Some(())
+    }
+
+    // A record by its letter.
+    fn record(&mut self, letter: u8) -> Option<()> {
+        match letter {
+            b'S' => self.start(),
+            b'C' => self.choose(),
+            b'R' => self.run(),
+            b'P' => self.run_plain(),
+            b'I' => self.enter(),
+            b'L' => self.load(),
+            b'M' => self.bring(),
+            b'X' => self.extract(),
+            b'W' => self.store(),
+            b'K' => self.cycle(),
+            b'B' => self.dispatch(),
+            b'V' => self.read_text(),
+            _ => self.tell_of(letter),
+        }
+    }
+
+    // All records; the end of the script stands where a letter could. A proved loop has to end, and nothing says that a script does: so
+    // it counts its turns, up to a number that no run uses up.
+    fn records(&mut self) -> Option<()> {
+        for _ in 0..u64::MAX {
+            let Some(letter) = byte(self.rt) else {
+                break;
+            };
+            self.record(letter)?;
+        }
+        Some(())
     }
 }
 
@@ -858,37 +510,26 @@ fn zero() -> State {
     }
 }
 
-// All records, on tables whose words are all 43690 at first. A proved loop has to end, and nothing says that a script does: so it
-// counts its turns, up to a number that no run uses up.
-fn records(rt: &HostRuntime, sheet: &[u8]) {
-    let mut nodes = [43690u16; 16385];
-    let mut rows = [43690u16; 1057];
-    let mut next = Next {
-        on: true,
-        state: zero(),
-    };
-    for _ in 0..u64::MAX {
-        if !next.on {
-            return;
-        }
-        let st = next.state;
-        next = record(rt, sheet, st, &mut nodes, &mut rows);
+// A script: its head is the form, 4, the sheet's length and the sheet. The words of the tables are all 43690 at first.
+fn play(rt: &HostRuntime) -> Option<()> {
+    let [form, a, b] = take::<3>(rt)?;
+    if form != 4 {
+        return None;
     }
+    let mut sheet = [0u8; 65536];
+    let sheet = take_front(rt, &mut sheet, u16::from_le_bytes([a, b]))?;
+    let mut replay = Replay {
+        rt,
+        sheet,
+        state: zero(),
+        nodes: [43690u16; 16385],
+        rows: [43690u16; 1057],
+    };
+    replay.records()
 }
 
-// The head: the form, 4, the sheet's length and the sheet.
 fn main(rt: HostRuntime) {
-    let mut head = [0u8; 3];
-    let mut sheet = [0u8; 65536];
-    if !take(&rt, &mut head) || head[0] != 4 {
+    if play(&rt).is_none() {
         say(&rt, b"bad script\n");
-        return;
     }
-    let n = word(head[1], head[2]);
-    let got = take_some(&rt, &mut sheet, n);
-    if got < n {
-        say(&rt, b"bad script\n");
-        return;
-    }
-    records(&rt, &sheet[..got]);
 }
