@@ -1,32 +1,41 @@
 // Files by the words that name them; `-` is standard input. Every read and every write is judged.
-use crate::system::{Stream, System, is_open};
+use crate::system::{Stream, System};
 use options::Outcome;
 
-// What was read: could it be, how far the buffer is filled, and from which stream.
+// What was read of a file: how far the buffer is filled, and from which stream.
 #[derive(Clone, Copy)]
 pub struct Got {
-    pub good: bool,
     pub size: usize,
     pub stream: Stream,
 }
 
-fn gained(good: bool, size: usize, stream: Stream) -> Got {
-    Got { good, size, stream }
+// A file that can't be read on, which was said; so many bytes of it were read before.
+#[derive(Clone, Copy)]
+pub struct Unread {
+    pub size: usize,
 }
 
 // ---- writing
 
-// Writes the first bytes of a text. Were all written?
-fn write_first(system: &mut System, stream: Stream, text: &[u8], n: usize) -> bool {
-    if n <= text.len() {
-        return system.write(stream, &text[..n]);
-    }
-    false
+// Writes the front of a text. Was all of it written?
+pub fn flush(system: &mut System, stream: Stream, text: &[u8], pos: usize) -> bool {
+    let Some(part) = text.get(..pos) else {
+        return false;
+    };
+    system.write(stream, part)
 }
 
-// Writes a text. Was all of it written?
-pub fn flush(system: &mut System, stream: Stream, text: &[u8; 65536], pos: usize) -> bool {
-    write_first(system, stream, text, pos)
+// Writes what a closure puts to the front of a text. Was all of it written?
+pub fn write_filled<F: FnOnce(&mut [u8; 65536]) -> usize>(
+    system: &mut System,
+    stream: Stream,
+    put: F,
+) -> bool
+    requires { F.IsAlwaysCallable put }
+{
+    let mut text = [0u8; 65536];
+    let pos = put(&mut text);
+    flush(system, stream, &text, pos)
 }
 
 // Says that standard output could not be written; where nobody reads it any more, nothing is said.
@@ -36,124 +45,126 @@ pub fn unshown(system: &mut System) {
     }
 }
 
-// Writes a text to standard output; where that fails, says why.
-pub fn show(system: &mut System, text: &[u8; 65536], pos: usize) -> Outcome {
-    if flush(system, Stream::Output, text, pos) {
-        return Outcome::Done;
+// How a command ends by whether standard output was written; where it was not, says why.
+fn judged(system: &mut System, shown: bool) -> Result<(), Outcome> {
+    if shown {
+        return Ok(());
     }
     unshown(system);
-    Outcome::Mistaken
+    Err(Outcome::Mistaken)
+}
+
+// Writes the front of a text to standard output; where that fails, says why.
+pub fn show(system: &mut System, text: &[u8], pos: usize) -> Result<(), Outcome> {
+    let shown = flush(system, Stream::Output, text, pos);
+    judged(system, shown)
+}
+
+// The same of what a closure puts to the front of a text.
+pub fn show_filled<F: FnOnce(&mut [u8; 65536]) -> usize>(
+    system: &mut System,
+    put: F,
+) -> Result<(), Outcome>
+    requires { F.IsAlwaysCallable put }
+{
+    let mut text = [0u8; 65536];
+    let pos = put(&mut text);
+    show(system, &text, pos)
 }
 
 // A word on standard output.
-pub fn show_word(system: &mut System, word: &[u8]) -> Outcome {
-    if system.write(Stream::Output, word) {
-        return Outcome::Done;
-    }
-    unshown(system);
-    Outcome::Mistaken
+pub fn show_word(system: &mut System, word: &[u8]) -> Result<(), Outcome> {
+    let shown = system.write(Stream::Output, word);
+    judged(system, shown)
 }
 
 // ---- reading
 
-// The first bytes of some.
-pub fn front(bytes: &[u8], n: usize) -> &[u8] {
-    if n <= bytes.len() {
-        return &bytes[..n];
-    }
-    bytes
+// What stands in so many bytes of a buffer behind a byte order mark.
+pub fn behind_mark(buffer: &[u8], size: usize) -> Option<&[u8]> {
+    buffer.get(sources::mark_size(buffer)..size)
 }
 
-// The byte at a place, 0 past the end.
-pub fn byte_at(s: &[u8], at: usize) -> u8 {
-    if at < s.len() { s[at] } else { 0 }
-}
-
-// Opens the file of a name; where that fails, says why and gives none.
-pub fn open_path(system: &mut System, path: &[u8]) -> Stream {
-    if path.len() == 1 {
-        if path[0] == b'-' {
-            return Stream::Input;
-        }
+// Opens the file of a name; where that fails, says why.
+fn open_path(system: &mut System, path: &[u8]) -> Option<Stream> {
+    if matches!(path, b"-") {
+        return Some(Stream::Input);
     }
     let stream = system.open_read(path);
-    if !is_open(stream) {
+    if stream.is_none() {
         system.fail(path);
     }
     stream
 }
 
-// Opens the file that a word names; where that fails, says why and gives none.
-pub fn open_input(system: &mut System, index: usize) -> Stream {
-    let mut path = [0u8; 4096];
-    let n = system.word(index, &mut path);
-    if system.has_failed() {
+// Opens the file that a word names; where that fails, says why.
+pub fn open_input(system: &mut System, index: usize) -> Option<Stream> {
+    let mut buffer = [0u8; 4096];
+    let Some(path) = system.word(index, &mut buffer) else {
         system.fail(b"a file's name");
-        return Stream::Nowhere;
-    }
-    open_path(system, &path[..n])
-}
-
-// One read behind what stands in the buffer up to a place.
-fn read_some(system: &mut System, stream: Stream, buffer: &mut [u8], at: usize) -> Got {
-    let size = buffer.len();
-    if size <= at {
-        return gained(true, size, stream);
-    }
-    let Some(n) = system.read(stream, &mut buffer[at..]) else {
-        return gained(false, at, stream);
+        return None;
     };
-    if size - at < n {
-        return gained(true, size, stream);
-    }
-    gained(true, at + n, stream)
+    open_path(system, path)
 }
 
-// One read more of the file that a word names; where it fails, says why.
+// One read behind what stands in the buffer up to a place. Gives how far it is filled.
+fn read_some(system: &mut System, stream: Stream, buffer: &mut [u8], at: usize) -> Option<usize> {
+    let size = buffer.len();
+    let Some(rest) = buffer.get_mut(at..) else {
+        return Some(size);
+    };
+    if rest.is_empty() {
+        return Some(size);
+    }
+    let n = system.read(stream, rest)?;
+    Some(at.saturating_add(n).min(size))
+}
+
+// One read more of the file that a word names; where it fails, says why. Gives how far the buffer is filled.
 pub fn read_more(
     system: &mut System,
     index: usize,
     stream: Stream,
     buffer: &mut [u8],
     at: usize,
-) -> Got {
-    let mut path = [0u8; 4096];
-    let n = system.word(index, &mut path);
-    let g = read_some(system, stream, buffer, at);
-    if !g.good {
-        system.fail(&path[..n]);
+) -> Option<usize> {
+    let mut name = [0u8; 4096];
+    let path = system.word(index, &mut name).unwrap_or(b"");
+    let filled = read_some(system, stream, buffer, at);
+    if filled.is_none() {
+        system.fail(path);
     }
-    g
+    filled
 }
 
-// Reads up to the file's end or the buffer's.
-pub fn read_on(system: &mut System, index: usize, stream: Stream, buffer: &mut [u8]) -> Got {
+// Reads up to the file's end or the buffer's. Gives how far the buffer is filled.
+pub fn read_on(
+    system: &mut System,
+    index: usize,
+    stream: Stream,
+    buffer: &mut [u8],
+) -> Result<usize, Unread> {
     let mut at = 0;
     for _ in 0..u64::MAX {
-        let g = read_more(system, index, stream, buffer, at);
-        if !g.good {
-            return g;
+        let size = read_more(system, index, stream, buffer, at).ok_or(Unread { size: at })?;
+        if size == at {
+            return Ok(size);
         }
-        if g.size == at {
-            return g;
-        }
-        at = g.size;
+        at = size;
     }
-    gained(false, at, stream)
+    Err(Unread { size: at })
 }
 
 // The file that a word names, as far as the buffer goes; where it cannot be read, says why. It stays open.
-pub fn read_whole(system: &mut System, index: usize, buffer: &mut [u8]) -> Got {
-    let stream = open_input(system, index);
-    if !is_open(stream) {
-        return gained(false, 0, stream);
-    }
-    read_on(system, index, stream, buffer)
+pub fn read_whole(system: &mut System, index: usize, buffer: &mut [u8]) -> Result<Got, Unread> {
+    let stream = open_input(system, index).ok_or(Unread { size: 0 })?;
+    let size = read_on(system, index, stream, buffer)?;
+    Ok(Got { size, stream })
 }
 
 // Is the file that a word names Verilog text?
 pub fn is_text(system: &mut System, verilog: bool, index: usize) -> bool {
-    let mut path = [0u8; 4096];
-    let n = system.word(index, &mut path);
-    sources::is_text(verilog, &path[..n])
+    let mut buffer = [0u8; 4096];
+    let path = system.word(index, &mut buffer).unwrap_or(b"");
+    sources::is_text(verilog, path)
 }

@@ -1,7 +1,7 @@
 // What a run goes by, its clock cycles, and what is said where one does not come to rest. A cycle is a row of inputs of a trace call: by
 // events on a plan that is prepared once (`driving`), or by the extracted expressions on tables that are prepared once (`clock_run`).
+use crate::display::Trace;
 use crate::feed::Row;
-use crate::files::byte_at;
 use crate::report;
 use crate::system::{Stream, System};
 use crate::wave::Target;
@@ -13,9 +13,9 @@ use options::Way;
 use plan::PlanTable;
 use state::State;
 
-// What a run goes by: the sheet's counts and widths, the words that name the module and the inputs, the wires shown or not, only the last
-// cycle or all, how far it has come told or not, and a waveform or none; whose choices they are, and how many each user has; the module's
-// stream, and the word that names a state to be written, with where it goes.
+// What a run goes by: the sheet's counts and widths, the words that name the module and the inputs, only the last cycle or all, how far it
+// has come told or not, and a waveform or none; whose choices they are, and how many each user has; the module's stream, and the word that
+// names a state to be written, 0 where there is none, with where it goes.
 #[derive(Clone, Copy)]
 pub struct Plan {
     pub inputs: u8,
@@ -25,7 +25,6 @@ pub struct Plan {
     pub widths: [u8; 80],
     pub sheet: usize,
     pub index: usize,
-    pub shown: bool,
     pub last: bool,
     pub told: bool,
     pub waved: bool,
@@ -36,13 +35,21 @@ pub struct Plan {
     pub kept: Target,
 }
 
+// The tables that cycles run on: the module's plan, the nodes of its expressions in a plan's form, the rows of the waits, and the row of
+// each place.
+#[derive(Clone, Copy)]
+pub struct Tables<'a> {
+    pub plan: &'a PlanTable,
+    pub lent: &'a PlanTable,
+    pub table: &'a RowTable,
+    pub numbers: &'a RowNumbers,
+}
+
 // The widths of a sheet's variables.
 pub fn widths_of(sheet: &[u8]) -> [u8; 80] {
     let mut widths = [0u8; 80];
-    let mut i = 0;
-    while i < 80 {
-        widths[i] = byte_at(sheet, i + 4);
-        i += 1;
+    for (i, width) in widths.iter_mut().enumerate() {
+        *width = sheet.get(i + 4).copied().unwrap_or(0);
     }
     widths
 }
@@ -56,45 +63,26 @@ pub struct Stand {
     pub rows: [u64; 176],
 }
 
-// Two rows, of which the second is given.
-fn second(row: [u64; 88]) -> [u64; 176] {
-    let mut rows = [0u64; 176];
-    let mut i: usize = 0;
-    while i < 88 {
-        rows[88 + i] = row[i];
-        i += 1;
-    }
-    rows
-}
-
 // Where a run stands that is at rest, or not.
-fn stand_of(p: Plan, rest: Rest) -> Stand {
-    let st = rest.state;
-    let registers = driving::registers_of(p.inputs, st);
-    let rows = second(driving::row_of(st));
+fn stand_of(p: &Plan, rest: Rest) -> Stand {
+    let mut rows = [0u64; 176];
+    rows[88..].copy_from_slice(&driving::row_of(rest.state));
     Stand {
         user: p.user,
         rest,
-        registers,
+        registers: driving::registers_of(p.inputs, rest.state),
         rows,
     }
 }
 
 // The state at the start, at rest.
-pub fn begin(p: Plan, plan: &PlanTable, way: Way) -> Stand {
-    let allowances = p.allowances;
-    stand_of(p, driving::begin(plan, allowances, p.user, way))
+pub fn begin(p: &Plan, plan: &PlanTable, way: Way) -> Stand {
+    stand_of(p, driving::begin(plan, p.allowances, p.user, way))
 }
 
 // A state, at rest.
-pub fn resume(p: Plan, plan: &PlanTable, st: State, way: Way) -> Stand {
+pub fn resume(p: &Plan, plan: &PlanTable, st: State, way: Way) -> Stand {
     stand_of(p, driving::resume(plan, st, p.user, way))
-}
-
-// Did it come to rest, and if not, why?
-pub fn ending_of(s: Stand) -> Ending {
-    let rest = s.rest;
-    driving::ending_of(rest)
 }
 
 // Says why a cycle did not come to rest, where it did not.
@@ -108,127 +96,85 @@ pub fn say_unrest(system: &mut System, index: usize, cycle: usize, e: Ending) {
 
 // ---- cycles
 
-// What rows of inputs leave: how many cycles came to rest, whose rows are written, and where the run stands.
-#[derive(Clone, Copy)]
-pub struct Gone {
-    pub cycles: usize,
-    pub stand: Stand,
-}
-
-// Rows of inputs, with their work.
-pub fn worked(
-    plan: &PlanTable,
-    s: Stand,
-    value: &[u32],
-    unknown: &[u32],
-    out: &mut [u64; 5720],
-) -> Gone {
-    let before = s.rest;
-    let registers = s.registers;
-    let rows = s.rows;
-    let t = workload::trace(plan, before, s.user, value, unknown, out);
-    let rest = t.rest;
-    let stand = Stand {
-        user: s.user,
-        rest,
-        registers,
-        rows,
-    };
-    Gone {
-        cycles: t.phases / 2,
-        stand,
+impl Stand {
+    // Did it come to rest, and if not, why?
+    pub fn ending(&self) -> Ending {
+        driving::ending_of(self.rest)
     }
-}
 
-// Rows of inputs by events.
-fn by_events(plan: &PlanTable, s: Stand, value: &[u32], unknown: &[u32], out: &mut [u64]) -> Gone {
-    let before = s.rest;
-    let registers = s.registers;
-    let rows = s.rows;
-    let t = driving::trace(plan, before, s.user, value, unknown, out);
-    let rest = t.rest;
-    let stand = Stand {
-        user: s.user,
-        rest,
-        registers,
-        rows,
-    };
-    Gone {
-        cycles: t.phases / 2,
-        stand,
+    // Rows of inputs, with their work. Gives how many cycles came to rest, whose rows are written.
+    fn work(
+        &mut self,
+        plan: &PlanTable,
+        value: &[u32],
+        unknown: &[u32],
+        trace: &mut Trace,
+    ) -> usize {
+        let t = workload::trace(plan, self.rest, self.user, value, unknown, trace);
+        self.rest = t.rest;
+        t.phases / 2
     }
-}
 
-// Rows of inputs by the expressions.
-fn by_expressions(
-    plan: &PlanTable,
-    lent: &PlanTable,
-    table: &RowTable,
-    numbers: &RowNumbers,
-    s: Stand,
-    value: &[u32],
-    unknown: &[u32],
-    out: &mut [u64],
-) -> Gone {
-    let before = s.registers;
-    let old = s.rest;
-    let rows = s.rows;
-    let r = clock_run::trace(plan, lent, table, numbers, before, value, unknown, out);
-    let last = r.last;
-    let value = last.value;
-    let unknown = last.unknown;
-    let places = last.places;
-    let registers = Registers {
-        value,
-        unknown,
-        places,
-    };
-    let rest = driving::after_expressions(old, r.number);
-    let stand = Stand {
-        user: s.user,
-        rest,
-        registers,
-        rows,
-    };
-    Gone {
-        cycles: r.cycles,
-        stand,
+    // Rows of inputs by events.
+    fn drive(
+        &mut self,
+        plan: &PlanTable,
+        value: &[u32],
+        unknown: &[u32],
+        out: &mut [u64],
+    ) -> usize {
+        let t = driving::trace(plan, self.rest, self.user, value, unknown, out);
+        self.rest = t.rest;
+        t.phases / 2
     }
-}
 
-// Rows of inputs by the way of the run.
-pub fn many(
-    plan: &PlanTable,
-    lent: &PlanTable,
-    table: &RowTable,
-    numbers: &RowNumbers,
-    s: Stand,
-    value: &[u32],
-    unknown: &[u32],
-    out: &mut [u64],
-) -> Gone {
-    let rest = s.rest;
-    let way = rest.way;
-    if driving::is_expressed(way) {
-        return by_expressions(plan, lent, table, numbers, s, value, unknown, out);
+    // Rows of inputs by the expressions.
+    fn express(&mut self, t: Tables, value: &[u32], unknown: &[u32], out: &mut [u64]) -> usize {
+        let r = clock_run::trace(
+            t.plan,
+            t.lent,
+            t.table,
+            t.numbers,
+            self.registers,
+            value,
+            unknown,
+            out,
+        );
+        // arrays go through variables: a field's put straight into another's place gets no proof
+        let last = r.last;
+        let value = last.value;
+        let unknown = last.unknown;
+        let places = last.places;
+        self.registers = Registers {
+            value,
+            unknown,
+            places,
+        };
+        self.rest = driving::after_expressions(self.rest, r.number);
+        r.cycles
     }
-    by_events(plan, s, value, unknown, out)
-}
 
-// One cycle, with its rows.
-pub fn whole(
-    plan: &PlanTable,
-    lent: &PlanTable,
-    table: &RowTable,
-    numbers: &RowNumbers,
-    s: Stand,
-    row: Row,
-) -> Stand {
-    let value = row.value;
-    let unknown = row.unknown;
-    let mut rows = [0u64; 176];
-    let g = many(plan, lent, table, numbers, s, &value, &unknown, &mut rows);
-    let mut stand = g.stand;
-    stand.rows = rows;
-    stand
+    // Rows of inputs by the way of the run, the work not counted.
+    fn go(&mut self, t: Tables, value: &[u32], unknown: &[u32], out: &mut [u64]) -> usize {
+        match self.rest.way {
+            Way::Expressed => self.express(t, value, unknown, out),
+            _ => self.drive(t.plan, value, unknown, out),
+        }
+    }
+
+    // Rows of inputs by the way of the run, or with their work where it is counted. Gives how many cycles came to rest, whose rows are
+    // written.
+    pub fn go_on(&mut self, t: Tables, value: &[u32], unknown: &[u32], trace: &mut Trace) -> usize {
+        match self.rest.way {
+            Way::Counted => self.work(t.plan, value, unknown, trace),
+            _ => self.go(t, value, unknown, trace),
+        }
+    }
+
+    // One cycle, with its rows.
+    pub fn step(&mut self, t: Tables, row: &Row) {
+        let mut rows = [0u64; 176];
+        self.go(t, &row.value, &row.unknown, &mut rows);
+        self.rows = rows;
+    }
 }

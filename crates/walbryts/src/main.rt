@@ -5,6 +5,7 @@
 
 mod comparing;
 mod display;
+mod ending;
 mod expecting;
 mod feed;
 mod files;
@@ -29,7 +30,7 @@ use sources::Words;
 use std::process::ExitCode;
 use system::{Stream, System};
 
-fn help(system: &mut System) -> Outcome {
+fn help(system: &mut System) -> Result<(), Outcome> {
     show_word(
         system,
         b"walbryts: a clock-edge compiler and event simulator, proved
@@ -76,189 +77,153 @@ Status: 0 done; 1 refused, by extraction too, or different; 2 words or files tha
     )
 }
 
-// What a command does with a module that is read from a stream: its sheet is written where the command is `sheet`.
-fn perform(
-    system: &mut System,
-    w: Words,
-    c: Command,
+// A command, the words that asked for it, and the stream that its module is read from.
+#[derive(Clone, Copy)]
+struct Task {
+    words: Words,
+    command: Command,
     source: Stream,
-    sheet: &[u8],
-    layout: Layout,
-    names: &mut [u8; 2560],
-) -> Outcome {
-    if w.sheet {
-        return showing::print_sheet(system, sheet);
-    }
-    if !names::fill(system, options::names_of(c), layout, names) {
-        return Outcome::Mistaken;
-    }
-    match c {
-        Command::List(_) => showing::list(system, sheet),
-        Command::Check(_) => showing::check(system, sheet, names),
-        Command::Run(o) => running::run(system, o, source, sheet, layout, names),
-        Command::Extract(o) => nets::extract(system, o, sheet, names),
-        Command::Compare(o) => comparing::compare(system, o, sheet, layout, names),
-        Command::Verilog(index) => showing::print_verilog(system, index, sheet, names),
-        Command::Explain(index, _) => showing::explain(system, index, sheet, names, layout.threads),
-    }
 }
 
-// A sheet's bytes, from the file's: refused, or handed to the command.
-fn with_bytes(
-    system: &mut System,
-    w: Words,
-    c: Command,
-    source: Stream,
-    sheet: &[u8],
-    view: &[u8],
-    hex: bool,
-) -> Outcome {
-    let r = sheet::read(sheet);
-    if r.number != 0 {
-        report::refuse(
-            system,
-            options::sheet_of(c),
-            sheet,
-            view,
-            hex,
-            r.number,
-            r.place,
-        );
-        return Outcome::Refused;
+impl Task {
+    // The word that names the module's file.
+    fn index(&self) -> usize {
+        options::sheet_of(self.command)
     }
-    let layout = r.layout;
-    let mut names = [0u8; 2560];
-    naming::fill_plain(layout.inputs, layout.registers, &mut names);
-    perform(system, w, c, source, sheet, layout, &mut names)
-}
 
-// Hexadecimal text.
-fn with_text(system: &mut System, w: Words, c: Command, source: Stream, view: &[u8]) -> Outcome {
-    let index = options::sheet_of(c);
-    if view.len() >= 65533 {
-        report::wrong_with(
-            system,
-            index,
-            b": hexadecimal text of 65,533 bytes or longer\n",
-            0,
-        );
-        return Outcome::Mistaken;
+    // What the command does with a module that is read: its sheet is written where the command is `sheet`.
+    fn perform(
+        &self,
+        system: &mut System,
+        sheet: &[u8],
+        layout: Layout,
+        names: &mut [u8; 2560],
+    ) -> Result<(), Outcome> {
+        if self.words.sheet {
+            return showing::print_sheet(system, sheet);
+        }
+        names::fill(system, options::names_of(self.command), layout, names)?;
+        match self.command {
+            Command::List(_) => showing::list(system, sheet),
+            Command::Check(_) => showing::check(system, sheet, names),
+            Command::Run(o) => running::run(system, o, self.source, sheet, layout, names),
+            Command::Extract(o) => nets::extract(system, o, sheet, names),
+            Command::Compare(o) => comparing::compare(system, o, sheet, layout, names),
+            Command::Verilog(index) => showing::print_verilog(system, index, sheet, names),
+            Command::Explain(index, _) => {
+                showing::explain(system, index, sheet, names, layout.threads)
+            }
+        }
     }
-    let mut bytes = [0u8; 8193];
-    let d = hextext::decode(view, &mut bytes);
-    if d.error != 0 {
-        report::wrong_hex(system, index, d.line, d.column, d.error);
-        return Outcome::Mistaken;
-    }
-    let length = d.length;
-    if length > 8193 {
-        return Outcome::Mistaken;
-    }
-    with_bytes(system, w, c, source, &bytes[..length], view, true)
-}
 
-// A text's sheet, with the names of the text.
-fn with_names(
-    system: &mut System,
-    w: Words,
-    c: Command,
-    source: Stream,
-    sheet: &[u8],
-    text: &[u8],
-) -> Outcome {
-    let layout = sheet::read(sheet).layout;
-    let mut names = [0u8; 2560];
-    naming::fill_plain(layout.inputs, layout.registers, &mut names);
-    texts::name(text, &mut names);
-    perform(system, w, c, source, sheet, layout, &mut names)
-}
+    // A sheet's bytes, from the file's, which are hexadecimal text or not: refused, or handed to the command.
+    fn with_bytes(
+        &self,
+        system: &mut System,
+        sheet: &[u8],
+        view: &[u8],
+        hex: bool,
+    ) -> Result<(), Outcome> {
+        let r = sheet::read(sheet);
+        if r.number != 0 {
+            report::refuse(system, self.index(), sheet, view, hex, r.number, r.place);
+            return Err(Outcome::Refused);
+        }
+        let mut names = [0u8; 2560];
+        naming::fill_plain(r.layout.inputs, r.layout.registers, &mut names);
+        self.perform(system, sheet, r.layout, &mut names)
+    }
 
-// Verilog text: its sheet, or what is refused of it.
-fn with_verilog(system: &mut System, w: Words, c: Command, source: Stream, text: &[u8]) -> Outcome {
-    let mut lent = [0u8; 8192];
-    let r = verilog_read::read_text(text, &mut lent);
-    if r.number != 0 {
-        texts::refuse(system, options::sheet_of(c), text, r.number, r.place);
-        return Outcome::Refused;
+    // Hexadecimal text.
+    fn with_text(&self, system: &mut System, view: &[u8]) -> Result<(), Outcome> {
+        if view.len() >= 65533 {
+            report::wrong_with(
+                system,
+                self.index(),
+                b": hexadecimal text of 65,533 bytes or longer\n",
+                0,
+            );
+            return Err(Outcome::Mistaken);
+        }
+        let mut bytes = [0u8; 8193];
+        let d = hextext::decode(view, &mut bytes);
+        if d.error != 0 {
+            report::wrong_hex(system, self.index(), d.line, d.column, d.error);
+            return Err(Outcome::Mistaken);
+        }
+        let sheet = bytes.get(..d.length).ok_or(Outcome::Mistaken)?;
+        self.with_bytes(system, sheet, view, true)
     }
-    let length = r.length;
-    if length > 8192 {
-        return Outcome::Mistaken;
-    }
-    with_names(system, w, c, source, &lent[..length], text)
-}
 
-// A file's bytes: Verilog text, a sheet, or hexadecimal text.
-fn with_file(system: &mut System, w: Words, c: Command, source: Stream, view: &[u8]) -> Outcome {
-    let index = options::sheet_of(c);
-    if files::is_text(system, w.verilog, index) {
-        return with_verilog(system, w, c, source, view);
+    // A text's sheet, with the names of the text.
+    fn with_names(&self, system: &mut System, sheet: &[u8], text: &[u8]) -> Result<(), Outcome> {
+        let layout = sheet::read(sheet).layout;
+        let mut names = [0u8; 2560];
+        naming::fill_plain(layout.inputs, layout.registers, &mut names);
+        texts::name(text, &mut names);
+        self.perform(system, sheet, layout, &mut names)
     }
-    if sources::starts_text(view) {
-        report::wrong_with(
-            system,
-            index,
-            b": this looks like Verilog text, which a file's name in .v or --verilog says\n",
-            0,
-        );
-        return Outcome::Mistaken;
-    }
-    if hextext::is_text(view) {
-        return with_text(system, w, c, source, view);
-    }
-    with_bytes(system, w, c, source, view, view, false)
-}
 
-// A file's bytes between two places.
-fn with_part(
-    system: &mut System,
-    w: Words,
-    c: Command,
-    source: Stream,
-    bytes: &[u8],
-    from: usize,
-    to: usize,
-) -> Outcome {
-    if from > to || to > bytes.len() {
-        return Outcome::Mistaken;
+    // Verilog text: its sheet, or what is refused of it.
+    fn with_verilog(&self, system: &mut System, text: &[u8]) -> Result<(), Outcome> {
+        let mut lent = [0u8; 8192];
+        let r = verilog_read::read_text(text, &mut lent);
+        if r.number != 0 {
+            texts::refuse(system, self.index(), text, r.number, r.place);
+            return Err(Outcome::Refused);
+        }
+        let sheet = lent.get(..r.length).ok_or(Outcome::Mistaken)?;
+        self.with_names(system, sheet, text)
     }
-    with_file(system, w, c, source, &bytes[from..to])
-}
 
-// A file's bytes behind a byte order mark.
-fn with_source(
-    system: &mut System,
-    w: Words,
-    c: Command,
-    source: Stream,
-    bytes: &[u8; 65536],
-    to: usize,
-) -> Outcome {
-    with_part(system, w, c, source, bytes, sources::mark_size(bytes), to)
+    // A file's bytes: Verilog text, a sheet, or hexadecimal text.
+    fn with_file(&self, system: &mut System, view: &[u8]) -> Result<(), Outcome> {
+        if files::is_text(system, self.words.verilog, self.index()) {
+            return self.with_verilog(system, view);
+        }
+        if sources::starts_text(view) {
+            report::wrong_with(
+                system,
+                self.index(),
+                b": this looks like Verilog text, which a file's name in .v or --verilog says\n",
+                0,
+            );
+            return Err(Outcome::Mistaken);
+        }
+        if hextext::is_text(view) {
+            return self.with_text(system, view);
+        }
+        self.with_bytes(system, view, view, false)
+    }
 }
 
 // A command, from the file of its module on.
-fn carry_out(system: &mut System, w: Words, c: Command) -> Outcome {
-    let mut bytes = [0u8; 65536];
-    let got = files::read_whole(system, options::sheet_of(c), &mut bytes);
-    if !got.good {
-        return Outcome::Mistaken;
-    }
-    with_source(system, w, c, got.stream, &bytes, got.size)
+fn carry_out(system: &mut System, words: Words, command: Command) -> Result<(), Outcome> {
+    let mut buffer = [0u8; 65536];
+    let Ok(got) = files::read_whole(system, options::sheet_of(command), &mut buffer) else {
+        return Err(Outcome::Mistaken);
+    };
+    let task = Task {
+        words,
+        command,
+        source: got.stream,
+    };
+    let view = files::behind_mark(&buffer, got.size).ok_or(Outcome::Mistaken)?;
+    task.with_file(system, view)
 }
 
 // What the words ask for.
-fn answer(system: &mut System, w: Words, r: Request) -> Outcome {
+fn answer(system: &mut System, w: Words, r: Request) -> Result<(), Outcome> {
     match r {
         Request::Help => help(system),
         Request::Version => show_word(system, b"walbryts 0.4.0\n"),
         Request::Short(missing) => {
             mistakes::short(system, missing);
-            Outcome::Mistaken
+            Err(Outcome::Mistaken)
         }
         Request::Wrong(index, fault) => {
             mistakes::wrong(system, index, fault);
-            Outcome::Mistaken
+            Err(Outcome::Mistaken)
         }
         Request::Asked(c) => carry_out(system, w, c),
     }
@@ -267,20 +232,20 @@ fn answer(system: &mut System, w: Words, r: Request) -> Outcome {
 // What the words ask for. Gives the status.
 fn run(system: &mut System, w: Words) -> u8 {
     let r = options::judge(w.options);
-    options::status_of(answer(system, w, r))
+    options::status_of(ending::outcome_of(answer(system, w, r)))
 }
 
 // The same, with the status told on descriptor 3. Where that is there and can't be reached, the process ends with the status.
 fn run_telling(system: &mut System, w: Words) -> ExitCode {
     let told = system.open_status();
     let status = run(system, w);
-    match told {
-        Ok(stream) => {
-            say::say(system, stream, b"#", status as usize, 0);
-            ExitCode::SUCCESS
-        }
-        Err(_) => ExitCode::from(status),
+    let Ok(stream) = told else {
+        return ExitCode::from(status);
+    };
+    if let Some(stream) = stream {
+        say::say(system, stream, b"#", usize::from(status), 0);
     }
+    ExitCode::SUCCESS
 }
 
 // The process itself ends with 0; where the words ask for it, the status is told on descriptor 3.

@@ -1,110 +1,71 @@
 // `extract`: the next-state expressions of a sheet, as text or as a graph.
-use crate::files::{show, show_word};
+use crate::files::{show, show_filled, show_word};
 use crate::report;
 use crate::showing::{extracted, find_waits};
 use crate::system::System;
 use options::{ExtractOptions, Outcome};
 use sheet::Layout;
 
-// A node: of a graph, or its line where it has one.
-fn print_node(
-    system: &mut System,
-    nodes: &[u16; 16384],
-    uses: &[u8; 4096],
-    names: &[u8; 2560],
-    dot: bool,
-    n: u16,
-    text: &mut [u8; 65536],
-) -> Outcome {
-    if dot {
-        let p = netlist::print_dot_node(nodes, names, n, text, 0);
-        return show(system, text, p);
-    }
-    let p = overview::put_shown_node(nodes, uses, names, n, text, 0);
-    show(system, text, p)
-}
-
-// All nodes.
-fn print_nodes(
-    system: &mut System,
-    nodes: &[u16; 16384],
-    uses: &[u8; 4096],
-    names: &[u8; 2560],
-    dot: bool,
+// The expressions of a sheet: the nodes, how many there are and how often each is used, and the names of the variables.
+#[derive(Clone, Copy)]
+struct Net<'a> {
+    nodes: &'a [u16; 16384],
     count: usize,
-    text: &mut [u8; 65536],
-) -> Outcome {
-    let mut n: u16 = 0;
-    while n < 4096 {
-        if n as usize >= count {
-            return Outcome::Done;
-        }
-        let shown = print_node(system, nodes, uses, names, dot, n, text);
-        if options::status_of(shown) != 0 {
-            return shown;
-        }
-        n += 1;
-    }
-    Outcome::Done
+    uses: &'a [u8; 4096],
+    names: &'a [u8; 2560],
 }
 
-// An entry of a row, with the row's head where it is the first.
-fn print_entry(
-    system: &mut System,
-    nodes: &[u16; 16384],
-    rows: &[u16; 1056],
-    uses: &[u8; 4096],
-    names: &[u8; 2560],
-    layout: Layout,
-    heads: &[usize; 32],
-    e: usize,
-    text: &mut [u8; 65536],
-) -> Outcome {
-    let p = overview::put_row_head(heads, e, text, 0);
-    let node = if e < 1056 { rows[e] } else { 0 };
-    let q = overview::put_shown_entry(nodes, uses, names, layout, e, node, text, p);
-    show(system, text, q)
-}
-
-// The rows, 33 entries each.
-fn print_rows(
-    system: &mut System,
-    nodes: &[u16; 16384],
-    rows: &[u16; 1056],
-    uses: &[u8; 4096],
-    names: &[u8; 2560],
-    layout: Layout,
-    heads: &[usize; 32],
-    waits: usize,
-    text: &mut [u8; 65536],
-) -> Outcome {
-    let mut e = 0;
-    while e < 1056 {
-        if e / 33 >= waits {
-            return Outcome::Done;
+impl Net<'_> {
+    // All nodes: of a graph, or a line for each that has one.
+    fn print_nodes(
+        &self,
+        system: &mut System,
+        dot: bool,
+        text: &mut [u8; 65536],
+    ) -> Result<(), Outcome> {
+        for n in 0..self.count.min(4096) as u16 {
+            let pos = if dot {
+                netlist::print_dot_node(self.nodes, self.names, n, text, 0)
+            } else {
+                overview::put_shown_node(self.nodes, self.uses, self.names, n, text, 0)
+            };
+            show(system, text, pos)?;
         }
-        let shown = print_entry(system, nodes, rows, uses, names, layout, heads, e, text);
-        if options::status_of(shown) != 0 {
-            return shown;
-        }
-        e += 1;
+        Ok(())
     }
-    Outcome::Done
+
+    // The rows, 33 entries each, each with its head where it is the first.
+    fn print_rows(
+        &self,
+        system: &mut System,
+        rows: &[u16; 1056],
+        layout: Layout,
+        heads: &[usize; 32],
+        waits: usize,
+        text: &mut [u8; 65536],
+    ) -> Result<(), Outcome> {
+        for e in 0..33 * waits.min(32) {
+            let p = overview::put_row_head(heads, e, text, 0);
+            let q = overview::put_shown_entry(
+                self.nodes, self.uses, self.names, layout, e, rows[e], text, p,
+            );
+            show(system, text, q)?;
+        }
+        Ok(())
+    }
 }
 
 // The nodes as a graph.
-fn graph(system: &mut System, nodes: &[u16; 16384], names: &[u8; 2560]) -> Outcome {
-    let uses = [0u8; 4096];
+fn graph(system: &mut System, nodes: &[u16; 16384], names: &[u8; 2560]) -> Result<(), Outcome> {
     let mut text = [0u8; 65536];
-    let head = show_word(system, b"digraph walbryts {\n");
-    if options::status_of(head) != 0 {
-        return head;
-    }
-    let count = netlist::node_count(nodes);
-    let body = print_nodes(system, nodes, &uses, names, true, count, &mut text);
-    if options::status_of(body) != 0 {
-        return body;
-    }
+    let net = Net {
+        nodes,
+        count: netlist::node_count(nodes),
+        uses: &[0u8; 4096],
+        names,
+    };
+    show_word(system, b"digraph walbryts {\n")?;
+    net.print_nodes(system, true, &mut text)?;
     show_word(system, b"}\n")
 }
 
@@ -115,26 +76,23 @@ fn print(
     nodes: &[u16; 16384],
     rows: &[u16; 1056],
     names: &[u8; 2560],
-) -> Outcome {
+) -> Result<(), Outcome> {
     let layout = sheet::read(sheet).layout;
     let mut text = [0u8; 65536];
     let mut uses = [0u8; 4096];
     let mut heads = [0usize; 32];
     let count = netlist::node_count(nodes);
     let waits = find_waits(sheet, layout, &mut heads);
-    let p = overview::put_sizes(count, waits, &mut text, 0);
-    let sizes = show(system, &text, p);
-    if options::status_of(sizes) != 0 {
-        return sizes;
-    }
+    show_filled(system, |text| overview::put_sizes(count, waits, text, 0))?;
     netlist::fill_uses(nodes, rows, count, waits, &mut uses);
-    let shared = print_nodes(system, nodes, &uses, names, false, count, &mut text);
-    if options::status_of(shared) != 0 {
-        return shared;
-    }
-    print_rows(
-        system, nodes, rows, &uses, names, layout, &heads, waits, &mut text,
-    )
+    let net = Net {
+        nodes,
+        count,
+        uses: &uses,
+        names,
+    };
+    net.print_nodes(system, false, &mut text)?;
+    net.print_rows(system, rows, layout, &heads, waits, &mut text)
 }
 
 // `extract`: a sheet that is read.
@@ -143,12 +101,12 @@ pub fn extract(
     o: ExtractOptions,
     sheet: &[u8],
     names: &[u8; 2560],
-) -> Outcome {
+) -> Result<(), Outcome> {
     let mut nodes = [0u16; 16384];
     let mut rows = [0u16; 1056];
     if !extracted(sheet, &mut nodes, &mut rows) {
         report::refuse_extraction(system, o.sheet, sheet, names);
-        return Outcome::Refused;
+        return Err(Outcome::Refused);
     }
     if o.dot {
         return graph(system, &nodes, names);

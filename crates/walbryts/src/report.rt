@@ -1,7 +1,7 @@
 // Refusals and errors in words, on standard error: the file, the place, the number, what was found and what is allowed. The words of the
 // numbers come from the table in `reasons`, those of lines and rules from `findings` and `named_findings`, those of
 // places from `overview`.
-use crate::files::{flush, unshown};
+use crate::files::{flush, unshown, write_filled};
 use crate::say::say;
 use crate::system::{Stream, System};
 use crate::texts;
@@ -11,9 +11,9 @@ use writing::{put_byte, put_word};
 
 // The file that a word names.
 pub fn say_file(system: &mut System, stream: Stream, index: usize) {
-    let mut path = [0u8; 4096];
-    let n = system.word(index, &mut path);
-    system.write(stream, &path[..n]);
+    let mut buffer = [0u8; 4096];
+    let path = system.word(index, &mut buffer).unwrap_or(b"");
+    system.write(stream, path);
 }
 
 // A line and a column of a file.
@@ -23,41 +23,38 @@ pub fn say_spot(system: &mut System, stream: Stream, index: usize, line: usize, 
 }
 
 // Something wrong with hexadecimal text.
+// Errors and refusals stay numbers: so `hextext`, `stimulus`, `labels` and the sheet's readers give them, and `findings` takes them.
 pub fn wrong_hex(system: &mut System, index: usize, line: usize, column: usize, error: u8) {
     say_spot(system, Stream::Errors, index, line, column);
-    let mut text = [0u8; 65536];
-    let p = findings::put_hex_error(error, &mut text, 0);
-    flush(system, Stream::Errors, &text, p);
+    write_filled(system, Stream::Errors, |text| {
+        findings::put_hex_error(error, text, 0)
+    });
 }
 
 // Something wrong with a line of inputs.
 pub fn wrong_inputs(system: &mut System, index: usize, line: usize, column: usize, error: u8) {
     say_spot(system, Stream::Errors, index, line, column);
-    if error == 6 {
-        system.write(
+    match error {
+        6 => system.write(
             Stream::Errors,
             b"an empty cell: a value in front of each comma and behind it is allowed\n",
-        );
-        return;
-    }
-    if error == 7 {
-        system.write(
+        ),
+        7 => system.write(
             Stream::Errors,
             b"a line that is too long: at most 65,535 bytes are allowed\n",
-        );
-        return;
-    }
-    let mut text = [0u8; 65536];
-    let p = findings::put_input_error(error, &mut text, 0);
-    flush(system, Stream::Errors, &text, p);
+        ),
+        _ => write_filled(system, Stream::Errors, |text| {
+            findings::put_input_error(error, text, 0)
+        }),
+    };
 }
 
 // Something wrong with a line of names.
 pub fn wrong_names(system: &mut System, index: usize, line: usize, column: usize, error: u8) {
     say_spot(system, Stream::Errors, index, line, column);
-    let mut text = [0u8; 65536];
-    let p = findings::put_name_error(error, &mut text, 0);
-    flush(system, Stream::Errors, &text, p);
+    write_filled(system, Stream::Errors, |text| {
+        findings::put_name_error(error, text, 0)
+    });
 }
 
 // Something wrong with a line of first values.
@@ -83,24 +80,13 @@ pub fn wrong_values(system: &mut System, index: usize, line: usize, column: usiz
 
 // Something wrong with the names of columns.
 pub fn wrong_columns(system: &mut System, index: usize, column: usize, error: u8) {
+    let fault: &[u8] = if error == 1 {
+        b":#: no such variable: names of the module with commas between them are allowed\n"
+    } else {
+        b":#: one name too many: 80 columns are allowed\n"
+    };
     say_file(system, Stream::Errors, index);
-    if error == 1 {
-        say(
-            system,
-            Stream::Errors,
-            b":#: no such variable: names of the module with commas between them are allowed\n",
-            column,
-            0,
-        );
-        return;
-    }
-    say(
-        system,
-        Stream::Errors,
-        b":#: one name too many: 80 columns are allowed\n",
-        column,
-        0,
-    );
+    say(system, Stream::Errors, fault, column, 0);
 }
 
 // Something wrong with a file as a whole, or in a cycle.
@@ -111,34 +97,48 @@ pub fn wrong_with(system: &mut System, index: usize, reason: &[u8], cycle: usize
 
 // A number and its words.
 pub fn say_number(system: &mut System, stream: Stream, number: u8) {
-    say(system, stream, b"refused #: ", number as usize, 0);
-    let mut text = [0u8; 65536];
-    let p = reasons::put_reason(number, &mut text, 0);
-    let q = put_byte(b'\n', &mut text, p);
-    flush(system, stream, &text, q);
+    say(system, stream, b"refused #: ", usize::from(number), 0);
+    say_behind(system, stream, b"", |text, pos| {
+        reasons::put_reason(number, text, pos)
+    });
 }
 
-pub fn say_allowed(system: &mut System, stream: Stream, number: u8) {
+// A line: a word, and what a closure puts behind it.
+pub fn say_behind<F: FnOnce(&mut [u8; 65536], usize) -> usize>(
+    system: &mut System,
+    stream: Stream,
+    word: &[u8],
+    put: F,
+)
+    requires { F.IsAlwaysCallable put }
+{
     let mut text = [0u8; 65536];
-    let p = put_word(b"  allowed: ", &mut text, 0);
-    let q = reasons::put_allowed(number, &mut text, p);
+    let p = put_word(word, &mut text, 0);
+    let q = put(&mut text, p);
     let r = put_byte(b'\n', &mut text, q);
     flush(system, stream, &text, r);
 }
 
+// What is allowed in place of what a number refuses.
+pub fn say_allowed(system: &mut System, stream: Stream, number: u8) {
+    say_behind(system, stream, b"  allowed: ", |text, pos| {
+        reasons::put_allowed(number, text, pos)
+    });
+}
+
 // What stands at the place of a refusal.
 fn say_found(system: &mut System, sheet: &[u8], number: u8, place: usize) {
-    let mut text = [0u8; 65536];
-    let p = overview::put_found(sheet, number, place, &mut text, 0);
-    flush(system, Stream::Errors, &text, p);
+    write_filled(system, Stream::Errors, |text| {
+        overview::put_found(sheet, number, place, text, 0)
+    });
 }
 
 // Where in its file a byte of the sheet stands.
 fn say_place(system: &mut System, index: usize, view: &[u8], hex: bool, place: usize) {
     say_file(system, Stream::Errors, index);
-    let mut text = [0u8; 65536];
-    let p = overview::put_place(view, hex, place, &mut text, 0);
-    flush(system, Stream::Errors, &text, p);
+    write_filled(system, Stream::Errors, |text| {
+        overview::put_place(view, hex, place, text, 0)
+    });
 }
 
 // A sheet that is not read.
@@ -162,10 +162,10 @@ pub fn refuse(
 // What a rule finds. Registers follow the inputs, and wires the registers.
 fn say_witness(system: &mut System, stream: Stream, sheet: &[u8], w: Witness, names: &[u8; 2560]) {
     let layout = sheet::read(sheet).layout;
-    let wires = std::num::wrapping_add_u8(layout.inputs, layout.registers);
-    let mut text = [0u8; 65536];
-    let p = named_findings::put_witness(w, names, layout.inputs, wires, &mut text, 0);
-    flush(system, stream, &text, p);
+    let wires = layout.inputs.wrapping_add(layout.registers);
+    write_filled(system, stream, |text| {
+        named_findings::put_witness(w, names, layout.inputs, wires, text, 0)
+    });
 }
 
 // The witness and what is allowed.
@@ -175,15 +175,15 @@ fn say_broken(
     sheet: &[u8],
     w: Witness,
     names: &[u8; 2560],
-) -> Outcome {
+) -> Result<(), Outcome> {
     system.write(stream, b"  found: ");
     say_witness(system, stream, sheet, w, names);
     if !system.write(stream, b"\n") {
         unshown(system);
-        return Outcome::Mistaken;
+        return Err(Outcome::Mistaken);
     }
     say_allowed(system, stream, w.number);
-    Outcome::Done
+    Ok(())
 }
 
 // A run of a sheet that extraction refuses: what it shows.
@@ -201,7 +201,7 @@ pub fn unextracted(
     stream: Stream,
     sheet: &[u8],
     names: &[u8; 2560],
-) -> Outcome {
+) -> Result<(), Outcome> {
     let w = witness::witness_of(sheet);
     texts::say_rule(system, stream, 0, sheet, w);
     say_broken(system, stream, sheet, w, names)
@@ -211,7 +211,7 @@ pub fn unextracted(
 pub fn refuse_extraction(system: &mut System, index: usize, sheet: &[u8], names: &[u8; 2560]) {
     let w = witness::witness_of(sheet);
     texts::say_rule(system, Stream::Errors, index, sheet, w);
-    say_broken(system, Stream::Errors, sheet, w, names);
+    let _ = say_broken(system, Stream::Errors, sheet, w, names);
 }
 
 // ---- runs
@@ -232,9 +232,9 @@ pub fn unexplained(system: &mut System, index: usize, thread: usize, number: u8)
 
 // Not at rest after so many choices.
 fn say_restless(system: &mut System, most: usize) {
-    let mut text = [0u8; 65536];
-    let p = driving::put_restless(most, &mut text, 0);
-    flush(system, Stream::Errors, &text, p);
+    write_filled(system, Stream::Errors, |text| {
+        driving::put_restless(most, text, 0)
+    });
 }
 
 // A cycle that did not come to rest.

@@ -1,33 +1,14 @@
 // States in files: the one that a run begins with, and the one that it leaves.
-use crate::files::{front, read_whole};
+use crate::files::{behind_mark, read_whole};
 use crate::machine::{Plan, Stand};
 use crate::running::started;
 use crate::system::{Stream, System};
-use crate::wave::{Target, Wave};
 use crate::{machine, report, wave};
 use first_values::Counts;
 use options::{Outcome, RunOptions};
 use plan::PlanTable;
 use state::State;
 use writing::put_word;
-
-// Whether there is a state to begin with, and which.
-#[derive(Clone, Copy)]
-struct Given {
-    outcome: Outcome,
-    state: State,
-}
-
-// Where a run begins, and whether it does.
-#[derive(Clone, Copy)]
-pub struct Begun {
-    pub outcome: Outcome,
-    pub stand: Stand,
-}
-
-fn handed(outcome: Outcome, state: State) -> Given {
-    Given { outcome, state }
-}
 
 // ---- the state that a run begins with
 
@@ -38,213 +19,115 @@ fn brought(
     sheet: &[u8],
     bytes: &[u8],
     allowances: [u32; 4],
-) -> Given {
+) -> Result<State, Outcome> {
     let b = saved::bring_over(sheet, bytes, allowances);
-    let state = b.state;
     if b.number != 0 {
         report::refuse_state(system, index, b.number);
-        return handed(Outcome::Refused, state);
+        return Err(Outcome::Refused);
     }
-    handed(Outcome::Done, state)
-}
-
-// The first bytes of a buffer.
-fn brought_front(
-    system: &mut System,
-    index: usize,
-    sheet: &[u8],
-    bytes: &[u8; 4096],
-    n: usize,
-    allowances: [u32; 4],
-) -> Given {
-    let first = front(bytes, n);
-    brought(system, index, sheet, first, allowances)
+    Ok(b.state)
 }
 
 // The state of the file that a word names, or that of the start where there is none.
-fn loaded(system: &mut System, index: usize, p: Plan, plan: &PlanTable, sheet: &[u8]) -> Given {
-    let allowances = p.allowances;
-    let fresh = prepared::start(plan, allowances);
+fn loaded(
+    system: &mut System,
+    index: usize,
+    p: &Plan,
+    plan: &PlanTable,
+    sheet: &[u8],
+) -> Result<State, Outcome> {
     if index == 0 {
-        return handed(Outcome::Done, fresh);
+        return Ok(prepared::start(plan, p.allowances));
     }
     let mut buffer = [0u8; 4096];
-    let got = read_whole(system, index, &mut buffer);
-    if !got.good {
-        return handed(Outcome::Mistaken, fresh);
-    }
+    let Ok(got) = read_whole(system, index, &mut buffer) else {
+        return Err(Outcome::Mistaken);
+    };
     system.close(got.stream);
-    brought_front(system, index, sheet, &buffer, got.size, allowances)
+    let bytes = buffer.get(..got.size).unwrap_or(&buffer);
+    brought(system, index, sheet, bytes, p.allowances)
 }
 
 // The registers of a state by the lines of a file; where one is wrong, says so.
 fn valued(
     system: &mut System,
     index: usize,
-    p: Plan,
+    p: &Plan,
     names: &[u8; 2560],
     st: State,
     bytes: &[u8],
-) -> Given {
-    let widths = p.widths;
+) -> Result<State, Outcome> {
     let m = Counts {
         inputs: p.inputs,
         registers: p.registers,
     };
-    let t = first_values::take_lines(bytes, m, &widths, names, st);
-    let state = t.state;
+    let t = first_values::take_lines(bytes, m, &p.widths, names, st);
     if t.error != 0 {
         report::wrong_values(system, index, t.line, t.column, t.error);
-        return handed(Outcome::Mistaken, state);
+        return Err(Outcome::Mistaken);
     }
-    handed(Outcome::Done, state)
+    Ok(t.state)
 }
 
-// The lines between two places.
-fn valued_between(
+// The registers of a state by the file that a word names.
+fn with_values(
     system: &mut System,
     index: usize,
-    p: Plan,
+    p: &Plan,
     names: &[u8; 2560],
     st: State,
-    bytes: &[u8],
-    from: usize,
-    to: usize,
-) -> Given {
-    if from > to || to > bytes.len() {
-        return handed(Outcome::Done, st);
-    }
-    valued(system, index, p, names, st, &bytes[from..to])
-}
-
-// The lines behind a byte order mark.
-fn valued_behind(
-    system: &mut System,
-    index: usize,
-    p: Plan,
-    names: &[u8; 2560],
-    st: State,
-    bytes: &[u8; 65536],
-    to: usize,
-) -> Given {
-    valued_between(
-        system,
-        index,
-        p,
-        names,
-        st,
-        bytes,
-        sources::mark_size(bytes),
-        to,
-    )
-}
-
-// The registers of a state by the file that a word names, where there is one.
-fn with_values(system: &mut System, index: usize, p: Plan, names: &[u8; 2560], st: State) -> Given {
-    if index == 0 {
-        return handed(Outcome::Done, st);
-    }
+) -> Result<State, Outcome> {
     let mut buffer = [0u8; 65536];
-    let got = read_whole(system, index, &mut buffer);
-    if !got.good {
-        return handed(Outcome::Mistaken, st);
-    }
+    let Ok(got) = read_whole(system, index, &mut buffer) else {
+        return Err(Outcome::Mistaken);
+    };
     system.close(got.stream);
     if got.size >= 65536 {
         report::wrong_with(system, index, b": a file of 65,536 bytes or longer\n", 0);
-        return handed(Outcome::Mistaken, st);
+        return Err(Outcome::Mistaken);
     }
-    valued_behind(system, index, p, names, st, &buffer, got.size)
-}
-
-// The state with every wire due, where registers were set.
-fn unsettled(index: usize, plan: &PlanTable, st: State) -> State {
-    if index == 0 {
-        return st;
-    }
-    driving::unsettled(plan, st)
-}
-
-// The file that a state comes from.
-fn source_of(o: RunOptions) -> usize {
-    if o.load != 0 { o.load } else { o.sheet }
-}
-
-// A run that does not begin.
-fn unbegun(o: RunOptions, p: Plan, plan: &PlanTable, outcome: Outcome, st: State) -> Begun {
-    let way = o.way;
-    let stand = machine::resume(p, plan, st, way);
-    Begun { outcome, stand }
-}
-
-// A state, run to rest; where it does not come to rest, says why.
-fn stood(system: &mut System, o: RunOptions, p: Plan, plan: &PlanTable, st: State) -> Begun {
-    let way = o.way;
-    let stand = machine::resume(p, plan, st, way);
-    let e = machine::ending_of(stand);
-    started(system, source_of(o), e);
-    Begun {
-        outcome: driving::outcome_of(e),
-        stand,
+    match behind_mark(&buffer, got.size) {
+        Some(bytes) => valued(system, index, p, names, st, bytes),
+        None => Ok(st),
     }
 }
 
-// Where a run begins: from the start or a state that was saved, with the registers that are set, at rest.
+// Where a run begins: from the start or a state that was saved, with the registers that are set, and every wire due where some are, at
+// rest. Where it does not begin, or does not come to rest, says why.
 pub fn begin(
     system: &mut System,
     o: RunOptions,
-    p: Plan,
+    p: &Plan,
     plan: &PlanTable,
     sheet: &[u8],
     names: &[u8; 2560],
-) -> Begun {
-    let l = loaded(system, o.load, p, plan, sheet);
-    let read = l.outcome;
-    let st = l.state;
-    if options::status_of(read) != 0 {
-        return unbegun(o, p, plan, read, st);
+) -> Result<Stand, Outcome> {
+    // the words stay numbers, 0 for none: `options` hands them over so (RunOptions)
+    let mut st = loaded(system, o.load, p, plan, sheet)?;
+    if o.init != 0 {
+        st = driving::unsettled(plan, with_values(system, o.init, p, names, st)?);
     }
-    let v = with_values(system, o.init, p, names, st);
-    let valued = v.outcome;
-    let set = v.state;
-    if options::status_of(valued) != 0 {
-        return unbegun(o, p, plan, valued, set);
-    }
-    stood(system, o, p, plan, unsettled(o.init, plan, set))
+    let stand = machine::resume(p, plan, st, o.way);
+    let source = if o.load != 0 { o.load } else { o.sheet };
+    started(system, source, stand.ending())?;
+    Ok(stand)
 }
 
 // ---- the state that it leaves
 
-// The bytes of a state, written; where that fails, says why.
-fn put_state(system: &mut System, w: Wave, t: Target, name: &[u8; 4096], st: State) -> Wave {
-    let mut bytes = [0u8; 1025];
-    saved::save(st, &mut bytes);
-    let mut text = [0u8; 65536];
-    let pos = put_bytes(&bytes, &mut text);
-    wave::put(system, w, t, name, &text, pos)
-}
-
-fn put_bytes(bytes: &[u8; 1025], text: &mut [u8; 65536]) -> usize {
-    put_word(bytes, text, 0)
-}
-
-// The state that a run leaves, in its file where there is one.
-pub fn save(system: &mut System, p: Plan, inputs: Stream, s: Stand) -> Outcome {
+// The state that a run leaves, in its file where there is one; where it can't be written, says why.
+pub fn save(system: &mut System, p: &Plan, inputs: Stream, s: &Stand) -> Result<(), Outcome> {
     if p.save == 0 {
-        return Outcome::Done;
+        return Ok(());
     }
     let mut name = [0u8; 4096];
-    let kept = p.kept;
-    let t = wave::target_again(system, p.save, kept, p.source, inputs, &mut name);
-    if !t.good {
-        return Outcome::Mistaken;
-    }
-    let rest = s.rest;
-    let st = rest.state;
-    let w = wave::begun(system, t, &name);
-    if !w.good {
-        return Outcome::Mistaken;
-    }
-    let put = put_state(system, w, t, &name, st);
-    wave::finished(system, put, t, &name)
+    let target = wave::target_again(system, p.save, p.kept, p.source, inputs, &mut name)?;
+    let path = name.get(..target.length()).unwrap_or(&name);
+    let mut file = wave::made(system, target, path)?;
+    let mut bytes = [0u8; 1025];
+    saved::save(s.rest.state, &mut bytes);
+    let mut text = [0u8; 65536];
+    file.pos = put_word(&bytes, &mut text, 0);
+    file.spill(system, &text);
+    file.close(system, Ok(()))
 }

@@ -1,6 +1,6 @@
 // The system as the command sees it: the words of its command line, the three standard streams, and files by their names. Only this
 // module calls std's input and output. A call that fails leaves its error here, for `fail` to say.
-ghost use Rattle.std.specs.Prelude.{◌≤◌, length, IfSome, IfOk};
+ghost use Rattle.std.specs.Prelude.{◌≤◌, length, IfOk};
 
 use std::env::FillError;
 use std::fs::{File, OpenOptions};
@@ -10,14 +10,13 @@ use std::os::unix::fs::MetadataExt;
 use std::rt::Env;
 use std::{fs, io};
 
-// One of the streams that a process begins with, a file that was opened, by its number, or none.
+// One of the streams that a process begins with, or a file that was opened, by its number.
 #[derive(Clone, Copy)]
 pub enum Stream {
     Input,
     Output,
     Errors,
     Opened(usize),
-    Nowhere,
 }
 
 // The streams, the files that were opened, and the error of the last call that failed.
@@ -38,14 +37,6 @@ const NAME_TOO_LONG: i32 = 36;
 
 const ILLEGAL_BYTES: i32 = 84;
 
-// Is there a stream?
-pub fn is_open(stream: Stream) -> bool {
-    match stream {
-        Stream::Nowhere => false,
-        _ => true,
-    }
-}
-
 fn error_of(number: i32) -> Error {
     Error::from_raw_os_error(number)
 }
@@ -58,14 +49,12 @@ fn text_of(path: &[u8]) -> io::Result<&str> {
     }
 }
 
-// A text's first bytes go to the front of a buffer. Gives how many.
-fn copied(text: &str, out: &mut [u8; 4096]) -> usize
-    ensures { result ≤ 4096 }
-{
+// A text's first bytes go to the front of a buffer. Gives these.
+fn copied<'a>(text: &str, out: &'a mut [u8; 4096]) -> &'a [u8] {
     let bytes = text.as_bytes();
     let n = bytes.len().min(4096);
     out[..n].copy_from_slice(&bytes[..n]);
-    n
+    &out[..n]
 }
 
 // The number that stands behind a name in what the system tells of a descriptor, a line each.
@@ -93,23 +82,8 @@ impl System {
 
     // ---- errors
 
-    fn failed_with(&mut self, number: i32) -> usize
-        ensures { result ≤ 0 }
-    {
-        self.error = Some(error_of(number));
-        0
-    }
-
-    // Did the last word fail to come?
-    pub fn has_failed(&self) -> bool {
-        self.error.is_some()
-    }
-
     fn has_kind(&self, kind: ErrorKind) -> bool {
-        match self.error {
-            Some(e) => e.kind() == kind,
-            None => false,
-        }
+        self.error.is_some_and(|e| e.kind() == kind)
     }
 
     // Was it for a file that is not there?
@@ -130,9 +104,8 @@ impl System {
         };
         let words = text.as_str();
         let n = words.rfind(" (os error ").unwrap_or(words.len());
-        let bytes = words.as_bytes();
-        if n <= bytes.len() {
-            self.write(Stream::Errors, &bytes[..n]);
+        if let Some(bytes) = words.as_bytes().get(..n) {
+            self.write(Stream::Errors, bytes);
         }
     }
 
@@ -163,34 +136,33 @@ impl System {
 
     // ---- words
 
-    // A word of the command line goes to the front of a buffer. Gives its length, 0 where there is none or it is too long.
-    pub fn word(&mut self, index: usize, out: &mut [u8; 4096]) -> usize
-        ensures { result ≤ 4096 }
-    {
+    // A word of the command line, out of a buffer; nothing where there is none or it is too long.
+    pub fn word<'a>(&mut self, index: usize, out: &'a mut [u8; 4096]) -> Option<&'a [u8]> {
         match self.rt.arg(index, out) {
             Ok(n) => {
                 self.error = None;
-                n
+                out.get(..n)
             }
-            Err(FillError::TooLong) => self.failed_with(NAME_TOO_LONG),
-            Err(FillError::NotPresent) => self.failed_with(INVALID_ARGUMENT),
+            Err(FillError::TooLong) => {
+                self.error = Some(error_of(NAME_TOO_LONG));
+                None
+            }
+            Err(FillError::NotPresent) => {
+                self.error = Some(error_of(INVALID_ARGUMENT));
+                None
+            }
         }
     }
 
     // Is there such a word?
     pub fn has_word(&self, index: usize) -> bool {
         let mut front = [0u8; 1];
-        match self.rt.arg(index, &mut front) {
-            Err(FillError::NotPresent) => false,
-            _ => true,
-        }
+        !matches!(self.rt.arg(index, &mut front), Err(FillError::NotPresent))
     }
 
     // ---- reading and writing
 
-    fn read_some(&mut self, stream: Stream, buffer: &mut [u8]) -> io::Result<usize>
-        ensures { IfOk result (λ n. n ≤ length buffer.new) }
-    {
+    fn read_some(&mut self, stream: Stream, buffer: &mut [u8]) -> io::Result<usize> {
         match stream {
             Stream::Input if !self.closed => self.rt.stdin().read(buffer),
             Stream::Opened(k) => match self.files.get_mut(k) {
@@ -201,10 +173,8 @@ impl System {
         }
     }
 
-    // One read. Gives how many bytes came, none where it failed.
-    pub fn read(&mut self, stream: Stream, buffer: &mut [u8]) -> Option<usize>
-        ensures { IfSome result (λ n. n ≤ length buffer.new) }
-    {
+    // One read. Gives how many bytes came, nothing where it failed.
+    pub fn read(&mut self, stream: Stream, buffer: &mut [u8]) -> Option<usize> {
         match self.read_some(stream, buffer) {
             Ok(n) => Some(n),
             Err(e) => {
@@ -228,7 +198,8 @@ impl System {
         }
     }
 
-    // Writes all bytes, or stops at the first write that fails or takes nothing. Were all written?
+    // Writes all bytes, or stops at the first write that fails or takes nothing. Were all written? A bool, for most callers go on either
+    // way; why it failed is kept for `fail`.
     pub fn write(&mut self, stream: Stream, bytes: &[u8]) -> bool {
         let mut rest = bytes;
         for _ in 0..u64::MAX {
@@ -256,13 +227,13 @@ impl System {
         Ok(k)
     }
 
-    // The stream of a file that was opened; nowhere, where it could not be.
-    fn kept(&mut self, opened: io::Result<File>) -> Stream {
+    // The stream of a file that was opened; nothing, where it could not be.
+    fn kept(&mut self, opened: io::Result<File>) -> Option<Stream> {
         match self.stored(opened) {
-            Ok(k) => Stream::Opened(k),
+            Ok(k) => Some(Stream::Opened(k)),
             Err(e) => {
                 self.error = Some(e);
-                Stream::Nowhere
+                None
             }
         }
     }
@@ -272,19 +243,19 @@ impl System {
     }
 
     // A file to be read.
-    pub fn open_read(&mut self, path: &[u8]) -> Stream {
+    pub fn open_read(&mut self, path: &[u8]) -> Option<Stream> {
         let opened = self.opened(OpenOptions::new().read(true), path);
         self.kept(opened)
     }
 
     // A file that is there, to be written behind its end.
-    pub fn open_append(&mut self, path: &[u8]) -> Stream {
+    pub fn open_append(&mut self, path: &[u8]) -> Option<Stream> {
         let opened = self.opened(OpenOptions::new().append(true), path);
         self.kept(opened)
     }
 
     // A file that is not there, to be written.
-    pub fn create(&mut self, path: &[u8]) -> Stream {
+    pub fn create(&mut self, path: &[u8]) -> Option<Stream> {
         let opened = self.opened(OpenOptions::new().write(true).create_new(true), path);
         self.kept(opened)
     }
@@ -353,33 +324,30 @@ impl System {
     pub fn is_seekable(&mut self, stream: Stream) -> bool {
         match stream {
             Stream::Opened(k) => match self.files.get_mut(k) {
-                Some(Some(file)) => match file.seek(SeekFrom::Start(1)) {
-                    Ok(place) => place == 1,
-                    Err(_) => false,
-                },
+                Some(Some(file)) => matches!(file.seek(SeekFrom::Start(1)), Ok(1)),
                 _ => false,
             },
             _ => false,
         }
     }
 
-    // The number by which the system knows a stream, -1 where there is none.
-    fn number(&self, stream: Stream) -> i32 {
+    // The number by which the system knows a stream; nothing, where it is closed.
+    fn number(&self, stream: Stream) -> Option<i32> {
         match stream {
-            Stream::Input if !self.closed => 0,
-            Stream::Output => 1,
-            Stream::Errors => 2,
+            Stream::Input if !self.closed => Some(0),
+            Stream::Output => Some(1),
+            Stream::Errors => Some(2),
             Stream::Opened(k) => match self.files.get(k) {
-                Some(Some(file)) => file.as_raw_fd(),
-                _ => -1,
+                Some(Some(file)) => Some(file.as_raw_fd()),
+                _ => None,
             },
-            _ => -1,
+            _ => None,
         }
     }
 
     // Where the system shows a stream.
     fn place(&self, stream: Stream) -> io::Result<String> {
-        let number = self.number(stream);
+        let number = self.number(stream).ok_or(error_of(BAD_DESCRIPTOR))?;
         Ok(format!(in self.rt.alloc(); "/proc/self/fd/{number}")?)
     }
 
@@ -388,13 +356,11 @@ impl System {
         Ok(fs::read_link(&self.rt, place)?.into_string())
     }
 
-    // The name of the file that a stream is of, as the system knows it. Gives its length, 0 where it is not known, or is no text.
-    pub fn true_name(&self, stream: Stream, out: &mut [u8; 4096]) -> usize
-        ensures { result ≤ 4096 }
-    {
+    // The name of the file that a stream is of, as the system knows it, out of a buffer; nothing where it is not known, or is no text.
+    pub fn true_name<'a>(&self, stream: Stream, out: &'a mut [u8; 4096]) -> Option<&'a [u8]> {
         match self.link_of(stream) {
-            Ok(name) => copied(name.as_str(), out),
-            Err(_) => 0,
+            Ok(name) => Some(copied(name.as_str(), out)),
+            Err(_) => None,
         }
     }
 
@@ -408,18 +374,16 @@ impl System {
     // Are two streams of one file, by its device and number?
     pub fn are_one(&self, a: Stream, b: Stream) -> bool {
         match (self.node(a), self.node(b)) {
-            (Ok(x), Ok(y)) => x.0 == y.0 && x.1 == y.1,
+            (Ok(x), Ok(y)) => x == y,
             _ => false,
         }
     }
 
-    // The number of this process, as /proc/self says it. Gives its length.
-    pub fn process(&self, out: &mut [u8; 4096]) -> usize
-        ensures { result ≤ 4096 }
-    {
+    // The number of this process, as /proc/self says it, out of a buffer.
+    pub fn process<'a>(&self, out: &'a mut [u8; 4096]) -> Option<&'a [u8]> {
         match fs::read_link(&self.rt, "/proc/self") {
-            Ok(name) => copied(name.as_str(), out),
-            Err(_) => 0,
+            Ok(name) => Some(copied(name.as_str(), out)),
+            Err(_) => None,
         }
     }
 
@@ -456,16 +420,16 @@ impl System {
         Ok(Some(file))
     }
 
-    // The stream on which the status is told: descriptor 3, which the process was given; nowhere, where it was given none to write on.
+    // The stream on which the status is told: descriptor 3, which the process was given; nothing, where it was given none to write on.
     // std reaches it by its name alone, so it is opened anew, and before any other file, which might take its number. An error says
     // that it can't be.
-    pub fn open_status(&mut self) -> io::Result<Stream> {
+    pub fn open_status(&mut self) -> io::Result<Option<Stream>> {
         let Some(told) = self.told()? else {
-            return Ok(Stream::Nowhere);
+            return Ok(None);
         };
         match self.anew(told.as_str())? {
-            Some(file) => Ok(Stream::Opened(self.stored(Ok(file))?)),
-            None => Ok(Stream::Nowhere),
+            Some(file) => Ok(Some(Stream::Opened(self.stored(Ok(file))?))),
+            None => Ok(None),
         }
     }
 }

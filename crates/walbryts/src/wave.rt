@@ -1,82 +1,71 @@
 // The file of a waveform or of a state. It is written under another name in the same folder, and takes the old one's place when the
 // run is over and all is well; where the run is refused or fails, the old one stays as it is. A pipe or a device is written straight into.
 
-use crate::files::{flush, front};
+use crate::files::flush;
 use crate::report;
-use crate::system::{Stream, System, is_open};
+use crate::system::{Stream, System};
 use options::Outcome;
 use outputs::Aim;
 
-// The file: its stream, where there is one; is it to take another's place; how much text waits; and was all written so far?
+// Where a file goes that a word names: nowhere, where there is no word; straight into a stream; or whole to its name's place. With the
+// length of its name.
 #[derive(Clone, Copy)]
-pub struct Wave {
-    pub stream: Stream,
-    pub whole: bool,
+pub enum Target {
+    Nowhere,
+    Straight(Stream, usize),
+    Whole(usize),
+}
+
+impl Target {
+    // How long the file's name is.
+    pub fn length(&self) -> usize {
+        match *self {
+            Target::Nowhere => 0,
+            Target::Straight(_, n) | Target::Whole(n) => n,
+        }
+    }
+}
+
+// The file: its name; its stream, where there is one; is it to take another's place; how much text waits; and was all written so far?
+#[derive(Clone, Copy)]
+pub struct Wave<'a> {
+    path: &'a [u8],
+    stream: Option<Stream>,
+    whole: bool,
     pub pos: usize,
     pub good: bool,
 }
 
-// What is known of the file that a word names: can it be written, how, by which stream, and how long its name is.
-#[derive(Clone, Copy)]
-pub struct Target {
-    pub good: bool,
-    pub whole: bool,
-    pub stream: Stream,
-    pub length: usize,
-}
-
-pub fn none() -> Wave {
-    Wave {
-        stream: Stream::Nowhere,
-        whole: false,
-        pos: 0,
-        good: true,
-    }
-}
-
 // ---- which file it is
 
-// Is a stream's file the one of that name?
-fn is_named(system: &mut System, stream: Stream, name: &[u8]) -> bool {
-    let mut other = [0u8; 4096];
-    let n = system.true_name(stream, &mut other);
-    if n == 0 {
-        return false;
-    }
-    verilog_tokens::same(&other[..n], name)
-}
-
 // Is a stream's file that of another, which has that name? A file whose name is not known is told by its device and number.
-fn is_file(system: &mut System, stream: Stream, other: Stream, name: &[u8]) -> bool {
-    if name.is_empty() {
+fn is_file(system: &System, stream: Stream, other: Stream, name: Option<&[u8]>) -> bool {
+    let Some(name) = name else {
         return system.are_one(stream, other);
-    }
-    is_named(system, stream, name)
+    };
+    let mut buffer = [0u8; 4096];
+    system
+        .true_name(stream, &mut buffer)
+        .is_some_and(|own| own == name)
 }
 
 // Is a file one that this command reads, or shows its table in?
-fn is_own(system: &mut System, sheet: Stream, inputs: Stream, other: Stream, name: &[u8]) -> bool {
-    if is_file(system, sheet, other, name) {
-        return true;
-    }
-    if is_file(system, inputs, other, name) {
-        return true;
-    }
-    is_file(system, Stream::Output, other, name)
+fn is_own(
+    system: &System,
+    sheet: Stream,
+    inputs: Stream,
+    other: Stream,
+    name: Option<&[u8]>,
+) -> bool {
+    is_file(system, sheet, other, name)
+        || is_file(system, inputs, other, name)
+        || is_file(system, Stream::Output, other, name)
 }
 
 // ---- where it goes
 
-fn aimed(good: bool, whole: bool, stream: Stream, length: usize) -> Target {
-    Target {
-        good,
-        whole,
-        stream,
-        length,
-    }
-}
-
-// A file that is there already: which one it is, by its true name; where this command reads it or shows its table in it, that is said.
+// A file that is there already, by a name of such a length: which one it is, by its true name; where this command reads it or shows its
+// table in it, that is said.
 fn present(
     system: &mut System,
     index: usize,
@@ -84,12 +73,12 @@ fn present(
     inputs: Stream,
     stream: Stream,
     name: &mut [u8; 4096],
-    n: usize,
-) -> Target {
-    let mut known = [0u8; 4096];
-    let m = system.true_name(stream, &mut known);
+    length: usize,
+) -> Result<Target, Outcome> {
+    let mut buffer = [0u8; 4096];
+    let known = system.true_name(stream, &mut buffer);
     let sought = system.is_seekable(stream);
-    let own = sought && is_own(system, sheet, inputs, stream, &known[..m]);
+    let own = sought && is_own(system, sheet, inputs, stream, known);
     match outputs::aim_of(own, true, sought) {
         Aim::Own => {
             system.close(stream);
@@ -99,197 +88,167 @@ fn present(
                 b": this command reads it or shows its table in it\n",
                 0,
             );
-            aimed(false, false, Stream::Nowhere, 0)
+            Err(Outcome::Mistaken)
         }
-        Aim::Straight => aimed(true, false, stream, n),
+        Aim::Straight => Ok(Target::Straight(stream, length)),
         Aim::Whole => {
-            let length = if m == 0 {
-                n
-            } else {
-                system.true_name(stream, name)
-            };
+            let length = system
+                .true_name(stream, name)
+                .map_or(length, |path| path.len());
             system.close(stream);
-            aimed(true, true, Stream::Nowhere, length)
+            Ok(Target::Whole(length))
         }
     }
 }
 
-// No file.
-pub fn nowhere() -> Target {
-    aimed(true, false, Stream::Nowhere, 0)
-}
-
 // Where the file goes that a word names, 0 where there is none: by the streams of the module and the inputs. Where it cannot be
-// written, says why.
+// written, says why. Its name goes to the front of a buffer.
 pub fn target_of(
     system: &mut System,
     index: usize,
     sheet: Stream,
     inputs: Stream,
     name: &mut [u8; 4096],
-) -> Target {
+) -> Result<Target, Outcome> {
+    // the word stays a number, 0 for none: `options` hands it over so (RunOptions)
     if index == 0 {
-        return nowhere();
+        return Ok(Target::Nowhere);
     }
-    let n = system.word(index, name);
-    if system.has_failed() {
+    let Some(path) = system.word(index, name) else {
         system.fail(b"a file's name");
-        return aimed(false, false, Stream::Nowhere, 0);
-    }
-    let stream = open_present(system, name, n);
-    if is_open(stream) {
-        return present(system, index, sheet, inputs, stream, name, n);
-    }
-    if system.is_missing() {
-        return aimed(true, true, Stream::Nowhere, n);
-    }
-    fail_named(system, name, n);
-    aimed(false, false, Stream::Nowhere, 0)
-}
-
-// The file of a name, where it is there.
-fn open_present(system: &mut System, name: &[u8], n: usize) -> Stream {
-    if n <= name.len() {
-        return system.open_append(&name[..n]);
-    }
-    Stream::Nowhere
-}
-
-fn fail_named(system: &mut System, name: &[u8], n: usize) {
-    if n <= name.len() {
-        system.fail(&name[..n]);
-    }
-}
-
-// The name that it has until it is whole: the process is known by what /proc/self says. Gives its length.
-fn put_part(system: &mut System, path: &[u8], text: &mut [u8; 65536]) -> usize {
-    let mut id = [0u8; 4096];
-    let n = system.process(&mut id);
-    outputs::put_part(path, &id[..n], text, 0)
-}
-
-fn create_named(system: &mut System, name: &[u8], n: usize) -> Stream {
-    if n <= name.len() {
-        return system.create(&name[..n]);
-    }
-    Stream::Nowhere
-}
-
-fn create(system: &mut System, text: &[u8; 65536], n: usize) -> Stream {
-    create_named(system, text, n)
-}
-
-// The file, made; where it cannot be, says why.
-pub fn made(system: &mut System, t: Target, path: &[u8]) -> Wave {
-    if !t.whole {
-        let mut w = none();
-        w.stream = t.stream;
-        return w;
-    }
-    let mut text = [0u8; 65536];
-    let n = put_part(system, path, &mut text);
-    let stream = create(system, &text, n);
-    let good = is_open(stream);
-    if !good {
+        return Err(Outcome::Mistaken);
+    };
+    let length = path.len();
+    let found = system.open_append(path);
+    if found.is_none() && !system.is_missing() {
         system.fail(path);
+        return Err(Outcome::Mistaken);
     }
-    Wave {
-        stream,
-        whole: true,
+    match found {
+        Some(stream) => present(system, index, sheet, inputs, stream, name, length),
+        None => Ok(Target::Whole(length)),
+    }
+}
+
+// The name that a file has until it is whole, out of a buffer: the process is known by what /proc/self says.
+fn part_of<'a>(system: &System, path: &[u8], text: &'a mut [u8; 65536]) -> Option<&'a [u8]> {
+    let mut buffer = [0u8; 4096];
+    let id = system.process(&mut buffer).unwrap_or(b"");
+    let n = outputs::put_part(path, id, text, 0);
+    text.get(..n)
+}
+
+// The file, made, which is to have that name; where it cannot be, says why.
+pub fn made<'a>(system: &mut System, t: Target, path: &'a [u8]) -> Result<Wave<'a>, Outcome> {
+    let wave = Wave {
+        path,
+        stream: None,
+        whole: false,
         pos: 0,
-        good,
+        good: true,
+    };
+    match t {
+        Target::Nowhere => Ok(wave),
+        Target::Straight(stream, _) => Ok(Wave {
+            stream: Some(stream),
+            ..wave
+        }),
+        Target::Whole(_) => {
+            let stream = create(system, path);
+            if stream.is_none() {
+                system.fail(path);
+                return Err(Outcome::Mistaken);
+            }
+            Ok(Wave {
+                stream,
+                whole: true,
+                ..wave
+            })
+        }
     }
 }
 
-// ---- what is written
-
-// What waits is written; where that fails, says why.
-pub fn spilled(system: &mut System, w: Wave, path: &[u8], text: &[u8; 65536]) -> Wave {
-    let mut e = w;
-    e.pos = 0;
-    if !is_open(w.stream) || !w.good {
-        return e;
-    }
-    e.good = flush(system, w.stream, text, w.pos);
-    if !e.good {
-        system.fail(path);
-    }
-    e
-}
-
-fn unlink_named(system: &mut System, name: &[u8], n: usize) {
-    if n <= name.len() {
-        system.remove(&name[..n]);
-    }
-}
-
-fn unlink(system: &mut System, text: &[u8; 65536], n: usize) {
-    unlink_named(system, text, n);
-}
-
-fn rename_named(system: &mut System, name: &[u8], n: usize, path: &[u8]) -> bool {
-    if n <= name.len() {
-        return system.rename(&name[..n], path);
-    }
-    false
-}
-
-fn rename(system: &mut System, text: &[u8; 65536], n: usize, path: &[u8]) -> bool {
-    rename_named(system, text, n, path)
-}
-
-// A file that is whole takes its name. Gives how it went.
-fn renamed(system: &mut System, path: &[u8]) -> Outcome {
+fn create(system: &mut System, path: &[u8]) -> Option<Stream> {
     let mut text = [0u8; 65536];
-    let n = put_part(system, path, &mut text);
-    if rename(system, &text, n, path) {
-        return Outcome::Done;
+    let part = part_of(system, path, &mut text)?;
+    system.create(part)
+}
+
+// ---- its end
+
+// A file that is whole takes its name; where it can't, says why.
+fn rename(system: &mut System, path: &[u8]) -> Result<(), Outcome> {
+    let mut text = [0u8; 65536];
+    let Some(part) = part_of(system, path, &mut text) else {
+        system.fail(path);
+        return Err(Outcome::Mistaken);
+    };
+    if system.rename(part, path) {
+        return Ok(());
     }
     system.fail(path);
-    unlink(system, &text, n);
-    Outcome::Mistaken
+    system.remove(part);
+    Err(Outcome::Mistaken)
 }
 
 // A file that did not become whole goes.
-fn removed(system: &mut System, path: &[u8]) {
+fn remove(system: &mut System, path: &[u8]) {
     let mut text = [0u8; 65536];
-    let n = put_part(system, path, &mut text);
-    unlink(system, &text, n);
+    if let Some(part) = part_of(system, path, &mut text) {
+        system.remove(part);
+    }
 }
 
-// The file is closed. Is all of it stored? What is written straight into needs no more than that.
-fn is_shut(system: &mut System, w: Wave) -> bool {
-    if w.whole {
-        return system.finish(w.stream);
+// A file is closed. Is all of it stored? What is written straight into needs no more than that.
+fn shut(system: &mut System, stream: Stream, whole: bool) -> bool {
+    if whole {
+        return system.finish(stream);
     }
-    system.close(w.stream);
+    system.close(stream);
     true
 }
 
-// The run is over, with such an outcome: the file is closed, and takes its name where all is well.
-pub fn closed(system: &mut System, w: Wave, path: &[u8], outcome: Outcome) -> Outcome {
-    if !is_open(w.stream) {
-        return outcome;
+impl Wave<'_> {
+    // What waits is written; where that fails, says why.
+    pub fn spill(&mut self, system: &mut System, text: &[u8; 65536]) {
+        let pos = self.pos;
+        self.pos = 0;
+        let Some(stream) = self.stream else {
+            return;
+        };
+        if !self.good {
+            return;
+        }
+        self.good = flush(system, stream, text, pos);
+        if !self.good {
+            system.fail(self.path);
+        }
     }
-    let shut = is_shut(system, w);
-    if !shut {
-        system.fail(path);
+
+    // The run is over, and ends so: the file is closed, and takes its name where all is well.
+    pub fn close(&self, system: &mut System, ended: Result<(), Outcome>) -> Result<(), Outcome> {
+        let Some(stream) = self.stream else {
+            return ended;
+        };
+        let stored = shut(system, stream, self.whole);
+        if !stored {
+            system.fail(self.path);
+        }
+        let mine = if self.good && stored {
+            Ok(())
+        } else {
+            Err(Outcome::Mistaken)
+        };
+        let all = ended.and(mine);
+        if !self.whole {
+            return all;
+        }
+        if all.is_ok() {
+            return rename(system, self.path);
+        }
+        remove(system, self.path);
+        all
     }
-    let good = w.good && shut;
-    let mine = if good {
-        Outcome::Done
-    } else {
-        Outcome::Mistaken
-    };
-    let all = options::joined(outcome, mine);
-    if !w.whole {
-        return all;
-    }
-    if options::status_of(all) == 0 {
-        return renamed(system, path);
-    }
-    removed(system, path);
-    all
 }
 
 // ---- a file that is written at the end of the run
@@ -302,37 +261,10 @@ pub fn target_again(
     sheet: Stream,
     inputs: Stream,
     name: &mut [u8; 4096],
-) -> Target {
-    if !is_open(t.stream) {
+) -> Result<Target, Outcome> {
+    let Target::Straight(stream, _) = t else {
         return target_of(system, index, sheet, inputs, name);
-    }
-    let n = system.word(index, name);
-    aimed(true, false, t.stream, n)
-}
-
-// The file, made, by its name.
-pub fn begun(system: &mut System, t: Target, name: &[u8; 4096]) -> Wave {
-    let path = front(name, t.length);
-    made(system, t, path)
-}
-
-// A part of it is written; where that fails, says why.
-pub fn put(
-    system: &mut System,
-    w: Wave,
-    t: Target,
-    name: &[u8; 4096],
-    text: &[u8; 65536],
-    pos: usize,
-) -> Wave {
-    let mut e = w;
-    e.pos = pos;
-    let path = front(name, t.length);
-    spilled(system, e, path, text)
-}
-
-// It is closed, and takes its name.
-pub fn finished(system: &mut System, w: Wave, t: Target, name: &[u8; 4096]) -> Outcome {
-    let path = front(name, t.length);
-    closed(system, w, path, Outcome::Done)
+    };
+    let length = system.word(index, name).map_or(0, |path| path.len());
+    Ok(Target::Straight(stream, length))
 }

@@ -4,9 +4,9 @@ use sources::Words;
 
 // One word of the command line.
 fn take_word(system: &mut System, w: Words, i: usize) -> Words {
-    let mut word = [0u8; 4096];
-    let n = system.word(i, &mut word);
-    sources::take(w, &word[..n])
+    let mut buffer = [0u8; 4096];
+    let word = system.word(i, &mut buffer).unwrap_or(b"");
+    sources::take(w, word)
 }
 
 // All of them.
