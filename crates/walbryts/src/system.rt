@@ -1,6 +1,6 @@
 // The system as the command sees it: the words of its command line, the three standard streams, and files by their names. Only this
 // module calls std's input and output. A call that fails leaves its error here, for `fail` to say.
-ghost use Rattle.std.specs.Prelude.{◌≤◌, length, IfOk};
+ghost use Rattle.std.specs.Prelude.{◌≤◌, length, IfSome, IfOk};
 
 use std::env::FillError;
 use std::fs::{File, OpenOptions};
@@ -50,7 +50,9 @@ fn text_of(path: &[u8]) -> io::Result<&str> {
 }
 
 // A text's first bytes go to the front of a buffer. Gives these.
-fn copied<'a>(text: &str, out: &'a mut [u8; 4096]) -> &'a [u8] {
+fn copied<'a>(text: &str, out: &'a mut [u8; 4096]) -> &'a [u8]
+    ensures { length result.now ≤ 4096 }
+{
     let bytes = text.as_bytes();
     let n = bytes.len().min(4096);
     out[..n].copy_from_slice(&bytes[..n]);
@@ -137,7 +139,9 @@ impl System {
     // ---- words
 
     // A word of the command line, out of a buffer; nothing where there is none or it is too long.
-    pub fn word<'a>(&mut self, index: usize, out: &'a mut [u8; 4096]) -> Option<&'a [u8]> {
+    pub fn word<'a>(&mut self, index: usize, out: &'a mut [u8; 4096]) -> Option<&'a [u8]>
+        ensures { IfSome result (λ w. length w.now ≤ 4096) }
+    {
         match self.rt.arg(index, out) {
             Ok(n) => {
                 self.error = None;
@@ -162,7 +166,9 @@ impl System {
 
     // ---- reading and writing
 
-    fn read_some(&mut self, stream: Stream, buffer: &mut [u8]) -> io::Result<usize> {
+    fn read_some(&mut self, stream: Stream, buffer: &mut [u8]) -> io::Result<usize>
+        ensures { IfOk result (λ n. n ≤ length buffer.new) }
+    {
         match stream {
             Stream::Input if !self.closed => self.rt.stdin().read(buffer),
             Stream::Opened(k) => match self.files.get_mut(k) {
@@ -174,7 +180,9 @@ impl System {
     }
 
     // One read. Gives how many bytes came, nothing where it failed.
-    pub fn read(&mut self, stream: Stream, buffer: &mut [u8]) -> Option<usize> {
+    pub fn read(&mut self, stream: Stream, buffer: &mut [u8]) -> Option<usize>
+        ensures { IfSome result (λ n. n ≤ length buffer.new) }
+    {
         match self.read_some(stream, buffer) {
             Ok(n) => Some(n),
             Err(e) => {
@@ -357,7 +365,9 @@ impl System {
     }
 
     // The name of the file that a stream is of, as the system knows it, out of a buffer; nothing where it is not known, or is no text.
-    pub fn true_name<'a>(&self, stream: Stream, out: &'a mut [u8; 4096]) -> Option<&'a [u8]> {
+    pub fn true_name<'a>(&self, stream: Stream, out: &'a mut [u8; 4096]) -> Option<&'a [u8]>
+        ensures { IfSome result (λ w. length w.now ≤ 4096) }
+    {
         match self.link_of(stream) {
             Ok(name) => Some(copied(name.as_str(), out)),
             Err(_) => None,
@@ -380,7 +390,9 @@ impl System {
     }
 
     // The number of this process, as /proc/self says it, out of a buffer.
-    pub fn process<'a>(&self, out: &'a mut [u8; 4096]) -> Option<&'a [u8]> {
+    pub fn process<'a>(&self, out: &'a mut [u8; 4096]) -> Option<&'a [u8]>
+        ensures { IfSome result (λ w. length w.now ≤ 4096) }
+    {
         match fs::read_link(&self.rt, "/proc/self") {
             Ok(name) => Some(copied(name.as_str(), out)),
             Err(_) => None,
