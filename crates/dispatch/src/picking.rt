@@ -25,7 +25,10 @@ fn next_busy(list: [Record; 8], count: usize, last: usize) -> Option<usize>
     ensures { result ≡ next list count last }
 {
     let behind = first_busy(list, last + 1, count);
-    behind.or(first_busy(list, 0, last + 1))
+    match behind {
+        Some(_) => behind,
+        None => first_busy(list, 0, last + 1),
+    }
 }
 
 // A refused call stores nothing.

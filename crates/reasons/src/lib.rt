@@ -17,7 +17,7 @@ pub fn next_line(table: &[u8], from: usize) -> usize
             return i + 1;
         }
     }
-    table.len()
+    from.max(table.len())
 }
 
 // The line at a place.

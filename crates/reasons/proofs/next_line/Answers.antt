@@ -3,6 +3,7 @@
 use Prim.Native.Nat.{◌≤◌}
 use native.Mathlib.Omega.{arith}
 use mathlib.Core.Path.{refl, sym, ◌∙◌}
+use Rattle.std.specs.Prelude.{max}
 use lib.ListN.{length, drop_of_length-le}
 use Rattle.reasons.specs.Reasons.{other_lines}
 use Rattle.reasons.proofs.Reasons.{rest-none, rest_end, rest_more}
@@ -28,6 +29,7 @@ pub returns : goal.returns
 returns c =
     let l = c.loop-i in
     let table = c.args.table.now in
-    let all : length table ≤ length table = omega arith in
-    drop_of_length-le table all ∙ sym (drop_of_length-le table c.loop-i-test.false)
-    ∙ rest-none table l.i c.loop-i-test.false ∙ l.invariant
+    let all : length table ≤ max c.args.from (length table) = omega arith in
+    rw c.max.ensures
+    (drop_of_length-le table all ∙ sym (drop_of_length-le table c.loop-i-test.false)
+    ∙ rest-none table l.i c.loop-i-test.false ∙ l.invariant)

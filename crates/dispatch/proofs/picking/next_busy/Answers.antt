@@ -1,19 +1,19 @@
 -- `dispatch::picking::next_busy` meets its contract: the one found behind the last served, or else up to it. Assumes nothing.
-use mathlib.Core.Path.{◌≡◌, refl}
-use Prim.Native.Nat.{ℕ, ◌+◌, ◌-◌}
+use mathlib.Core.Path.{◌≡◌, sym, ap, ◌∙◌}
+use Prim.Native.Nat.{◌+◌, ◌-◌}
 use native.Mathlib.Omega.{arith}
-use Rattle.std.specs.Prelude.{Option, None, Some}
-use Rattle.std.specs.Option.{option_or}
-use Rattle.dispatch.specs.Dispatch.{or_else, next}
+use Rattle.dispatch.specs.Dispatch.{first_busy}
+use Rattle.dispatch.proofs.Circle.{next-behind, next-ahead}
 use Rattle.dispatch.proofs.picking.next_busy.Goals as goal
 
-or-or_else : (f g : Option ℕ) → option_or f g ≡ or_else f g
-unfolding or_else
-or-or_else (Some i) g = refl
-or-or_else None g = refl
+pub returns-in-Some : goal.returns-in-Some
+returns-in-Some c =
+    let a = c.args in
+    c.in-Some.is ∙ sym (next-behind a.list a.count a.last c.requires.1 (sym c.first_busy-behind.ensures ∙ c.in-Some.is))
 
-pub returns : goal.returns
-unfolding next
-returns c =
-    let all : c.args.last + 1 - 0 ≡ c.args.last + 1 = omega arith in
-    rw (c.or.ensures, c.first_busy-behind.ensures, c.first_busy.ensures, all) (or-or_else _ _)
+pub returns-in-None : goal.returns-in-None
+returns-in-None c =
+    let a = c.args in
+    let all : a.last + 1 - 0 ≡ a.last + 1 = omega arith in
+    c.first_busy.ensures ∙ ap (first_busy a.list 0) all
+    ∙ sym (next-ahead a.list a.count a.last c.requires.1 (sym c.first_busy-behind.ensures ∙ c.in-None.is))
