@@ -8,7 +8,7 @@ use lib.Dec.{ltb, leb}
 use lib.ListN.{length, get_or, take, drop, set, take-append-drop, length-set}
 use lib.Seq.{slice, slice_empty, sets, length-slice, length-take-le, drop-cons, take-suc, drop_at, drop-append-le, sets-eq}
 use lib.Seq.{take-set-le, drop-set-lt, get_or-set_same, take-take, take-append-le}
-use borrow.Author.Tests.{lt-ltb, le-ltb, ltb-true, le-leb, lt-leb, leb-true, leb-false}
+use borrow.Author.Tests.{lt-ltb, ltb-true, le-leb, lt-leb, leb-true, leb-false}
 use Rattle.values.specs.Values.{pick}
 use Rattle.writing.specs.Buffer.{filled, puts}
 use Rattle.writing.proofs.Buffer.{puts-sets}

@@ -7,7 +7,7 @@ use Prim.Native.Nat.{ℕ, zero, suc, ◌+◌, ◌-◌, ◌≤◌, ◌<◌}
 use native.Mathlib.Numerals.{add-one}
 use native.Mathlib.Omega.{arith}
 use lib.Dec.{leb}
-use lib.ListN.{length, get_or, take, drop, set, length-append, length-reverse, take-append-drop, length-set}
+use lib.ListN.{length, get_or, take, drop, set, length-append, length-drop, length-reverse, take-append-drop, length-set}
 use lib.Seq.{slice, length-slice, length-take-le, drop-cons, take_at, drop_at, set_at, take-take, drop-append-le, sets-eq}
 use borrow.Author.Tests.{le-leb, lt-leb}
 use Rattle.values.specs.Values.{pick}
@@ -159,31 +159,6 @@ turns l from mid end n h k e =
     (omega (arith, length-slice from mid l (omega arith))) (omega (arith, length-slice mid end l (omega arith))) e in
     ap (λ t. turned from mid end t) (sym (four l from mid end n h k e)) ∙ law
 
--- ---- the range from..end, its part up to mid put behind the other
-
-abbrev rotated : ℕ → ℕ → ℕ → List ℕ → List ℕ
-rotated from mid end l =
-    let m = take (end - from) (drop from l) in
-    take from l ++ ((drop (mid - from) m ++ take (mid - from) m) ++ drop (end - from) (drop from l))
-
-rotated-at : (p a b q : List ℕ) (from mid end : ℕ) → length p ≡ from → from + length a ≡ mid → mid + length b ≡ end
-    → rotated from mid end (p ++ (a ++ (b ++ q))) ≡ p ++ (b ++ (a ++ q))
-rotated-at p a b q from mid end lp la lb =
-    let n : length (a ++ b) ≡ end - from = length-append a b ∙ omega arith in
-    let k : length a ≡ mid - from = omega arith in
-    let d : drop from (p ++ (a ++ (b ++ q))) ≡ (a ++ b) ++ q = drop_at p (a ++ (b ++ q)) from lp ∙ sym (append_assoc a b q) in
-    rw (take_at p (a ++ (b ++ q)) from lp, d, take_at (a ++ b) q (end - from) n, drop_at (a ++ b) q (end - from) n, drop_at a b (mid - from) k, take_at a b (mid - from) k)
-    (ap (λ t. p ++ t) (append_assoc b a q))
-
-pub turned-rotated : (l : List ℕ) (from mid end : ℕ) → length l ≡ 65536 → from ≤ mid → mid ≤ end → end ≤ 65536
-    → rotated from mid end l ≡ turned from mid end l
-unfolding Turns
-turned-rotated l from mid end n h k e =
-    ap (λ t. rotated from mid end t) (sym (four l from mid end n h k e))
-    ∙ rotated-at (take from l) (slice from mid l) (slice mid end l) (drop end l) from mid end (length-take-le from l (omega arith))
-    (omega (arith, length-slice from mid l (omega arith))) (omega (arith, length-slice mid end l (omega arith)))
-    ∙ sym (turns l from mid end n h k e)
-
 -- Places out of order or past the end.
 pub turned-back : (l : List ℕ) (from mid end : ℕ) → mid < from → turned from mid end l ≡ l
 unfolding turned
@@ -212,6 +187,33 @@ unfolding reversed swapped
 length-reversed zero i l = refl
 length-reversed (suc zero) i l = refl
 length-reversed (suc (suc n)) i l = length-reversed n (i + 1) (swapped i (i + n + 1) l) ∙ simp length-set
+
+-- ---- three parts, each reversed where it stands
+
+abbrev part : ℕ → ℕ → List ℕ → List ℕ
+part a b l = take a l ++ (reverse (take (b - a) (drop a l)) ++ drop (b - a) (drop a l))
+
+part-reversed : (l : List ℕ) (a b : ℕ) → a ≤ b → b ≤ length l → part a b l ≡ reversed (b - a) a l
+part-reversed l a b h k =
+    let p = take a l in
+    let m = take (b - a) (drop a l) in
+    let q = drop (b - a) (drop a l) in
+    let whole : p ++ (m ++ q) ≡ l = ap (λ t. p ++ t) (take-append-drop (b - a) (drop a l)) ∙ take-append-drop a l in
+    let n : length m ≡ b - a = length-take-le (b - a) (drop a l) (omega (arith, length-drop a l)) in
+    sym (reversed-at p m q a b (length-take-le a l (omega arith)) (omega (arith, n))) ∙ ap (λ t. reversed (b - a) a t) whole
+
+pub turned-parts : (l : List ℕ) (from mid end : ℕ) → length l ≡ 65536 → from ≤ mid → mid ≤ end → end ≤ 65536
+    → part from end (part mid end (part from mid l)) ≡ turned from mid end l
+unfolding thrice
+turned-parts l from mid end n h k e =
+    let one = reversed (mid - from) from l in
+    let two = reversed (end - mid) mid one in
+    let n1 : length one ≡ 65536 = length-reversed (mid - from) from l ∙ n in
+    let n2 : length two ≡ 65536 = length-reversed (end - mid) mid one ∙ n1 in
+    ap (λ t. part from end (part mid end t)) (part-reversed l from mid h (omega arith))
+    ∙ ap (λ t. part from end t) (part-reversed one mid end k (omega arith))
+    ∙ part-reversed two from end (omega arith) (omega arith)
+    ∙ sym (turned-is l from mid end h k e)
 
 pub length-turned : (l : List ℕ) (from mid end : ℕ) → length (turned from mid end l) ≡ length l
 unfolding turned thrice

@@ -21,7 +21,10 @@ pub fn turn(out: &mut [u8; 65536], from: usize, mid: usize, end: usize)
     if 65536 < end {
         return;
     }
-    out[from..end].rotate_left(mid - from);
+    // three reversals: `rotate_left` would need memmove, which no caller in C has to bring
+    out[from..mid].reverse();
+    out[mid..end].reverse();
+    out[from..end].reverse();
 }
 
 // Two bytes.

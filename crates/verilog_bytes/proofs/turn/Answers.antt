@@ -1,8 +1,6 @@
--- `verilog_bytes::turn` meets its contract: a range is rotated. Assumes nothing.
-use mathlib.Core.Path.{sym, ap, ◌∙◌}
-use Prim.Native.Nat.{◌-◌}
-use borrow.Rule.Slice.PartMut.{put_mid}
-use Rattle.verilog_bytes.proofs.Turning.{turned-back, turned-ends, turned-past, turned-rotated}
+-- `verilog_bytes::turn` meets its contract: three parts are reversed. Assumes nothing.
+use mathlib.Core.Path.{sym}
+use Rattle.verilog_bytes.proofs.Turning.{turned-back, turned-ends, turned-past, turned-parts}
 use Rattle.verilog_bytes.proofs.turn.Goals as goal
 
 pub returns-then-mid-from : goal.returns-then-mid-from
@@ -20,5 +18,5 @@ returns-then-end-gt65536 c =
 pub returns : goal.returns
 returns c =
     let a = c.args in
-    ap (λ s. put_mid a.from (a.end - a.from) a.out.now s) c.rotate_left.ensures.after
-    ∙ turned-rotated a.out.now a.from a.mid a.end c.told-out c.if-mid-from.false c.if-end-mid.false c.if-end-gt65536.false
+    rw (c.reverse-3.ensures.after, c.reverse-2.ensures.after, c.reverse.ensures.after)
+    (turned-parts a.out.now a.from a.mid a.end c.told-out c.if-mid-from.false c.if-end-mid.false c.if-end-gt65536.false)
