@@ -1,49 +1,41 @@
-// Hexadecimal digits, gathered and written many at once: `{:02x}` writes each byte by itself.
+// Bytes and words in hexadecimal, gathered and written many at once: `{:02x}` writes each byte by itself.
 use std::io::Print;
 
-const DIGITS: &[u8; 16] = b"0123456789abcdef";
-
-// The digits that wait to be written.
-#[derive(Drop)]
-pub struct Hex<'a> {
-    rt: &'a HostRuntime,
-    text: [u8; 1024],
-    length: usize,
+// One of the sixteen digits, by arithmetic: a table keeps the compiler from doing many bytes at a time.
+fn digit(n: u8) -> u8 {
+    let n = n % 16;
+    if n < 10 { b'0' + n } else { b'a' + (n - 10) }
 }
 
-impl<'a> Hex<'a> {
-    pub fn new(rt: &'a HostRuntime) -> Hex<'a> {
-        Hex {
-            rt,
-            text: [0u8; 1024],
-            length: 0,
-        }
+// Bytes as two digits each, up to the end of the text.
+fn fill(text: &mut [u8], bytes: &[u8]) {
+    for (pair, &b) in text.chunks_exact_mut(2).zip(bytes) {
+        pair[0] = digit(b / 16);
+        pair[1] = digit(b % 16);
     }
 }
 
-impl Hex<'_> {
-    // A byte as two digits.
-    pub fn put(&mut self, b: u8) {
-        if self.length > 1022 {
-            self.flush();
-        }
-        let n = self.length.min(1022);
-        self.text[n] = DIGITS[usize::from(b / 16)];
-        self.text[n + 1] = DIGITS[usize::from(b % 16)];
-        self.length = n + 2;
-    }
-
-    pub fn put_all(&mut self, bytes: &[u8]) {
-        for &b in bytes {
-            self.put(b);
+// Bytes in hexadecimal.
+pub fn say_hex(rt: &HostRuntime, bytes: &[u8]) {
+    let mut text = [0u8; 1024];
+    for part in bytes.chunks(512) {
+        fill(&mut text, part);
+        if let Some(filled) = text.get(..2 * part.len()) {
+            let _ = rt.write_all(filled);
         }
     }
+}
 
-    // What waits is written.
-    pub fn flush(&mut self) {
-        if let Some(waiting) = self.text.get(..self.length) {
-            let _ = self.rt.write_all(waiting);
+// Words in hexadecimal, four digits each.
+pub fn say_words(rt: &HostRuntime, words: &[u16]) {
+    for part in words.chunks(256) {
+        let mut bytes = [0u8; 512];
+        for (pair, &w) in bytes.chunks_exact_mut(2).zip(part) {
+            pair[0] = (w / 256) as u8;
+            pair[1] = (w % 256) as u8;
         }
-        self.length = 0;
+        if let Some(filled) = bytes.get(..2 * part.len()) {
+            say_hex(rt, filled);
+        }
     }
 }

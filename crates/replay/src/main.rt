@@ -8,7 +8,7 @@ mod hex;
 
 use dispatch::Dispatched;
 use events::{Chosen, Inputs, Verdict};
-use hex::Hex;
+use hex::{say_hex, say_words};
 use nextstate::{Clocked, Registers};
 use state::{Counters, State};
 use std::io::{Print, Read};
@@ -31,7 +31,8 @@ struct Turns {
     turns: [u32; 16],
 }
 
-// ---- reading. What is not there whole is nothing: the script can't be read on.
+// ---- reading. What is not there whole is nothing: the script can't be read on. Each `take` is a read of the system's, and each `say` a
+// write, which are most of the time of a short record: so what stands together is taken together.
 
 // Fills the buffer from the script, up to its end or to a read that fails. How many bytes were there?
 fn read_full(rt: &HostRuntime, buf: &mut [u8]) -> usize
@@ -68,9 +69,16 @@ fn word(rt: &HostRuntime) -> Option<u16> {
     Some(u16::from_le_bytes(take(rt)?))
 }
 
-// Four bytes, the lowest first.
-fn number(rt: &HostRuntime) -> Option<u32> {
-    Some(u32::from_le_bytes(take(rt)?))
+// Two words.
+fn words(rt: &HostRuntime) -> Option<(u16, u16)> {
+    let [a, b, c, d] = take::<4>(rt)?;
+    Some((u16::from_le_bytes([a, b]), u16::from_le_bytes([c, d])))
+}
+
+// A user and a word.
+fn user_and_word(rt: &HostRuntime) -> Option<(u8, u16)> {
+    let [user, a, b] = take::<3>(rt)?;
+    Some((user, u16::from_le_bytes([a, b])))
 }
 
 // The front of a buffer, filled.
@@ -103,7 +111,13 @@ fn flagged(rt: &HostRuntime) -> Option<(bool, u32)> {
 
 // The allowances of four users.
 fn allowances(rt: &HostRuntime) -> Option<[u32; 4]> {
-    Some([number(rt)?, number(rt)?, number(rt)?, number(rt)?])
+    let [a, b, c, d, e, f, g, h, i, j, k, l, m, n, o, p] = take::<16>(rt)?;
+    Some([
+        u32::from_le_bytes([a, b, c, d]),
+        u32::from_le_bytes([e, f, g, h]),
+        u32::from_le_bytes([i, j, k, l]),
+        u32::from_le_bytes([m, n, o, p]),
+    ])
 }
 
 // A count and so many input values, of which the first 16 are handed on.
@@ -173,42 +187,25 @@ fn say_line(rt: &HostRuntime, word: &[u8], n: u8) {
     say(rt, b"\n");
 }
 
-// Bytes in hexadecimal.
-fn say_hex(rt: &HostRuntime, bytes: &[u8]) {
-    let mut hex = Hex::new(rt);
-    for &b in bytes {
-        hex.put(b);
-    }
-    hex.flush();
-}
-
-// Words in hexadecimal, four digits each.
-fn say_words(rt: &HostRuntime, words: &[u16]) {
-    let mut hex = Hex::new(rt);
-    for &w in words {
-        hex.put_all(&w.to_be_bytes());
-    }
-    hex.flush();
-}
-
 // Registers or wires in hexadecimal: of each its number, then its marks, the lowest byte first.
 fn say_values(rt: &HostRuntime, value: &[u32; 32], unknown: &[u32; 32]) {
-    let mut hex = Hex::new(rt);
-    for r in 0..32 {
-        hex.put_all(&value[r].to_le_bytes());
-        hex.put_all(&unknown[r].to_le_bytes());
+    let mut bytes = [0u8; 256];
+    for (part, (n, marks)) in bytes.chunks_exact_mut(8).zip(value.iter().zip(unknown)) {
+        let [a, b, c, d] = n.to_le_bytes();
+        let [e, f, g, h] = marks.to_le_bytes();
+        part.copy_from_slice(&[a, b, c, d, e, f, g, h]);
     }
-    hex.flush();
+    say_hex(rt, &bytes);
 }
 
 // Turn records in hexadecimal: of each whether it is busy, then its turns.
 fn say_turns(rt: &HostRuntime, busy: &[bool], turns: &[u32]) {
-    let mut hex = Hex::new(rt);
-    for (&flag, &n) in busy.iter().zip(turns) {
-        hex.put(u8::from(flag));
-        hex.put_all(&n.to_le_bytes());
+    let mut bytes = [0u8; 80];
+    for (part, (&flag, n)) in bytes.chunks_exact_mut(5).zip(busy.iter().zip(turns)) {
+        let [a, b, c, d] = n.to_le_bytes();
+        part.copy_from_slice(&[u8::from(flag), a, b, c, d]);
     }
-    hex.flush();
+    say_hex(rt, &bytes[..5 * busy.len().min(16)]);
 }
 
 // What a cycle run gave.
@@ -222,16 +219,20 @@ fn say_cycled(rt: &HostRuntime, c: &Clocked) {
     say(rt, b"\n");
 }
 
-// How a plain run ended.
-fn say_verdict(rt: &HostRuntime, v: Verdict) {
-    let (n, word): (u8, &[u8]) = match v {
-        Verdict::Quiet => (0, b" quiet\n"),
-        Verdict::Spent => (0, b" spent\n"),
-        Verdict::Stopped(n) => (n, b" full\n"),
-        Verdict::Refused(n) => (n, b" refused\n"),
-    };
+// A number, a blank and a word, and the end of the line.
+fn say_number_and(rt: &HostRuntime, n: u8, word: &[u8]) {
     say_number(rt, u64::from(n));
     say(rt, word);
+}
+
+// How a plain run ended.
+fn say_verdict(rt: &HostRuntime, v: Verdict) {
+    match v {
+        Verdict::Quiet => say(rt, b"0 quiet\n"),
+        Verdict::Spent => say(rt, b"0 spent\n"),
+        Verdict::Stopped(n) => say_number_and(rt, n, b" full\n"),
+        Verdict::Refused(n) => say_number_and(rt, n, b" refused\n"),
+    }
 }
 
 impl Replay<'_> {
@@ -267,8 +268,7 @@ impl Replay<'_> {
 
     // `X`: extraction, lent the first words of both.
     fn extract(&mut self) -> Option<()> {
-        let a = word(self.rt)?;
-        let b = word(self.rt)?;
+        let (a, b) = words(self.rt)?;
         let nodes = self.nodes.get_mut(..usize::from(a))?;
         let rows = self.rows.get_mut(..usize::from(b))?;
         let number = extraction::extract(self.sheet, nodes, rows);
@@ -302,8 +302,7 @@ impl Replay<'_> {
 
     // `K`: a cycle run on the first words of both.
     fn cycle(&self) -> Option<()> {
-        let a = word(self.rt)?;
-        let b = word(self.rt)?;
+        let (a, b) = words(self.rt)?;
         let nodes = self.nodes.get(..usize::from(a))?;
         let rows = self.rows.get(..usize::from(b))?;
         let before = registers(self.rt)?;
@@ -384,8 +383,7 @@ impl Replay<'_> {
 
     // `R`: a run over a list of a user's choices.
     fn run(&mut self) -> Option<()> {
-        let user = byte(self.rt)?;
-        let n = word(self.rt)?;
+        let (user, n) = user_and_word(self.rt)?;
         let mut choices = [0u8; 65536];
         let choices = take_front(self.rt, &mut choices, n)?;
         let r = simulator::run(self.sheet, self.state, user, choices);
@@ -398,8 +396,7 @@ impl Replay<'_> {
 
     // `P`: the plain run of a user.
     fn run_plain(&mut self) -> Option<()> {
-        let user = byte(self.rt)?;
-        let limit = word(self.rt)?;
+        let (user, limit) = user_and_word(self.rt)?;
         let r = simulator::run_plain(self.sheet, self.state, user, limit);
         say(self.rt, b"plain ");
         say_number(self.rt, u64::from(r.accepted));
@@ -435,8 +432,9 @@ impl Replay<'_> {
 
     // `M`: a saved state of any form is brought over by the sheet; the state becomes it, unless refused.
     fn bring(&mut self) -> Option<()> {
-        let n = word(self.rt)?;
+        // the buffer stands first: behind the read it would be cleared twice
         let mut bytes = [0u8; 65536];
+        let n = word(self.rt)?;
         let old = take_front(self.rt, &mut bytes, n)?;
         let b = saved::bring_over(self.sheet, old, allowances(self.rt)?);
         say_line(self.rt, b"bring ", b.number);
